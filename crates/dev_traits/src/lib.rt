@@ -1,0 +1,25 @@
+//! The devices of the correlator, as traits: a `Shelf` of files that are read by name and place,
+//! and a `Sink` that bytes are appended to. It stands on std alone.
+//!
+//! Each device has a count of faults that never falls. A call answers `Failed` only where the count
+//! rose in it, so code over a device cannot report a fault that its device did not have. What a
+//! device holds is told by the devices in memory and not by those of the operating system; clauses
+//! about content hold where it is told.
+//!
+//! `memory` has a device of each kind whose faults are planned call by call; `real` has those of
+//! the operating system, whose files and streams no contract can speak of.
+#![tactic(auto)]
+
+pub mod memory;
+pub mod real;
+mod shelf;
+mod sink;
+#[cfg(test)]
+mod tests;
+
+pub use shelf::Shelf;
+pub use sink::{Sink, write_all};
+
+/// A call of a device that failed. The device's count of faults rose in that call.
+#[derive(Clone, Copy, Debug, PartialEq, Eq)]
+pub struct Failed;

@@ -1,0 +1,10 @@
+pub mod Firsts
+pub mod Placed
+pub mod Gaps
+pub mod Literals
+pub mod TokenShapes
+pub mod Fronts
+pub mod OneToken
+pub mod OneFront
+pub mod GrammarLaws
+pub mod Total

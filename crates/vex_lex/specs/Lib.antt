@@ -1,0 +1,5 @@
+pub mod Bytes
+pub mod First
+pub mod Shapes
+pub mod Grammar
+pub mod Laws

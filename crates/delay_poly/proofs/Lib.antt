@@ -1,0 +1,3 @@
+pub mod Floors
+pub mod Holding
+pub mod Nesting

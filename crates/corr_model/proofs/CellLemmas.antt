@@ -1,0 +1,126 @@
+-- Cells add up in any grouping, and so a cell over a range is the sum of the cells over its parts.
+use Rattle.std.proofs.Common.{◌≡◌, ℕ, zero, suc, ◌+◌, ◌-◌, ◌*◌, ◌≤◌, ℤ, pos, negsuc, ◌*ℤ◌, ◌≤ℤ◌, neg_ℤ, FitsSigned, w8, to_z, of_z, refl, sym, ap, ◌∙◌, arith, add-zero, add-suc}
+use Rattle.std.proofs.lemmas.Int.{ints, to_z-of_z, unsigned_abs-mul}
+use Rattle.std.proofs.lemmas.Nat.{mul-le}
+use Rattle.std.specs.Int.RustNames.{unsigned_abs}
+use Rattle.corr_model.specs.declared.cell.Cell.{Cell}
+use Rattle.corr_model.specs.declared.cell.Pair.{Pair}
+use Rattle.corr_model.specs.Cell.{Samples, no_cell, cell_plus, sum_from, product_at, cell_in, IsSmall, IsProduct}
+
+pub same_cell : (re re' im im' : ℤ) (n n' : ℕ) → re ≡ re' → im ≡ im' → n ≡ n'
+    → ◌≡◌ {A = Cell} (record { re = re; im = im; count = n }) (record { re = re'; im = im'; count = n' })
+same_cell re re' im im' n n' p q r = cc
+
+pub cell_plus-assoc : (c d e : Cell) → cell_plus (cell_plus c d) e ≡ cell_plus c (cell_plus d e)
+cell_plus-assoc c d e =
+    same_cell _ _ _ _ _ _ (omega (arith, ints)) (omega (arith, ints)) (omega arith)
+
+pub cell_plus-none : (c : Cell) → cell_plus c no_cell ≡ c
+cell_plus-none c =
+    same_cell _ _ _ _ _ _ (omega (arith, ints)) (omega (arith, ints)) (omega arith)
+
+-- the sum over a + b numbers, split after a
+pub sum_from-split : (f : ℕ → Cell) (from a b : ℕ)
+    → sum_from f from (a + b) ≡ cell_plus (sum_from f from a) (sum_from f (from + a) b)
+sum_from-split f from a zero = rw (add-zero a) (sym (cell_plus-none (sum_from f from a)))
+sum_from-split f from a (suc b) =
+    let one : sum_from f from (a + suc b) ≡ cell_plus (sum_from f from (a + b)) (f (from + (a + b))) = rw add-suc refl in
+    let place : from + (a + b) ≡ from + a + b = omega arith in
+    one
+    ∙ ap (λ c. cell_plus c (f (from + (a + b)))) (sum_from-split f from a b)
+    ∙ ap (λ n. cell_plus (cell_plus (sum_from f from a) (sum_from f (from + a) b)) (f n)) place
+    ∙ cell_plus-assoc (sum_from f from a) (sum_from f (from + a) b) (f (from + a + b))
+
+-- the cell of a range is the sum of the cells of its two parts
+pub cell_in-split : (z : Samples) (pair : Pair) (samples : ℕ) (lag : ℤ) (from middle to : ℕ)
+    → from ≤ middle → middle ≤ to
+    → cell_in z pair samples lag from to
+    ≡ cell_plus (cell_in z pair samples lag from middle) (cell_in z pair samples lag middle to)
+unfolding cell_in
+cell_in-split z pair samples lag from middle to h k =
+    let f : ℕ → Cell = product_at z pair samples lag in
+    let parts : to - from ≡ (middle - from) + (to - middle) = omega arith in
+    let place : from + (middle - from) ≡ middle = omega arith in
+    ap (sum_from f from) parts
+    ∙ sum_from-split f from (middle - from) (to - middle)
+    ∙ ap (λ n. cell_plus (sum_from f from (middle - from)) (sum_from f n (to - middle))) place
+
+pub cell_in-none : (z : Samples) (pair : Pair) (samples : ℕ) (lag : ℤ) (from : ℕ)
+    → cell_in z pair samples lag from from ≡ no_cell
+unfolding cell_in
+cell_in-none z pair samples lag from =
+    let f : ℕ → Cell = product_at z pair samples lag in
+    let parts : from - from ≡ 0 = omega arith in
+    ap (sum_from f from) parts
+
+-- one sample number more
+pub cell_in-more : (z : Samples) (pair : Pair) (samples : ℕ) (lag : ℤ) (from n : ℕ) → from ≤ n
+    → cell_in z pair samples lag from (n + 1)
+    ≡ cell_plus (cell_in z pair samples lag from n) (product_at z pair samples lag n)
+unfolding cell_in
+cell_in-more z pair samples lag from n h =
+    let f : ℕ → Cell = product_at z pair samples lag in
+    let parts : n + 1 - from ≡ suc (n - from) = omega arith in
+    let place : from + (n - from) ≡ n = omega arith in
+    ap (sum_from f from) parts ∙ ap (λ k. cell_plus (sum_from f from (n - from)) (f k)) place
+
+-- the same, where what was added is named
+pub cell_in-step : (z : Samples) (pair : Pair) (samples : ℕ) (lag : ℤ) (from n : ℕ) (cell product next : Cell)
+    → from ≤ n
+    → cell ≡ cell_in z pair samples lag from n
+    → product ≡ product_at z pair samples lag n
+    → next ≡ cell_plus cell product
+    → next ≡ cell_in z pair samples lag from (n + 1)
+cell_in-step z pair samples lag from n cell product next h sum one joined =
+    joined
+    ∙ ap (cell_plus cell) one
+    ∙ ap (λ c. cell_plus c (product_at z pair samples lag n)) sum
+    ∙ sym (cell_in-more z pair samples lag from n h)
+
+-- a product, as it is computed of two passed bytes
+pub passed_product : (x y p : ℤ) → FitsSigned w8 x → FitsSigned w8 y
+    → p ≡ to_z w8 (of_z w8 x) *ℤ to_z w8 (of_z w8 y) → p ≡ x *ℤ y
+passed_product x y p h k e = simp to_z-of_z at e
+
+-- the product of two small components
+abs-small : (x : ℤ) → IsSmall x → unsigned_abs x ≤ 15
+abs-small (pos n) h = omega (arith, ints)
+abs-small (negsuc n) h = omega (arith, ints)
+
+pub within_abs : (x : ℤ) (n : ℕ) → unsigned_abs x ≤ n → (neg_ℤ (pos n) ≤ℤ x) × (x ≤ℤ pos n)
+within_abs (pos m) n h = (omega (arith, ints), omega (arith, ints))
+within_abs (negsuc m) n h = (omega (arith, ints), omega (arith, ints))
+
+pub product-small : (x y : ℤ) → IsSmall x → IsSmall y
+    → (neg_ℤ (pos 225) ≤ℤ (x *ℤ y)) × ((x *ℤ y) ≤ℤ pos 225)
+product-small x y h k =
+    let small : unsigned_abs x * unsigned_abs y ≤ 225 = mul-le (unsigned_abs x) (unsigned_abs y) 15 15 (abs-small x h) (abs-small y k) in
+    let size : unsigned_abs (x *ℤ y) ≤ 225 = omega (arith, unsigned_abs-mul x y) in
+    within_abs (x *ℤ y) 225 size
+
+-- what so many pairs can add
+pub record IsGrown (c : Cell) (pairs : ℕ) : Type 0 where
+  pub re_low : neg_ℤ (pos (450 * pairs)) ≤ℤ c.re
+  pub re_high : c.re ≤ℤ pos (450 * pairs)
+  pub im_low : neg_ℤ (pos (450 * pairs)) ≤ℤ c.im
+  pub im_high : c.im ≤ℤ pos (450 * pairs)
+  pub count : c.count ≤ pairs
+
+pub IsGrown-none : (pairs : ℕ) → IsGrown no_cell pairs
+IsGrown-none pairs = record {
+  re_low = omega (arith, ints);
+  re_high = omega (arith, ints);
+  im_low = omega (arith, ints);
+  im_high = omega (arith, ints);
+  count = omega arith;
+}
+
+-- one pair more
+pub IsGrown-more : (c d : Cell) (n m : ℕ) → IsGrown c n → IsProduct d → m ≡ n + 1 → IsGrown (cell_plus c d) m
+IsGrown-more c d n m grown small one = record {
+  re_low = omega (arith, ints, grown.re_low, small.re_low);
+  re_high = omega (arith, ints, grown.re_high, small.re_high);
+  im_low = omega (arith, ints, grown.im_low, small.im_low);
+  im_high = omega (arith, ints, grown.im_high, small.im_high);
+  count = omega (arith, grown.count, small.count);
+}

@@ -1,0 +1,8 @@
+pub mod Level
+pub mod Slots
+pub mod Sample
+pub mod Cell
+pub mod Plan
+pub mod Rotated
+pub mod Records
+pub mod Output

@@ -5,7 +5,7 @@ use Rattle.std.specs.List.{list_any, range_with_len}
 use Rattle.std.proofs.Math.ListN.{drop_of_length-le}
 use Rattle.std.proofs.Math.Seq.{drop-cons}
 use Rattle.vdif_frame.specs.declared.shape.Field.{Field}
-use Rattle.vdif_frame.specs.Shape.{ShapeFields, IsShape, head_bytes}
+use Rattle.vdif_frame.specs.Shape.{ShapeFields, IsShape}
 use Rattle.corr_model.specs.Slots.{slot_at, slots_in}
 use Rattle.corr_model.specs.Sample.{agrees_with}
 use Rattle.corr_model.proofs.SlotLemmas.{length-slots_in, get_or-slots_in}

@@ -1,7 +1,7 @@
 -- A read into the rest of a buffer.
-use Rattle.std.proofs.Common.{◌≡◌, ◌≤◌, ℕ, ◌+◌, ◌-◌, List, ◌++◌, Option, length, take, drop, min, ap, ap₂, sym, ◌∙◌, arith}
+use Rattle.std.proofs.Common.{◌≡◌, ◌≤◌, ℕ, ◌+◌, ◌-◌, List, ◌++◌, Option, length, take, min, ap, ap₂, sym, ◌∙◌, arith}
 use Rattle.std.proofs.Math.Seq.{take-add}
-use Rattle.std.proofs.lemmas.List.{take_at, drop_at, take-append-le, length-take-le, length-drop}
+use Rattle.std.proofs.lemmas.List.{take_at, drop_at, take-append-le, length-take-le}
 use Rattle.dev_traits.specs.Files.{bytes_of, ReadsAt}
 use Rattle.vlbi_core.specs.Reading.{ReadsOn}
 

@@ -7,7 +7,7 @@ use Rattle.corr_model.specs.Plan.{Files}
 use Rattle.vlbi_core.specs.declared.words.WordsFault.{WordsFault}
 use Rattle.vlbi_core.specs.declared.refusal.Refusal.{Refusal}
 use Rattle.vlbi_core.specs.declared.refusal.Refusal.TheVariants.{Memory, Words, JobForm, Recording, NoFile, Read, Write}
-use Rattle.vlbi_core.specs.Refusal.{Answer, IsDue, IsReadOrMemory, IsOfFiles, IsWriteOrMemory, IsCause, MatchWrite, words_answer, job_answer, no_file_answer, answer_of, note_after}
+use Rattle.vlbi_core.specs.Refusal.{Answer, IsDue, IsReadOrMemory, IsOfFiles, IsWriteOrMemory, IsCause, MatchWrite, words_answer, job_answer, answer_of, note_after}
 use Rattle.vlbi_core.specs.Words.{words_fault, job_name}
 use Rattle.vlbi_core.specs.JobText.{plan_of_text}
 use Rattle.vlbi_core.specs.Verdict.{first_of, plan_refusal, file_refusal, file_plan, words_refusal, verdict, plan_at}

@@ -1,5 +1,5 @@
 -- Recordings of which no slot agrees with the station's shape.
-use Rattle.std.specs.Prelude.{ℕ, List, [], ◌∷◌, Option, Some, None, if◌then◌else◌}
+use Rattle.std.specs.Prelude.{ℕ, List, [], ◌∷◌, Option, None, if◌then◌else◌}
 use Rattle.std.specs.List.{list_any}
 use Rattle.vdif_frame.specs.declared.shape.Field.{Field}
 use Rattle.vdif_frame.specs.Header.{fields_of}

@@ -1,5 +1,5 @@
 -- The plan that a job of one scan, two stations and one channel stands for.
-use Rattle.std.specs.Prelude.{ℕ, List, [], ◌∷◌, Some}
+use Rattle.std.specs.Prelude.{[], ◌∷◌, Some}
 use Rattle.corr_model.specs.Plan.{Plan, StationPlan, ScanPlan}
 use Rattle.vlbi_core.specs.declared.job.Station.{Station}
 use Rattle.vlbi_core.specs.declared.job.Job.{Job}

@@ -1,8 +1,8 @@
 -- The scan of a job as its two recordings hold it.
-use Rattle.std.specs.Prelude.{◌≡◌, ℕ, zero, suc, ◌*◌, ◌+◌, min, ℤ, pos, List, [], ◌∷◌, ◌++◌, map, flat_map, Option, Some, None, if◌then◌else◌}
+use Rattle.std.specs.Prelude.{◌≡◌, ℕ, zero, suc, ℤ, List, [], ◌∷◌, ◌++◌, map, flat_map, Option, Some, None, if◌then◌else◌}
 use Rattle.std.specs.List.{range_with_len}
 use Rattle.corr_model.specs.declared.cell.Cell.{Cell}
-use Rattle.corr_model.specs.Sample.{Timing, Recorded, sample_of}
+use Rattle.corr_model.specs.Sample.{sample_of}
 use Rattle.corr_model.specs.Cell.{Value, Samples, is_inside}
 use Rattle.corr_model.specs.Plan.{Files, ProductPlan, BaselinePlan}
 use Rattle.corr_model.specs.Rotated.{timing_of, unrotated}

@@ -1,4 +1,4 @@
-use Rattle.std.proofs.Common.{◌≡◌, ◌<◌, ℕ, get_or, length}
+use Rattle.std.proofs.Common.{◌≡◌, ◌<◌, ℕ, get_or}
 use Rattle.corr_model.specs.declared.cell.Cell.{Cell}
 use Rattle.vlbi_core.specs.Scan.{scan_cell, values_of}
 use Rattle.vlbi_core.proofs.correlate.fill_cells.Given as goal

@@ -1,4 +1,4 @@
-use Rattle.std.proofs.Common.{◌≡◌, ◌<◌, ◌∙◌, ap, sym, refl, arith, ◌++◌, length}
+use Rattle.std.proofs.Common.{◌<◌, ◌∙◌, ap, sym, ◌++◌, length}
 use Rattle.std.proofs.lemmas.List.FromFn.{length-map-range_with_len}
 use Rattle.corr_model.specs.Records.{record_text}
 use Rattle.vlbi_core.specs.Scan.{scan_records_text, scan_cell, values_of}

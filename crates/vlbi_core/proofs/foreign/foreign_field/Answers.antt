@@ -1,4 +1,4 @@
-use Rattle.std.proofs.Common.{◌≡◌, ◌≤◌, ◌<◌, ◌∙◌, ap, sym, take, length, arith}
+use Rattle.std.proofs.Common.{◌≡◌, ◌≤◌, ◌<◌, ◌∙◌, ap, sym, take, length}
 use Rattle.vdif_frame.specs.Shape.{ShapeFields}
 use Rattle.vlbi_core.specs.Foreign.{slot_field}
 use Rattle.vlbi_core.proofs.ForeignLemmas.{foreign_field-first, shape_size}

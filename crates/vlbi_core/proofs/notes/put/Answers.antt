@@ -1,5 +1,3 @@
-use Rattle.std.proofs.Common.{subst, ◌≡◌}
-use Rattle.vlbi_core.specs.Records.{Appends}
 use Rattle.vlbi_core.proofs.notes.put.Goals as goal
 
 pub returns : goal.returns

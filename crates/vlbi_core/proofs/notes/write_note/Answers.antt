@@ -1,5 +1,3 @@
-use Rattle.std.proofs.Common.{sym, ap, subst, ◌∙◌, ◌++◌, codes}
-use Rattle.vlbi_core.specs.Records.{Appends}
 use Rattle.vlbi_core.proofs.notes.write_note.Goals as goal
 
 pub returns-in-Words : goal.returns-in-Words

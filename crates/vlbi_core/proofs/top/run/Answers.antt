@@ -1,7 +1,6 @@
-use Rattle.std.proofs.Common.{◌≡◌, sym, ap, subst, ◌∙◌}
+use Rattle.std.proofs.Common.{sym, ap, subst, ◌∙◌}
 use Rattle.dev_traits.specs.Told.{PrefixMore}
-use Rattle.dev_traits.proofs.Appended.{PrefixMore-all}
-use Rattle.vlbi_core.specs.Refusal.{note_after, answer_of}
+use Rattle.vlbi_core.specs.Refusal.{note_after}
 use Rattle.vlbi_core.specs.Words.{texts_of}
 use Rattle.vlbi_core.specs.Verdict.{verdict}
 use Rattle.vlbi_core.proofs.ToldLemmas.{WhereTold-weaker}

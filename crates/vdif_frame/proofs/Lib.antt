@@ -1,9 +1,4 @@
 pub mod Ranges
 pub mod Samples
 pub mod Places
-pub mod Quotients
 pub mod Bytes
-pub mod Digits
-pub mod Times
-pub mod Numerals
-pub mod Grammar

@@ -1,8 +1,4 @@
-pub mod Numbers
 pub mod Header
 pub mod Shape
 pub mod Agreement
 pub mod Place
-pub mod Numerals
-pub mod Times
-pub mod Grammar

@@ -1,6 +1,6 @@
 -- Where the samples of a frame lie.
 use Rattle.std.specs.Prelude.{ℕ, ◌*◌, ℤ, pos, ◌+ℤ◌, ◌-ℤ◌, ◌*ℤ◌}
-use Rattle.vdif_frame.specs.Numbers.{epoch_second_of}
+use Rattle.num_time.specs.Numbers.{epoch_second_of}
 use Rattle.vdif_frame.specs.Header.{HeaderFields}
 use Rattle.vdif_frame.specs.Shape.{ShapeFields, samples_per_frame}
 

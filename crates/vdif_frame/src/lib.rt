@@ -1,11 +1,10 @@
 //! Data frames of the VLBI Data Interchange Format, release 1.1.1: what a header says, whether it
 //! agrees with the shape of its station's frames, and at which sample of a scan its data begins.
-//! It stands on `byteorder` for the words and on `jiff_core` for calendar days. Each call gives what
+//! It stands on `num_time` for reference epochs and on `byteorder` for the words. Each call gives what
 //! the definitions of `specs/` say, for every header and every shape, and takes no memory.
 #![tactic(auto)]
 
 mod header;
-pub mod numbers;
 mod place;
 mod shape;
 

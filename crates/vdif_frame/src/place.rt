@@ -1,10 +1,10 @@
 //! The place of a frame in a scan.
 ghost use Rattle.std.specs.Prelude.{◌≡◌, ◌≤◌, ◌^◌, pos, ◌+ℤ◌, ◌-ℤ◌, unsigned_abs};
-ghost use Rattle.vdif_frame.specs.Numbers.{epoch_second_of};
+ghost use Rattle.num_time.specs.Numbers.{epoch_second_of};
 ghost use Rattle.vdif_frame.specs.Place.{place_of};
 
-use crate::numbers::epoch_second;
 use crate::{Header, Shape};
+use num_time::epoch_second;
 
 // Seconds from `scan_second` to the second of a frame.
 fn seconds_since(h: &Header, scan_second: i64) -> i128

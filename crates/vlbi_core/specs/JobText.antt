@@ -2,8 +2,8 @@
 use Rattle.std.specs.Prelude.{ℕ, ◌-◌, ◌*◌, ◌/◌, ◌%◌, ◌^◌, ℤ, pos, negsuc, List, [], ◌∷◌, length, nat_le, ◌==◌, ◌&&◌, ◌||◌, not, Bool, true, false, Option, Some, None, Result, Ok, Err, codes, if◌then◌else◌, is_some}
 use Rattle.std.specs.Str.{bytes_eq}
 use Rattle.vdif_frame.specs.Shape.{ShapeFields}
-use Rattle.vdif_frame.specs.Numerals.{decimal_of}
-use Rattle.vdif_frame.specs.Times.{vex_second_of}
+use Rattle.num_time.specs.Numerals.{decimal_of}
+use Rattle.num_time.specs.Times.{vex_second_of}
 use Rattle.corr_model.specs.Plan.{Plan, StationPlan, ScanPlan}
 use Rattle.vlbi_core.specs.JobFields.{◌>>=◌, StationFields, FileFields, ChanFields, ScanFields, BandFields, JobFields, fields_of}
 

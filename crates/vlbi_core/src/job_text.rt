@@ -14,7 +14,7 @@ use crate::job_text::lines::{
     BandLine, ChanLine, FileLine, JobLines, ScanLine, StationLine, fields_of,
 };
 use vdif_frame::Shape;
-use vdif_frame::numbers::{decimal, vex_second};
+use num_time::{decimal, vex_second};
 
 /// The job that a text states, or None where it states none. The names are parts of the text.
 pub fn read_job(text: &[u8]) -> Option<Job<'_>>

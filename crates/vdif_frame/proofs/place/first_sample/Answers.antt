@@ -1,7 +1,7 @@
 use Rattle.std.proofs.Common.{rules, ◌∙◌, arith, ◌*◌, ◌^◌, ◌<◌, w64, pos, ◌+ℤ◌, ◌-ℤ◌, ◌*ℤ◌, FitsSigned, ap}
 use Rattle.std.proofs.lemmas.Int.{to_z-of_z}
 use Rattle.vdif_frame.specs.Header.{HeaderFields}
-use Rattle.vdif_frame.specs.Numbers.{epoch_second_of}
+use Rattle.num_time.specs.Numbers.{epoch_second_of}
 use Rattle.vdif_frame.specs.Shape.{samples_per_frame}
 use Rattle.vdif_frame.proofs.Places.{samples_since_fits, place_fits, place_is}
 use Rattle.vdif_frame.proofs.place.first_sample.Goals as goal

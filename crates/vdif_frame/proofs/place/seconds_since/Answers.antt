@@ -1,7 +1,7 @@
 use Rattle.std.proofs.Common.{rules, ◌∙◌, w64, pos, ◌+ℤ◌, ◌-ℤ◌, FitsSigned, ap}
 use Rattle.std.proofs.lemmas.Int.{to_z-of_z}
 use Rattle.vdif_frame.specs.Header.{HeaderFields}
-use Rattle.vdif_frame.specs.Numbers.{epoch_second_of}
+use Rattle.num_time.specs.Numbers.{epoch_second_of}
 use Rattle.vdif_frame.proofs.Places.{since_is}
 use Rattle.vdif_frame.proofs.place.seconds_since.Goals as goal
 

@@ -1,0 +1,5 @@
+pub mod QuotientLemmas
+pub mod DigitLemmas
+pub mod TimeLemmas
+pub mod NumeralLemmas
+pub mod GrammarLemmas

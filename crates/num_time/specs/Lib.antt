@@ -1,0 +1,4 @@
+pub mod Numbers
+pub mod Numerals
+pub mod Times
+pub mod Grammar

@@ -82,8 +82,13 @@ fn small_texts(rt: HostRuntime) -> Result<(), Fail> {
 
 #[test]
 fn broken_texts(rt: HostRuntime) {
-    let rows: [(&[u8], LexKind, u64); 17] = [
+    let rows: [(&[u8], LexKind, u64); 18] = [
         (b" start_literal(a b);", OpenLiteral, 1),
+        (
+            b"VEX_rev = 1.5;\n$EXPER;\ndef T;\n x = \"abc;",
+            OpenQuote,
+            35,
+        ),
         (b"start_literal(", OpenLiteral, 0),
         (b"start_literal(a", OpenLiteral, 0),
         (b"start_literal(a=)end_literal(a=)", OpenLiteral, 0),

@@ -1,0 +1,4 @@
+mod NamedLemmas
+mod PartLemmas
+mod ReadingLemmas
+mod AnswerLemmas

@@ -1,0 +1,6 @@
+pub mod Fault
+pub mod File
+pub mod Shapes
+pub mod Reading
+pub mod ReadingState
+pub mod Grammar

@@ -1,0 +1,80 @@
+// Things by their names.
+ghost use Rattle.std.specs.Prelude.{◌≡◌, ◌≢◌, ◌<◌, [], Some, IfOk, OnOk, option_copied, length, slice_get, is_some, AllPairs};
+ghost use Rattle.vex_reader.specs.File.{named, names, put};
+
+use indexmap::IndexMap;
+use std::alloc::{AllocError, Global};
+use std::marker::Model;
+
+/// Things by their names, in the order in which the names came first. No name is there twice.
+#[derive(Debug, Drop)]
+pub struct Named<T> {
+    things: IndexMap<Vec<u8>, T>,
+}
+
+impl<T> Model for Named<T> {
+    ghost use Rattle.std.specs.Prelude.{List, ℕ, map};
+
+    ghost Value = { List (List ℕ × T) };
+
+    ghost view = { λ named. map (λ entry. (entry.0.items, entry.1)) named.things.entries };
+}
+
+impl<T> Named<T> {
+    /// No things.
+    pub(crate) fn new(alloc: Global) -> Self
+        ensures { result ≡ [] }
+    {
+        Named {
+            things: IndexMap::new(alloc),
+        }
+    }
+
+    /// The thing of this name.
+    pub fn get(&self, name: &[u8]) -> Option<&T>
+        ensures { option_copied result ≡ named self.now name.now }
+    {
+        self.things.get(name)
+    }
+
+    /// Whether there is a thing of this name.
+    pub(crate) fn has(&self, name: &[u8]) -> bool
+        ensures { result ≡ is_some (named self.now name.now) }
+    {
+        self.things.contains_key(name)
+    }
+
+    /// How many things there are. No two of them have one name.
+    pub fn len(&self) -> usize
+        ensures len { result ≡ length self.now }
+        ensures once { AllPairs (λ x y. x ≢ y) (names self.now) }
+    {
+        self.things.len()
+    }
+
+    /// The name and the thing at a place, which stands under that name.
+    pub fn at(&self, i: usize) -> (&[u8], &T)
+        requires { i < length self.now }
+        ensures entry { slice_get self.now i ≡ Some (result.0.now, result.1.now) }
+        ensures under_its_name { named self.now result.0.now ≡ Some result.1.now }
+    {
+        let (name, thing) = self.things.get_index(i).unwrap();
+        (name, thing)
+    }
+}
+
+impl<T: Drop> Named<T> {
+    /// Puts a thing under a name, and gives what stood there. A new name goes last.
+    pub(crate) fn put(
+        &mut self,
+        alloc: Global,
+        name: &[u8],
+        thing: T,
+    ) -> Result<Option<T>, AllocError>
+        ensures put { OnOk result (self.new ≡ put self.old name.now thing) }
+        ensures before { IfOk result (λ before. before ≡ named self.old name.now) }
+    {
+        let name = name.to_vec(alloc)?;
+        Ok(self.things.insert(name, thing)?)
+    }
+}

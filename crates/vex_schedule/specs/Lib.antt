@@ -1,0 +1,7 @@
+pub mod Answers
+pub mod Optional
+pub mod Quantities
+pub mod Values
+pub mod Statements
+pub mod Schedule
+pub mod Sound

@@ -1,0 +1,25 @@
+//! The schedule of a VEX file (VEX 1.5): its scans, with the stations that take part in each, and the
+//! sample rate and the channels that each station's setup gives. It stands on `vex_reader` for the
+//! file, `num_time` for numbers, times and names, and `item_list` for lists.
+//!
+//! `specs/Schedule.antt` says which scans a file has, or which fault is the first, a definition for
+//! each step. `schedule` answers that, or want of memory; statements that no step names are not read.
+#![tactic(auto)]
+
+mod fault;
+mod list;
+mod quantities;
+mod scan;
+mod scans;
+mod setup;
+mod statements;
+mod stay;
+mod values;
+
+pub use fault::{SchedFault, SchedKind};
+pub use list::ScanList;
+pub use scan::{Chan, Pass, Scan};
+pub use scans::schedule;
+
+#[cfg(test)]
+mod tests;

@@ -1,0 +1,12 @@
+//! Schedules.
+ghost use Rattle.vex_schedule.specs.Sound.{AreScans};
+
+use crate::scan::Scan;
+use item_list::ItemList;
+
+/// The scans of a schedule, in its order.
+#[derive(Debug, Drop)]
+pub struct ScanList {
+    pub scans: ItemList<Scan>,
+    pub ghost sound: { AreScans scans },
+}

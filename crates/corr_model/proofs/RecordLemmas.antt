@@ -1,5 +1,5 @@
 -- The definitions of the record text and of what it is made from, each by its parts.
-use Rattle.std.specs.Prelude.{codes, flat_map, if◌then◌else◌, slice_get, option_and_then}
+use Rattle.std.specs.Prelude.{codes, flat_map, if◌then◌else◌, slice_get, option_and_then, unsigned_abs}
 use Rattle.std.proofs.Common.{◌≡◌, ℕ, ◌-◌, ℤ, List, [], ◌∷◌, ◌++◌, None, length, refl}
 use Rattle.std.specs.List.{enumerate_from}
 use Rattle.byteorder.specs.Endian.{little_bytes}
@@ -7,7 +7,7 @@ use Rattle.corr_model.specs.declared.cell.Cell.{Cell}
 use Rattle.corr_model.specs.declared.cell.Pair.{Pair}
 use Rattle.corr_model.specs.Cell.{Samples, cell_in, is_inside, product_at, sum_from}
 use Rattle.corr_model.specs.Plan.{Plan, ScanPlan, Files}
-use Rattle.corr_model.specs.Rotated.{rotated, station_sample, unrotated}
+use Rattle.corr_model.specs.Rotated.{rotated, station_value}
 use Rattle.corr_model.specs.declared.records.RecordAt.{RecordAt}
 use Rattle.corr_model.specs.Records.{cell_text, end_text, head_text, product_text, record_text, scan_text, station_text}
 use Rattle.corr_model.specs.Output.{output, records_of, scan_records}
@@ -60,7 +60,7 @@ output-parts plan files = refl
 pub rotated-inside : (plan : Plan) (files : Files) (scan : ScanPlan) (station chan : ℕ) (n : ℤ)
     → rotated plan files scan station chan n
     ≡ (if is_inside n scan.samples
-    then unrotated (option_and_then (λ s. station_sample plan files scan s chan n) (slice_get plan.stations station))
+    then option_and_then (λ s. station_value plan files scan s chan (unsigned_abs n)) (slice_get plan.stations station)
     else None)
 unfolding rotated
 rotated-inside plan files scan station chan n = refl

@@ -1,6 +1,7 @@
 pub mod Level
 pub mod Slots
 pub mod Sample
+pub mod Delay
 pub mod Cell
 pub mod Plan
 pub mod Rotated

@@ -1,5 +1,5 @@
 -- Entries that are in force from a second on, until the next one is.
-use Rattle.std.specs.Prelude.{◌≡◌, ◌≢◌, ℕ, ◌<◌, List, length, slice_index_or, ◌⊎◌, Option, Some, MatchOption, ℤ, ◌<ℤ◌, ◌≤ℤ◌}
+use Rattle.std.specs.Prelude.{◌≡◌, ◌≢◌, ℕ, ◌<◌, List, [], ◌∷◌, length, slice_index_or, ◌⊎◌, ◌&&◌, if◌then◌else◌, Option, Some, None, MatchOption, ℤ, ◌<ℤ◌, ◌≤ℤ◌, int_le, int_lt}
 use Rattle.std.specs.List.{All, Contains}
 
 -- no two entries begin at one second
@@ -24,3 +24,14 @@ abbrev pub IsLater : {E : Type 0} → (E → ℤ) → Option E → E → ℤ →
 IsLater second_of latest x second found =
     ((second_of x ≤ℤ second) × MatchOption latest (Unit {0}) (λ e. second_of e <ℤ second_of x) × (found ≡ Some x))
     ⊎ (((second <ℤ second_of x) ⊎ MatchOption latest ⊥ (λ e. second_of x ≤ℤ second_of e)) × (found ≡ latest))
+
+-- The entry in force as a function: of an entry and the one in force among the others, that which begins later
+-- and not after the second.
+abbrev pub later_of : {E : Type 0} → (E → ℤ) → E → Option E → ℤ → Option E
+later_of second_of x None second = if int_le (second_of x) second then Some x else None
+later_of second_of x (Some e) second =
+    if int_le (second_of x) second && int_lt (second_of e) (second_of x) then Some x else Some e
+
+unfoldable pub in_force : {E : Type 0} → (E → ℤ) → List E → ℤ → Option E
+in_force second_of [] second = None
+in_force second_of (x ∷ entries) second = later_of second_of x (in_force second_of entries second) second

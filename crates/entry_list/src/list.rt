@@ -1,6 +1,6 @@
 ghost use Rattle.std.specs.Prelude.{◌≡◌, ◌≢◌, ◌<ℤ◌, MatchOption, ◌++◌, ◌∷◌, [], ◌↔◌, ℤ, IfOk, OnErr, IsTrue, if◌then◌else◌};
 ghost use Rattle.std.specs.List.{All};
-ghost use Rattle.entry_list.specs.Latest.{DifferInSecond, IsInForce, IsLater};
+ghost use Rattle.entry_list.specs.Latest.{DifferInSecond, IsInForce, IsLater, in_force};
 
 use std::alloc::{AllocError, Global};
 use std::marker::Model;
@@ -102,9 +102,25 @@ impl<E: HasSecond> EntryList<E> {
         Ok(true)
     }
 
-    /// The entry in force at the second, from 1970-01-01 00:00 on; `None` before the first.
+    /// Whether the list has no entries.
+    pub fn is_empty(&self) -> bool
+        ensures { IsTrue result ↔ (self.now ≡ []) }
+    {
+        self.entries.is_empty()
+    }
+
+    /// The entries, in the order in which they were added.
+    pub fn entries(&self) -> &[E]
+        ensures { result.now ≡ self.now }
+    {
+        &self.entries
+    }
+
+    /// The entry in force at the second, from 1970-01-01 00:00 on: the latest that has begun, `None`
+    /// before the first.
     pub fn entry_for(&self, second: i64) -> Option<E>
-        ensures { IsInForce E.second_of self.now second result }
+        ensures latest { IsInForce E.second_of self.now second result }
+        ensures same { result ≡ in_force E.second_of self.now second }
     {
         in_force(&self.entries, second)
     }

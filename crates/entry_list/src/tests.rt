@@ -19,6 +19,8 @@ impl HasSecond for Mark {
 #[test]
 fn the_latest_entry_that_has_begun(rt: HostRuntime) -> Result<(), Fail> {
     let mut list = EntryList::new(rt.alloc());
+    assert!(rt; list.is_empty());
+    assert_eq!(rt; list.entries(), [].as_slice());
     assert_eq!(rt; list.entry_for(0), None);
     let middle = Mark {
         second: 20,
@@ -42,6 +44,8 @@ fn the_latest_entry_that_has_begun(rt: HostRuntime) -> Result<(), Fail> {
         }),
         Ok(false)
     );
+    assert!(rt; !list.is_empty());
+    assert_eq!(rt; list.entries(), [middle, first, last].as_slice());
     for (name, second, want) in [
         ("long before", i64::MIN, None),
         ("just before", -11, None),

@@ -6,8 +6,8 @@ use Rattle.std.proofs.lemmas.List.{append-nil}
 use Rattle.std.proofs.lemmas.Grind.{flat_map-append}
 use Rattle.corr_model.specs.Cell.{Samples}
 use Rattle.corr_model.specs.Records.{head_text, end_text}
-use Rattle.vlbi_core.specs.declared.job.Job.{Job}
-use Rattle.vlbi_core.specs.Job.{plan_of}
+use Rattle.job_reader.specs.declared.job.Job.{Job}
+use Rattle.job_reader.specs.Job.{plan_of}
 use Rattle.vlbi_core.specs.Scan.{scan_record, scan_records_text, scan_integrations, scan_output}
 
 -- a run of numbers, and the run after it

@@ -1,14 +1,9 @@
+pub mod DelayLemmas
+pub mod ValueLemmas
 pub mod ToldLemmas
 pub mod ReadingLemmas
 pub mod VerdictLemmas
 pub mod ScanLemmas
 pub mod WalkLemmas
-pub mod AppendedText
-pub mod PlacedBytes
-pub mod RecordPieces
 pub mod IntegrationLemmas
 pub mod ForeignLemmas
-pub mod JobTextLemmas
-pub mod JobFormLemmas
-pub mod JobRowLemmas
-pub mod JobReading

@@ -1,7 +1,7 @@
 -- The values and the record file of a job's plan, where the files are its two recordings.
 use mathlib.Core.Path.{fun_ext}
 use Rattle.std.specs.Prelude.{if◌then◌else◌, flat_map}
-use Rattle.std.proofs.Common.{◌≡◌, ℕ, zero, suc, ℤ, Bool, true, false, List, [], ◌∷◌, ◌++◌, Some, None, length, map, refl, ap, ◌∙◌}
+use Rattle.std.proofs.Common.{◌≡◌, ℕ, zero, suc, ℤ, unsigned_abs, Bool, true, false, List, [], ◌∷◌, ◌++◌, Some, None, length, map, refl, ap, ◌∙◌}
 use Rattle.std.specs.List.{range_with_len}
 use Rattle.std.proofs.lemmas.List.{append-nil}
 use Rattle.std.proofs.lemmas.List.Concat.{flat_map_single}
@@ -10,14 +10,14 @@ use Rattle.std.proofs.lemmas.List.FromFn.{length-map-range_with_len}
 use Rattle.corr_model.specs.Sample.{sample_of}
 use Rattle.corr_model.specs.Cell.{Value, Samples, is_inside}
 use Rattle.corr_model.specs.Plan.{Files, bytes_under}
-use Rattle.corr_model.specs.Rotated.{rotated, timing_of, unrotated}
+use Rattle.corr_model.specs.Rotated.{rotated, timing_of, value_at}
 use Rattle.corr_model.specs.Records.{head_text, end_text}
 use Rattle.corr_model.specs.Output.{output, records_of, integrations_of}
 use Rattle.corr_model.proofs.RecordLemmas.{output-parts}
-use Rattle.vlbi_core.specs.declared.job.Station.{Station}
-use Rattle.vlbi_core.specs.declared.job.Job.{Job}
-use Rattle.vlbi_core.specs.Job.{plan_of, scan_plan_of, station_plan_of}
-use Rattle.vlbi_core.specs.Scan.{AreRecordings, values_of, scan_record, scan_output}
+use Rattle.job_reader.specs.declared.job.Station.{Station}
+use Rattle.job_reader.specs.declared.job.Job.{Job}
+use Rattle.job_reader.specs.Job.{plan_of, scan_plan_of, station_plan_of}
+use Rattle.vlbi_core.specs.Scan.{AreRecordings, delay_model, band_of, values_of, scan_record, scan_output}
 
 none_both : (b : Bool) → ◌≡◌ {A = Value} (if b then None else None) None
 none_both true = refl
@@ -30,7 +30,7 @@ bytes_under-some files name bytes h = rw h refl
 recorded : Job → Station → List ℕ → ℤ → Value
 recorded job s bytes n =
     if is_inside n job.samples
-    then unrotated (sample_of (timing_of (plan_of job) (scan_plan_of job) (station_plan_of s)) (record { thread = s.thread; index = 0 }) (bytes ∷ []) n)
+    then value_at (λ p. sample_of (timing_of (plan_of job) (scan_plan_of job) (station_plan_of s)) (record { thread = s.thread; index = 0 }) (bytes ∷ []) p) (delay_model job s) (band_of job) (unsigned_abs n)
     else None
 
 rotated-at : (job : Job) (files : Files) (a b : List ℕ) → AreRecordings files job a b → (station chan : ℕ) (n : ℤ)

@@ -6,10 +6,10 @@ use Rattle.dev_traits.specs.Files.{size_of}
 use Rattle.corr_model.specs.Plan.{Files}
 use Rattle.vlbi_core.specs.declared.words.WordsFault.{WordsFault}
 use Rattle.vlbi_core.specs.declared.refusal.Refusal.{Refusal}
-use Rattle.vlbi_core.specs.declared.refusal.Refusal.TheVariants.{Memory, Words, JobForm, Recording, NoFile, Read, Write}
-use Rattle.vlbi_core.specs.Refusal.{Answer, IsDue, IsReadOrMemory, IsOfFiles, IsWriteOrMemory, IsCause, MatchWrite, words_answer, job_answer, answer_of, note_after}
+use Rattle.vlbi_core.specs.declared.refusal.Refusal.TheVariants.{Memory, Words, JobForm, NoModel, NoClock, Recording, NoFile, Read, Write}
+use Rattle.vlbi_core.specs.Refusal.{Answer, IsDue, IsReadOrMemory, IsOfFiles, IsOfDelays, MatchRead, IsWriteOrMemory, IsCause, MatchWrite, words_answer, job_answer, answer_of, note_after}
 use Rattle.vlbi_core.specs.Words.{words_fault, job_name}
-use Rattle.vlbi_core.specs.JobText.{plan_of_text}
+use Rattle.job_reader.specs.JobText.{plan_of_text}
 use Rattle.vlbi_core.specs.Verdict.{first_of, plan_refusal, file_refusal, file_plan, words_refusal, verdict, plan_at}
 
 -- what the first part refuses, both refuse
@@ -20,6 +20,8 @@ pub IsDue-first : (r : Refusal) (v w : Option Answer) → IsDue r v → IsDue r 
 IsDue-first Memory v w due = tt
 IsDue-first (Words fault) v w due = first_of-some v w (words_answer fault) due
 IsDue-first JobForm v w due = first_of-some v w job_answer due
+IsDue-first (NoModel key) v w due = first_of-some v w _ due
+IsDue-first (NoClock key) v w due = first_of-some v w _ due
 IsDue-first (Recording key field) v w due = first_of-some v w _ due
 IsDue-first (NoFile name) v w due = first_of-some v w _ due
 IsDue-first Read v w due = tt
@@ -37,6 +39,8 @@ pub IsDue-reading : (r : Refusal) (v : Option Answer) → IsReadOrMemory r → I
 IsDue-reading Memory v reading = tt
 IsDue-reading (Words fault) v reading = absurd reading
 IsDue-reading JobForm v reading = absurd reading
+IsDue-reading (NoModel key) v reading = absurd reading
+IsDue-reading (NoClock key) v reading = absurd reading
 IsDue-reading (Recording key field) v reading = absurd reading
 IsDue-reading (NoFile name) v reading = absurd reading
 IsDue-reading Read v reading = tt
@@ -89,6 +93,8 @@ pub MatchWrite-both : (r : Refusal) (P Q : Type 0) → P → Q → MatchWrite r 
 MatchWrite-both Memory P Q p q = q
 MatchWrite-both (Words fault) P Q p q = q
 MatchWrite-both JobForm P Q p q = q
+MatchWrite-both (NoModel key) P Q p q = q
+MatchWrite-both (NoClock key) P Q p q = q
 MatchWrite-both (Recording key field) P Q p q = q
 MatchWrite-both (NoFile name) P Q p q = q
 MatchWrite-both Read P Q p q = q
@@ -112,6 +118,8 @@ pub IsCause-due : (r : Refusal) (v : Option Answer) → IsOfFiles r → IsDue r 
 IsCause-due Memory v stage due = due
 IsCause-due (Words fault) v stage due = due
 IsCause-due JobForm v stage due = due
+IsCause-due (NoModel key) v stage due = due
+IsCause-due (NoClock key) v stage due = due
 IsCause-due (Recording key field) v stage due = due
 IsCause-due (NoFile name) v stage due = due
 IsCause-due Read v stage due = due
@@ -122,6 +130,8 @@ pub IsCause-output : (r : Refusal) (v : Option Answer) → IsWriteOrMemory r →
 IsCause-output Memory v stage none = tt
 IsCause-output (Words fault) v stage none = absurd stage
 IsCause-output JobForm v stage none = absurd stage
+IsCause-output (NoModel key) v stage none = absurd stage
+IsCause-output (NoClock key) v stage none = absurd stage
 IsCause-output (Recording key field) v stage none = absurd stage
 IsCause-output (NoFile name) v stage none = absurd stage
 IsCause-output Read v stage none = absurd stage
@@ -135,7 +145,32 @@ pub note_after-cause : (r : Refusal) (v : Option Answer) → IsCause r v → not
 note_after-cause Memory v is = refl
 note_after-cause (Words fault) v is = cc
 note_after-cause JobForm v is = cc
+note_after-cause (NoModel key) v is = cc
+note_after-cause (NoClock key) v is = cc
 note_after-cause (Recording key field) v is = cc
 note_after-cause (NoFile name) v is = cc
 note_after-cause Read v is = refl
 note_after-cause Write v is = refl
+
+-- a refusal of the delays is one of the files, and no read fault
+pub IsOfFiles-delays : (r : Refusal) → IsOfDelays r → IsOfFiles r
+IsOfFiles-delays Memory stage = tt
+IsOfFiles-delays (Words fault) stage = absurd stage
+IsOfFiles-delays JobForm stage = absurd stage
+IsOfFiles-delays (NoModel key) stage = tt
+IsOfFiles-delays (NoClock key) stage = tt
+IsOfFiles-delays (Recording key field) stage = absurd stage
+IsOfFiles-delays (NoFile name) stage = absurd stage
+IsOfFiles-delays Read stage = absurd stage
+IsOfFiles-delays Write stage = absurd stage
+
+pub MatchRead-delays : (r : Refusal) (P Q : Type 0) → IsOfDelays r → Q → MatchRead r P Q
+MatchRead-delays Memory P Q stage q = q
+MatchRead-delays (Words fault) P Q stage q = q
+MatchRead-delays JobForm P Q stage q = q
+MatchRead-delays (NoModel key) P Q stage q = q
+MatchRead-delays (NoClock key) P Q stage q = q
+MatchRead-delays (Recording key field) P Q stage q = q
+MatchRead-delays (NoFile name) P Q stage q = q
+MatchRead-delays Read P Q stage q = absurd stage
+MatchRead-delays Write P Q stage q = q

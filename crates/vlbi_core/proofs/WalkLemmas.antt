@@ -12,9 +12,9 @@ use Rattle.corr_model.specs.Slots.{slot_at, slots_in}
 use Rattle.corr_model.specs.Sample.{Timing, Recorded, covers, slot_place, counts_for, level_in, sample_in}
 use Rattle.corr_model.specs.Rotated.{timing_of}
 use Rattle.corr_model.proofs.SlotLemmas.{find-step, find-end}
-use Rattle.vlbi_core.specs.declared.job.Station.{Station}
-use Rattle.vlbi_core.specs.declared.job.Job.{Job}
-use Rattle.vlbi_core.specs.Job.{plan_of, scan_plan_of, station_plan_of}
+use Rattle.job_reader.specs.declared.job.Station.{Station}
+use Rattle.job_reader.specs.declared.job.Job.{Job}
+use Rattle.job_reader.specs.Job.{plan_of, scan_plan_of, station_plan_of}
 
 -- a frame of a legacy shape whose slot has no legacy bit
 first_field-legacy : (h : HeaderFields) (s : ShapeFields) → h.legacy ≡ false → s.legacy ≡ true → first_field h s ≡ Some Legacy

@@ -1,12 +1,7 @@
 pub mod Words
-pub mod Job
 pub mod Refusal
 pub mod Verdict
 pub mod Scan
+pub mod Delays
 pub mod Reading
-pub mod Records
 pub mod Foreign
-pub mod JobFields
-pub mod JobLines
-pub mod JobText
-pub mod JobForm

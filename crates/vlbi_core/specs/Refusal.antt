@@ -3,10 +3,12 @@ use Rattle.std.specs.Prelude.{◌≡◌, ◌⊎◌, ◌==◌, if◌then◌else�
 use Rattle.dev_traits.specs.Fault.{HasRisen}
 use Rattle.vdif_frame.specs.declared.shape.Field.{Field}
 use Rattle.vdif_frame.specs.declared.shape.Field.TheVariants.{Legacy, Length, Channels, Complex, Bits, Station, FrameNumber}
+use Rattle.job_reader.specs.declared.fault.JobFault.{JobFault}
+use Rattle.job_reader.specs.declared.fault.JobFault.TheVariants.{Form, Memory as MemoryFault}
 use Rattle.vlbi_core.specs.declared.words.WordsFault.{WordsFault}
 use Rattle.vlbi_core.specs.declared.words.WordsFault.TheVariants.{NoCommand, UnknownCommand, Option as OptionFault}
 use Rattle.vlbi_core.specs.declared.refusal.Refusal.{Refusal}
-use Rattle.vlbi_core.specs.declared.refusal.Refusal.TheVariants.{Memory, Words, JobForm, Recording, NoFile, Read, Write}
+use Rattle.vlbi_core.specs.declared.refusal.Refusal.TheVariants.{Memory, Words, JobForm, NoModel, NoClock, Recording, NoFile, Read, Write}
 
 -- what a call that refuses answers: its status, and its line on the notes
 pub record Answer : Type 0 where
@@ -26,6 +28,13 @@ words_answer fault = record { status = 2; note = note_line (codes "words: " ++ w
 
 abbrev pub job_answer : Answer
 job_answer = record { status = 4; note = note_line (codes "job: Unknown in line 0") }
+
+-- the key of a station without a delay model, or without a clock, at some sample
+abbrev pub no_model_answer : List ℕ → Answer
+no_model_answer key = record { status = 4; note = note_line (codes "job: NoModel for " ++ key) }
+
+abbrev pub no_clock_answer : List ℕ → Answer
+no_clock_answer key = record { status = 4; note = note_line (codes "job: NoClock for " ++ key) }
 
 abbrev pub field_name : Field → List ℕ
 field_name Legacy = codes "Legacy"
@@ -50,6 +59,8 @@ abbrev pub answer_of : Refusal → Answer
 answer_of Memory = record { status = 1; note = note_line (codes "out of memory") }
 answer_of (Words fault) = words_answer fault
 answer_of JobForm = job_answer
+answer_of (NoModel key) = no_model_answer (string_bytes key)
+answer_of (NoClock key) = no_clock_answer (string_bytes key)
 answer_of (Recording key field) = recording_answer (string_bytes key) field
 answer_of (NoFile name) = no_file_answer (string_bytes name)
 answer_of Read = record { status = 7; note = note_line (codes "read fault") }
@@ -61,6 +72,8 @@ abbrev pub IsDue : Refusal → Option Answer → Type 0
 IsDue Memory verdict = ⊤
 IsDue (Words fault) verdict = verdict ≡ Some (words_answer fault)
 IsDue JobForm verdict = verdict ≡ Some job_answer
+IsDue (NoModel key) verdict = verdict ≡ Some (no_model_answer (string_bytes key))
+IsDue (NoClock key) verdict = verdict ≡ Some (no_clock_answer (string_bytes key))
 IsDue (Recording key field) verdict = verdict ≡ Some (recording_answer (string_bytes key) field)
 IsDue (NoFile name) verdict = verdict ≡ Some (no_file_answer (string_bytes name))
 IsDue Read verdict = ⊤
@@ -91,6 +104,13 @@ IsOfFiles _ = ⊤
 abbrev pub IsBeforeOutput : Refusal → Type 0
 IsBeforeOutput Write = ⊥
 IsBeforeOutput _ = ⊤
+
+-- what a job's delays may be refused for
+abbrev pub IsOfDelays : Refusal → Type 0
+IsOfDelays Memory = ⊤
+IsOfDelays (NoModel key) = ⊤
+IsOfDelays (NoClock key) = ⊤
+IsOfDelays _ = ⊥
 
 -- a read fault comes only where the shelf's count rose, and with any other answer it stays
 abbrev pub CountsReads : {T : Type 0} → ℕ → ℕ → Result T Refusal → Type 0
@@ -144,3 +164,8 @@ note_after status verdict =
     else if status == 7 then note_line (codes "read fault")
     else if status == 9 then note_line (codes "write fault")
     else verdict_note verdict
+
+-- a job's text that is not read, as a refusal
+abbrev pub job_refusal : JobFault → Refusal
+job_refusal Form = JobForm
+job_refusal MemoryFault = Memory

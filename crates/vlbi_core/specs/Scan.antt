@@ -1,16 +1,17 @@
 -- The scan of a job as its two recordings hold it.
-use Rattle.std.specs.Prelude.{◌≡◌, ℕ, zero, suc, ℤ, List, [], ◌∷◌, ◌++◌, map, flat_map, Option, Some, None, if◌then◌else◌}
+use Rattle.std.specs.Prelude.{◌≡◌, ℕ, zero, suc, ℤ, unsigned_abs, true, List, [], ◌∷◌, ◌++◌, map, flat_map, Option, Some, None, if◌then◌else◌}
 use Rattle.std.specs.List.{range_with_len}
 use Rattle.corr_model.specs.declared.cell.Cell.{Cell}
 use Rattle.corr_model.specs.Sample.{sample_of}
 use Rattle.corr_model.specs.Cell.{Value, Samples, is_inside}
-use Rattle.corr_model.specs.Plan.{Files, ProductPlan, BaselinePlan}
-use Rattle.corr_model.specs.Rotated.{timing_of, unrotated}
+use Rattle.corr_model.specs.Delay.{DelayModel, has_model, has_clock}
+use Rattle.corr_model.specs.Plan.{Files, ProductPlan, BaselinePlan, Band}
+use Rattle.corr_model.specs.Rotated.{timing_of, model_of, value_at}
 use Rattle.corr_model.specs.Records.{head_text, record_text, end_text}
 use Rattle.corr_model.specs.Output.{cell_of, lag_of, integrations_of}
-use Rattle.vlbi_core.specs.declared.job.Station.{Station}
-use Rattle.vlbi_core.specs.declared.job.Job.{Job}
-use Rattle.vlbi_core.specs.Job.{plan_of, scan_plan_of, station_plan_of}
+use Rattle.job_reader.specs.declared.job.Station.{Station}
+use Rattle.job_reader.specs.declared.job.Job.{Job}
+use Rattle.job_reader.specs.Job.{plan_of, scan_plan_of, station_plan_of}
 
 -- sample n of a station whose one file has these bytes
 abbrev pub recorded_sample : Job → Station → List ℕ → ℤ → Option ℤ
@@ -18,10 +19,26 @@ recorded_sample job s bytes n =
     sample_of (timing_of (plan_of job) (scan_plan_of job) (station_plan_of s))
     (record { thread = s.thread; index = 0 }) (bytes ∷ []) n
 
--- its value, none outside the scan
+-- the delay of a station, and the band of the one channel
+abbrev pub delay_model : Job → Station → DelayModel
+delay_model job s = model_of (plan_of job) (scan_plan_of job) (station_plan_of s)
+
+abbrev pub band_of : Job → Band
+band_of job = record { hertz = job.hertz; upper = job.upper }
+
+-- each station has a delay model and a clock at all samples of the scan
+pub record AreModelled (job : Job) : Type 0 where
+  pub first_model : has_model (delay_model job job.a) job.samples ≡ true
+  pub second_model : has_model (delay_model job job.b) job.samples ≡ true
+  pub first_clock : has_clock (delay_model job job.a) job.samples ≡ true
+  pub second_clock : has_clock (delay_model job job.b) job.samples ≡ true
+
+-- the value at sample n of a station whose one file has these bytes, none outside the scan
 abbrev pub recorded_value : Job → Station → List ℕ → ℤ → Value
 recorded_value job s bytes n =
-    if is_inside n job.samples then unrotated (recorded_sample job s bytes n) else None
+    if is_inside n job.samples
+    then value_at (recorded_sample job s bytes) (delay_model job s) (band_of job) (unsigned_abs n)
+    else None
 
 -- the values of the two stations' one channel
 abbrev pub values_of : Job → List ℕ → List ℕ → Samples

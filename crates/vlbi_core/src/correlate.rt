@@ -2,16 +2,17 @@
 ghost use Rattle.std.specs.Prelude.{◌≡◌, ◌<◌, ℕ, length, OnOk, OnErr, IfErr, ⊤};
 ghost use Rattle.dev_traits.specs.Told.{more, PrefixMore};
 ghost use Rattle.vlbi_core.specs.Refusal.{IsWriteOrMemory, MatchWrite, CountsWrites};
-ghost use Rattle.vlbi_core.specs.Records.{Appends};
+ghost use Rattle.vis_records.specs.Records.{Appends};
 ghost use Rattle.vlbi_core.specs.Scan.{scan_output, scan_records_text, scan_integrations, scan_cells, scan_cell, values_of};
 
+use crate::delays::track;
 use crate::prepare::Ready;
 use crate::recording::Recordings;
-use crate::records::{SinkFault, write_end, write_head, write_record};
 use crate::refusal::Refusal;
 use corr_model::{Cell, Pair, RecordAt, plain_cell};
 use dev_traits::Sink;
 use std::alloc::Global;
+use vis_records::{SinkFault, write_end, write_head, write_record};
 
 /// Correlates the scan and appends its records. All memory is taken before the first byte.
 pub fn correlate<S: Sink>(alloc: Global, ready: &Ready<'_>, out: &mut S) -> Result<(), Refusal>
@@ -26,6 +27,8 @@ pub fn correlate<S: Sink>(alloc: Global, ready: &Ready<'_>, out: &mut S) -> Resu
         job: &ready.job,
         a: &ready.a,
         b: &ready.b,
+        track_a: track(&ready.job, &ready.job.a),
+        track_b: track(&ready.job, &ready.job.b),
     };
     match write_scan(&scan, &mut cells, out) {
         Ok(()) => Ok(()),

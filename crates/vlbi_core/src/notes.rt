@@ -1,6 +1,6 @@
 //! Statuses and notes.
 ghost use Rattle.std.specs.Prelude.{◌≡◌, ◌++◌, List, ℕ, codes};
-ghost use Rattle.vlbi_core.specs.Records.{Appends};
+ghost use Rattle.vis_records.specs.Records.{Appends};
 ghost use Rattle.vlbi_core.specs.Refusal.{answer_of, words_fault_name, field_name, recording_answer, note_line};
 
 use crate::refusal::Refusal;
@@ -15,7 +15,7 @@ pub fn status(refusal: &Refusal) -> u8
     match refusal {
         Refusal::Memory => 1,
         Refusal::Words(_) => 2,
-        Refusal::JobForm => 4,
+        Refusal::JobForm | Refusal::NoModel(_) | Refusal::NoClock(_) => 4,
         Refusal::Recording(_, _) => 5,
         Refusal::Read => 7,
         Refusal::Write => 9,
@@ -31,6 +31,8 @@ pub fn write_note<N: Sink>(refusal: &Refusal, notes: &mut N) -> Result<(), Faile
         Refusal::Memory => write_line(notes, "out of memory", ""),
         Refusal::Words(fault) => write_line(notes, "words: ", fault_name(*fault)),
         Refusal::JobForm => write_line(notes, "job: Unknown in line 0", ""),
+        Refusal::NoModel(key) => write_line(notes, "job: NoModel for ", key.as_str()),
+        Refusal::NoClock(key) => write_line(notes, "job: NoClock for ", key.as_str()),
         Refusal::Recording(key, field) => write_recording(notes, key.as_str(), *field),
         Refusal::NoFile(name) => write_line(notes, "no file ", name.as_str()),
         Refusal::Read => write_line(notes, "read fault", ""),

@@ -1,30 +1,31 @@
-//! What comes before the output, after the words: the job's text, the job, and its recordings.
+//! What comes before the output, after the words: the job's text, the job, its delays and its recordings.
 ghost use Rattle.std.specs.Prelude.{◌≡◌, ◌≤◌, length, IfOk, IfErr, OnOk, Some, None};
 ghost use Rattle.dev_traits.specs.Files.{size_of};
 ghost use Rattle.dev_traits.specs.Told.{WhereTold};
-ghost use Rattle.vlbi_core.specs.Job.{plan_of, station_plan_of};
-ghost use Rattle.vlbi_core.specs.JobText.{plan_of_text};
+ghost use Rattle.job_reader.specs.Job.{plan_of, station_plan_of};
+ghost use Rattle.job_reader.specs.JobText.{plan_of_text};
 ghost use Rattle.vlbi_core.specs.Refusal.{IsDue, IsOfFiles, CountsReads};
 ghost use Rattle.vlbi_core.specs.Verdict.{file_refusal, foreign, plan_refusal, recordings_refusal};
-ghost use Rattle.vlbi_core.specs.Scan.{AreRecordings};
+ghost use Rattle.vlbi_core.specs.Scan.{AreRecordings, AreModelled};
 
+use crate::delays::check_delays;
 use crate::foreign::foreign_field;
-use crate::job::{Job, Station};
-use crate::job_text::read_job;
 use crate::load::{file_size, read_whole};
 use crate::refusal::Refusal;
 use dev_traits::Shelf;
+use job_reader::{Job, Station, read_job};
 use std::alloc::Global;
 
 /// The greatest length of a job's text, in bytes.
 const MOST_JOB_BYTES: u64 = 4096;
 
-/// A job with the bytes of its two recordings.
+/// A job whose delays are there, with the bytes of its two recordings.
 #[derive(Drop)]
 pub struct Ready<'a> {
     pub job: Job<'a>,
     pub a: Vec<u8>,
     pub b: Vec<u8>,
+    ghost modelled: { AreModelled job },
 }
 
 /// The text of a job. Its size is looked at before it is read.
@@ -57,9 +58,11 @@ pub fn prepare<'a, F: Shelf>(
     ensures stage { IfErr result IsOfFiles }
     ensures counts { CountsReads (F.faults shelf.old) (F.faults shelf.new) result }
 {
-    let Some(job) = read_job(text) else {
-        return Err(Refusal::JobForm);
+    let job = match read_job(alloc, text) {
+        Ok(job) => job,
+        Err(fault) => return Err(Refusal::from(fault)),
     };
+    check_delays(alloc, &job)?;
     let (a, b) = load_recordings(alloc, shelf, &job)?;
     Ok(Ready { job, a, b })
 }

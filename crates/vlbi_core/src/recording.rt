@@ -1,24 +1,31 @@
 //! The samples of a job's recordings, each found by a walk over the slots of a file in their order.
-ghost use Rattle.std.specs.Prelude.{◌≡◌, ◌<◌, ◌==◌, ◌&&◌, pos, ◌+ℤ◌, ◌-ℤ◌, int_le, int_lt, unsigned_abs, not, is_none, length, drop, Some, None, IfSome, if◌then◌else◌};
+ghost use Rattle.std.specs.Prelude.{◌≡◌, ◌<◌, ◌^◌, ◌==◌, ◌&&◌, pos, ◌+ℤ◌, ◌-ℤ◌, int_le, int_lt, unsigned_abs, not, is_none, length, drop, Some, None, IfSome, if◌then◌else◌};
 ghost use Rattle.vdif_frame.specs.Shape.{IsShape, head_bytes, chans_of, samples_per_frame};
 ghost use Rattle.vdif_frame.specs.Agreement.{first_field};
 ghost use Rattle.corr_model.specs.Level.{level_at};
 ghost use Rattle.corr_model.specs.Sample.{counts_for, level_in};
 ghost use Rattle.corr_model.specs.Cell.{IsSmall, AreSmall};
-ghost use Rattle.corr_model.specs.Rotated.{timing_of};
-ghost use Rattle.vlbi_core.specs.Job.{plan_of, scan_plan_of, station_plan_of};
-ghost use Rattle.vlbi_core.specs.Scan.{recorded_sample, recorded_value, values_of};
+ghost use Rattle.corr_model.specs.Rotated.{timing_of, turned, band_sector};
+ghost use Rattle.job_reader.specs.Job.{plan_of, scan_plan_of, station_plan_of};
+ghost use Rattle.vlbi_core.specs.Scan.{recorded_sample, recorded_value, values_of, band_of};
+ghost use Rattle.vlbi_core.specs.Delays.{IsTrackOf};
 
-use crate::job::{Job, Station};
 use corr_model::{Values, sample_at};
+use delay_track::{Track, nearest};
+use fringe_rotator::{rotate, sector};
+use job_reader::{Job, Station};
 use vdif_frame::{Header, agrees, first_sample};
 
-/// The recordings of a job's two stations, read whole.
+/// The recordings of a job's two stations, read whole, with the delays of each.
 #[derive(Drop)]
 pub struct Recordings<'a> {
     pub job: &'a Job<'a>,
     pub a: &'a [u8],
     pub b: &'a [u8],
+    pub track_a: Track<'a>,
+    pub track_b: Track<'a>,
+    ghost delays_a: { IsTrackOf track_a job.now job.now.a },
+    ghost delays_b: { IsTrackOf track_b job.now job.now.b },
 }
 
 impl Values for Recordings<'_> {
@@ -26,22 +33,36 @@ impl Values for Recordings<'_> {
 
     fn z(&self, station: u32, chan: u32, n: i64) -> Option<(i8, i8)> {
         match (station, chan) {
-            (0, 0) => value(self.job, &self.job.a, self.a, n),
-            (1, 0) => value(self.job, &self.job.b, self.b, n),
+            (0, 0) => value(self.job, &self.job.a, &self.track_a, self.a, n),
+            (1, 0) => value(self.job, &self.job.b, &self.track_b, self.b, n),
             _ => None,
         }
     }
 }
 
-// The value at sample `n` of a station, None outside the scan.
-fn value(job: &Job, station: &Station, bytes: &[u8], n: i64) -> Option<(i8, i8)>
+// The value at sample `n` of a station, None outside the scan: the recording's sample as many samples on
+// as the whole delay at `n` says, turned by the sector of the delay at `n`.
+fn value(job: &Job, station: &Station, track: &Track, bytes: &[u8], n: i64) -> Option<(i8, i8)>
+    requires { IsTrackOf track.now job.now station.now }
     ensures value { result ≡ recorded_value job.now station.now bytes.now n }
     ensures small { IfSome result AreSmall }
 {
     if n < 0 || n >= job.samples as i64 {
         return None;
     }
-    Some((sample(job, station, bytes, n)?, 0))
+    let delay = track.delay(n as u64);
+    let level = sample(job, station, bytes, n + nearest(delay))?;
+    Some(turned(job, delay, level))
+}
+
+// A level turned by the sector of a delay in the job's band.
+fn turned(job: &Job, delay: i64, level: i8) -> (i8, i8)
+    requires delay { unsigned_abs delay < 2 ^ 60 }
+    requires level { IsSmall level }
+    ensures value { result ≡ turned level (band_sector (band_of job.now) job.now.rate delay) }
+    ensures small { AreSmall result }
+{
+    rotate(level, sector(job.hertz, job.upper, delay, job.rate))
 }
 
 // Sample `n` of a station: that of the first slot that counts.

@@ -2,6 +2,7 @@
 ghost use Rattle.std.specs.Prelude.{◌≡◌};
 
 use crate::words::WordsFault;
+use job_reader::JobFault;
 use std::alloc::AllocError;
 use thiserror::Error;
 use vdif_frame::Field;
@@ -16,6 +17,12 @@ pub enum Refusal {
     /// The job's text states no job.
     #[error("job: Unknown in line 0")]
     JobForm,
+    /// A station has no delay model at some sample of the scan: its key.
+    #[error("job: NoModel for {0}")]
+    NoModel(String),
+    /// A station has no clock at some sample of the scan: its key.
+    #[error("job: NoClock for {0}")]
+    NoClock(String),
     /// A station's recording has slots, and none of them agrees with its shape: the station's key, and
     /// the field in which the first one differs.
     #[error("recording: {0} {1:?}")]
@@ -46,5 +53,18 @@ impl From<WordsFault> for Refusal {
 
     fn from(fault: WordsFault) -> Self {
         Refusal::Words(fault)
+    }
+}
+
+impl From<JobFault> for Refusal {
+    ghost use Rattle.vlbi_core.specs.Refusal.{job_refusal};
+
+    ghost from_gives = { λ fault refusal. refusal ≡ job_refusal fault };
+
+    fn from(fault: JobFault) -> Self {
+        match fault {
+            JobFault::Form => Refusal::JobForm,
+            JobFault::Memory => Refusal::Memory,
+        }
     }
 }

@@ -418,6 +418,153 @@ fn a_scan_without_samples(rt: HostRuntime) -> Result<(), Fail> {
     Ok(())
 }
 
+// The job of a scan of 2 or 4 frames a second, with these lines for its delays, and this band.
+fn delayed_job(
+    alloc: Global,
+    knot: &str,
+    rate: u32,
+    models: &str,
+    band: &str,
+) -> Result<Vec<u8>, AllocError> {
+    let text = format!(in alloc;
+        "lags 2\nintegration {rate}\nepoch 50\n{knot}station A 1 2 1 40\nstation B 2 2 1 40\nfile A a.vdif\nfile B b.vdif\nchan A X 0 0\nchan B X 0 0\n{models}product X X\nrate {rate}\nscan S 2010y001d00h00m00s {rate}\nband X {band}\n"
+    )?;
+    text.as_bytes().to_vec(alloc)
+}
+
+// A frame of station B whose first byte of data is this, the others FF.
+fn begun_with(number: u8, byte: u8) -> [u8; 40] {
+    let mut bytes = frame(number, 2, 0xFF);
+    bytes[32] = byte;
+    bytes
+}
+
+// The cells of this job's one record are these: re, im and count at lag -1 and at lag 0.
+fn has_delayed_cells(
+    rt: &impl Abort,
+    alloc: Global,
+    name: &str,
+    job: &[u8],
+    b: &[&[u8]],
+    cells: [(i64, i64, u64); 2],
+) -> Result<(), AllocError> {
+    let (a0, a1) = (frame(0, 1, 0xFF), frame(1, 1, 0xFF));
+    let (a2, a3) = (frame(2, 1, 0xFF), frame(3, 1, 0xFF));
+    let files = vec![in alloc;
+        file(alloc, "j", &[job])?,
+        file(alloc, "a.vdif", &[&a0, &a1, &a2, &a3])?,
+        file(alloc, "b.vdif", b)?,
+    ]?;
+    let mut shelf = MemShelf::new(files, Vec::new(alloc));
+    let mut out = sink(alloc);
+    let mut notes = sink(alloc);
+    let answer = status(rt, alloc, "plain --job j", &mut shelf, &mut out, &mut notes)?;
+    assert_eq!(rt; answer, 0, "{name}");
+    let mut wanted: Vec<u8> = Vec::new(alloc);
+    for (re, im, count) in cells {
+        wanted.extend_from_slice(&re.to_le_bytes())?;
+        wanted.extend_from_slice(&im.to_le_bytes())?;
+        wanted.extend_from_slice(&count.to_le_bytes())?;
+    }
+    assert_eq!(rt;
+        out.bytes().get(104..152),
+        Some(wanted.as_slice()),
+        "{name}"
+    );
+    Ok(())
+}
+
+// A clock a sample ahead: sample n of station B is its own sample n + 1, and at 16 hertz a quarter of a
+// turn on, so it has no cosine component and the sine component 3, in the lower sideband -3.
+#[test]
+fn a_clock_ahead(rt: HostRuntime) -> Result<(), Fail> {
+    let alloc = rt.alloc();
+    let (b0, b1) = (frame(0, 2, 0xFF), frame(1, 2, 0xFF));
+    for (band, im) in [("16 U", -567), ("16 L", 567)] {
+        let clock = "clock B 2010y001d00h00m00s 4294967296 0\n";
+        let job = delayed_job(alloc, "", 64, clock, band)?;
+        has_delayed_cells(
+            &rt,
+            alloc,
+            band,
+            &job,
+            &[&b0, &b1],
+            [(0, im, 63), (0, im, 63)],
+        )?;
+    }
+    Ok(())
+}
+
+// A delay that grows by a sample over the scan skips sample 64, which is -3; one that falls by a sample
+// uses sample 65 twice.
+#[test]
+fn a_changing_delay(rt: HostRuntime) -> Result<(), Fail> {
+    let alloc = rt.alloc();
+    let (b0, b1, b3) = (frame(0, 2, 0xFF), frame(1, 2, 0xFF), frame(3, 2, 0xFF));
+    let poly = "poly B 2010y001d00h00m00s 0 72057594037927936\n";
+    let job = delayed_job(alloc, "knot 128\n", 128, poly, "0 U")?;
+    let b = [b0.as_slice(), &b1, &begun_with(2, 0xFC), &b3];
+    has_delayed_cells(
+        &rt,
+        alloc,
+        "growing",
+        &job,
+        &b,
+        [(1143, 0, 127), (1143, 0, 127)],
+    )?;
+    let poly = "poly B 2010y001d00h00m00s 4294967296 -72057594037927936\n";
+    let job = delayed_job(alloc, "knot 128\n", 128, poly, "0 U")?;
+    let b = [b0.as_slice(), &b1, &begun_with(2, 0xF3), &b3];
+    has_delayed_cells(
+        &rt,
+        alloc,
+        "falling",
+        &job,
+        &b,
+        [(1107, 0, 127), (1116, 0, 128)],
+    )?;
+    Ok(())
+}
+
+// Station B's model begins a second late, then station A's clock; a station without a model comes before
+// one without a clock, station A before station B, and both before a file that is missing.
+#[test]
+fn delays_that_are_refused(rt: HostRuntime) -> Result<(), Fail> {
+    let alloc = rt.alloc();
+    for (models, note) in [
+        (
+            "poly B 2010y001d00h00m01s 0\n",
+            "vlbi: job: NoModel for B\n",
+        ),
+        (
+            "poly A 2010y001d00h00m00s 0\nclock A 2010y001d00h00m01s 0 0\n",
+            "vlbi: job: NoClock for A\n",
+        ),
+        (
+            "clock B 2010y001d00h00m01s 0 0\n",
+            "vlbi: job: NoClock for B\n",
+        ),
+        (
+            "clock A 2010y001d00h00m01s 0 0\npoly B 2010y001d00h00m01s 0\n",
+            "vlbi: job: NoModel for B\n",
+        ),
+        (
+            "poly B 2010y001d00h00m01s 0\npoly A 2010y001d00h00m01s 0\n",
+            "vlbi: job: NoModel for A\n",
+        ),
+        (
+            "poly C 2010y001d00h00m00s 0\n",
+            "vlbi: job: Unknown in line 0\n",
+        ),
+    ] {
+        let job = delayed_job(alloc, "", 64, models, "0 U")?;
+        let files = vec![in alloc; file(alloc, "j", &[&job])?]?;
+        let shelf = MemShelf::new(files, Vec::new(alloc));
+        is_refused(&rt, alloc, "plain --job j", shelf, 4, note)?;
+    }
+    Ok(())
+}
+
 // A read fault that would come later hides no refusal: the calls are the job's size and text, the two
 // sizes, and the two recordings.
 #[test]

@@ -2,7 +2,7 @@ use Rattle.std.proofs.Common.{◌<◌, ◌∙◌, ap, sym, ◌++◌, length}
 use Rattle.std.proofs.lemmas.List.FromFn.{length-map-range_with_len}
 use Rattle.corr_model.specs.Records.{record_text}
 use Rattle.vlbi_core.specs.Scan.{scan_records_text, scan_cell, values_of}
-use Rattle.vlbi_core.proofs.AppendedText.{Appends-done, Appends-then, Appends-exit}
+use Rattle.vis_records.proofs.AppendedText.{Appends-done, Appends-then, Appends-exit}
 use Rattle.vlbi_core.proofs.IntegrationLemmas.{records_text-more, records_text-rest, records_rest}
 use Rattle.vlbi_core.proofs.correlate.write_records.Goals as goal
 

@@ -1,7 +1,7 @@
 use Rattle.std.proofs.Common.{refl}
 use Rattle.corr_model.specs.Records.{end_text}
 use Rattle.vlbi_core.specs.Scan.{scan_records_text, values_of}
-use Rattle.vlbi_core.proofs.AppendedText.{Appends-then, Appends-exit, Appends-longer}
+use Rattle.vis_records.proofs.AppendedText.{Appends-then, Appends-exit, Appends-longer}
 use Rattle.vlbi_core.proofs.IntegrationLemmas.{scan_output-parts}
 use Rattle.vlbi_core.proofs.correlate.write_scan.Goals as goal
 

@@ -28,4 +28,14 @@ returns-in-Write g c =
 pub returns-in-Recording : goal.returns-in-Recording
 returns-in-Recording g c =
     let line = c.write_recording.ensures in
-    rw (c.in-Recording.is, ← c.as_str.ensures.value) (record { ok = line.ok; prefix = line.prefix; counts = line.counts })
+    rw (c.in-Recording.is, ← c.as_str-in-Recording.ensures.value) (record { ok = line.ok; prefix = line.prefix; counts = line.counts })
+
+pub returns-in-NoModel : goal.returns-in-NoModel
+returns-in-NoModel g c =
+    let line = c.write_line-in-NoModel.ensures in
+    rw (c.in-NoModel.is, ← c.as_str.ensures.value) (record { ok = line.ok; prefix = line.prefix; counts = line.counts })
+
+pub returns-in-NoClock : goal.returns-in-NoClock
+returns-in-NoClock g c =
+    let line = c.write_line-in-NoClock.ensures in
+    rw (c.in-NoClock.is, ← c.as_str-in-NoClock.ensures.value) (record { ok = line.ok; prefix = line.prefix; counts = line.counts })

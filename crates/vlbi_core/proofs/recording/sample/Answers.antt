@@ -1,6 +1,6 @@
 use Rattle.std.proofs.Common.{◌≡◌, ◌∙◌, ℤ, to_z, of_z, FitsSigned, w64, sym, ap}
 use Rattle.std.proofs.lemmas.Int.{to_z-of_z}
-use Rattle.vlbi_core.specs.declared.job.Station.{Station}
+use Rattle.job_reader.specs.declared.job.Station.{Station}
 use Rattle.vlbi_core.specs.Scan.{recorded_sample}
 use Rattle.vlbi_core.proofs.WalkLemmas.{timing_in, recorded_in, walk_from-found, walk_from-next, walk_from-end}
 use Rattle.vlbi_core.proofs.recording.sample.Goals as goal

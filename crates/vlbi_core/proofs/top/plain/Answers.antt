@@ -1,7 +1,7 @@
 use Rattle.std.proofs.Common.{◌≤◌, ◌∙◌, ap, sym, subst, length, Some, arith}
 use Rattle.std.proofs.lemmas.Result.{err_from_is_err_and, on_ok_weaker, IfErr-weaker}
 use Rattle.dev_traits.specs.Told.{more, PrefixMore}
-use Rattle.vlbi_core.specs.Job.{plan_of}
+use Rattle.job_reader.specs.Job.{plan_of}
 use Rattle.vlbi_core.specs.Words.{texts_of}
 use Rattle.vlbi_core.specs.Refusal.{IsDue}
 use Rattle.vlbi_core.proofs.ToldLemmas.{WhereTold-weaker, WhereTold-both, WhereTold-always}

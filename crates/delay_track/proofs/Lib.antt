@@ -1,0 +1,7 @@
+pub mod Lines
+pub mod Polynomials
+pub mod Samples
+pub mod Clocks
+pub mod Knots
+pub mod Stretches
+pub mod AllSamples

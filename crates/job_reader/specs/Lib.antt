@@ -1,0 +1,5 @@
+pub mod JobFields
+pub mod JobForm
+pub mod JobLines
+pub mod JobText
+pub mod Job

@@ -1,0 +1,3 @@
+pub mod AppendedText
+pub mod PlacedBytes
+pub mod RecordPieces

@@ -1,6 +1,9 @@
-//! The statements of a VEX text, the schedule language of VLBI (VEX 1.5): blocks, defs and scans, refs and assignments. It
-//! stands on `vex_lex` for the tokens, on `num_time` for names, on `item_list` for lists and on `indexmap`
-//! for things found by name.
+//! The statements of a VEX text, the schedule language of VLBI (VEX 1.5): blocks, defs and scans, refs
+//! and assignments. It stands on `vex_lex` for the tokens, on `num_time` for names, on `item_list` for
+//! lists and on `indexmap` for things found by name.
+//!
+//! `specs/Reading.antt` says what the statements of a text say, one after another, and which has the
+//! first fault. `read` answers that file, or that fault with its place, and else only want of memory.
 #![tactic(auto)]
 
 mod fault;

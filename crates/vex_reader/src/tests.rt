@@ -167,7 +167,7 @@ fn faults_of_small_texts(rt: HostRuntime) {
 }
 
 // What stands behind the revision, with the file.
-const FILES: [(&[u8], &[u8]); 22] = [
+const FILES: [(&[u8], &[u8]); 23] = [
     (b"", b""),
     (b"ref x = y;", b""),
     (b"x = a = b;", b""),
@@ -211,6 +211,7 @@ const FILES: [(&[u8], &[u8]); 22] = [
         b"$A{start=[1];def def()def D()}",
     ),
     (b"$A;def a;enddef;def A;enddef;", b"$A{def a()def A()}"),
+    (b"$A;def \x80\xff;enddef;", b"$A{def \x80\xff()}"),
 ];
 
 #[test]

@@ -148,7 +148,7 @@ fn refuses(
 
 #[test]
 fn faults_of_scans(rt: HostRuntime) -> Result<(), Fail> {
-    let rows: [(SchedKind, &[u8]); 21] = [
+    let rows: [(SchedKind, &[u8]); 22] = [
         (NoSched, b""),
         (NoSched, b"$X; scan S; endscan;"),
         (BadValue, b"$SCHED; @scan %; endscan;"),
@@ -174,6 +174,10 @@ fn faults_of_scans(rt: HostRuntime) -> Result<(), Fail> {
             b"$SCHED; scan S; @start = 2011y366d00h00m00s; mode = X; endscan;",
         ),
         (BadValue, b"$SCHED; scan S; @start = ; endscan;"),
+        (
+            BadValue,
+            b"$SCHED; scan S; @start = 2010y001d00h00m00.s; endscan;",
+        ),
         (
             MissingStatement,
             b"$SCHED; @scan S; start = 2010y001d00h00m00s; endscan;",
@@ -489,7 +493,7 @@ fn what_is_passed_over(rt: HostRuntime) -> Result<(), Fail> {
                 SCHED,
                 EF,
                 END,
-                b"scan T; start = 2010y001d00h00m00s; mode = M; endscan;",
+                b"scan T; start = 2010y001d00h00m00.0s; mode = M; endscan;",
             ],
             (2, 1, 1),
         ),

@@ -339,6 +339,26 @@ fn largest_texts(rt: HostRuntime) -> Result<(), Fail> {
     Ok(())
 }
 
+// A text of 8 MiB with 100,000 defs, each found by its name.
+#[test]
+fn many_defs(rt: HostRuntime) -> Result<(), Fail> {
+    let alloc = rt.alloc();
+    let mut text = behind_revision(alloc, b"$A;")?;
+    for i in 0..100_000u32 {
+        let def = format!(in alloc; "def d{i};enddef;")?;
+        text.extend_from_slice(def.as_bytes())?;
+    }
+    text.resize(8_388_608, b'\n')?;
+    let file = read(alloc, &text)?;
+    let block = file.blocks.get(b"$A").ok_or("no block")?;
+    assert_eq!(rt; block.defs.len(), 100_000);
+    for i in 0..100_000u32 {
+        let name = format!(in alloc; "d{i}")?;
+        assert!(rt; block.defs.get(name.as_bytes()).is_some());
+    }
+    Ok(())
+}
+
 #[test]
 fn a_statement_of_many_values(rt: HostRuntime) -> Result<(), Fail> {
     let alloc = rt.alloc();

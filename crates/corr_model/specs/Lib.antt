@@ -1,4 +1,3 @@
-pub mod Level
 pub mod Slots
 pub mod Sample
 pub mod Delay

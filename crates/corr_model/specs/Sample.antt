@@ -4,7 +4,7 @@ use Rattle.vdif_frame.specs.Header.{fields_of}
 use Rattle.vdif_frame.specs.Shape.{ShapeFields, head_bytes, chans_of, samples_per_frame}
 use Rattle.vdif_frame.specs.Agreement.{first_field}
 use Rattle.vdif_frame.specs.Place.{place_of}
-use Rattle.corr_model.specs.Level.{level_at}
+use Rattle.sample_unpack.specs.Level.{level_at}
 use Rattle.corr_model.specs.Slots.{slots_of}
 
 -- where a recording holds a channel: in the frames of a thread, at a place in their complete samples

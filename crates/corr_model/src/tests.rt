@@ -1,8 +1,9 @@
 ghost use Rattle.std.specs.Prelude.{◌≡◌, ◌≤◌, ◌==◌, if◌then◌else◌, pos, neg_ℤ, ◌≤ℤ◌, ◌<ℤ◌, int_lt, unsigned_abs, Some, None};
-ghost use Rattle.corr_model.specs.Level.{level_at};
+ghost use Rattle.sample_unpack.specs.Level.{level_at};
 ghost use Rattle.corr_model.specs.Cell.{is_inside, IsSmall};
 
 use super::*;
+use sample_unpack::sample_at;
 use std::test::*;
 
 // A scan of 64 samples at two stations: two bits a sample, the second station's from its sample
@@ -84,28 +85,6 @@ fn cell(re: i64, im: i64, count: u64) -> Cell
     ensures { result ≡ record { re = re; im = im; count = count } }
 {
     Cell { re, im, count }
-}
-
-#[test]
-fn levels_of_codes(rt: HostRuntime) {
-    assert_eq!(rt; level(1, 0), -1);
-    assert_eq!(rt; level(1, 1), 1);
-    assert_eq!(rt; level(2, 0), -3);
-    assert_eq!(rt; level(2, 1), -1);
-    assert_eq!(rt; level(2, 2), 1);
-    assert_eq!(rt; level(2, 3), 3);
-}
-
-// The byte's pairs of bits, the lowest first, are 00, 01, 10 and 11.
-#[test]
-fn samples_of_a_byte(rt: HostRuntime) {
-    let bytes = [0xE4];
-    assert_eq!(rt; sample_at(&bytes, 2, 2, 0, 0), -3);
-    assert_eq!(rt; sample_at(&bytes, 2, 2, 1, 0), -1);
-    assert_eq!(rt; sample_at(&bytes, 2, 2, 0, 1), 1);
-    assert_eq!(rt; sample_at(&bytes, 2, 2, 1, 1), 3);
-    assert_eq!(rt; sample_at(&bytes, 1, 1, 0, 1), -1);
-    assert_eq!(rt; sample_at(&bytes, 1, 1, 0, 2), 1);
 }
 
 #[test]

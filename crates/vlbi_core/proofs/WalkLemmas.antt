@@ -7,7 +7,7 @@ use Rattle.vdif_frame.specs.Agreement.{first_field}
 use Rattle.vdif_frame.specs.declared.shape.Field.TheVariants.{Legacy}
 use Rattle.vdif_frame.specs.Place.{place_of}
 use Rattle.std.proofs.lemmas.Option.{cond_some}
-use Rattle.corr_model.specs.Level.{level_at}
+use Rattle.sample_unpack.specs.Level.{level_at}
 use Rattle.corr_model.specs.Slots.{slot_at, slots_in}
 use Rattle.corr_model.specs.Sample.{Timing, Recorded, covers, slot_place, counts_for, level_in, sample_in}
 use Rattle.corr_model.specs.Rotated.{timing_of}

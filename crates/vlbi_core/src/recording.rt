@@ -2,7 +2,7 @@
 ghost use Rattle.std.specs.Prelude.{◌≡◌, ◌<◌, ◌^◌, ◌==◌, ◌&&◌, pos, ◌+ℤ◌, ◌-ℤ◌, int_le, int_lt, unsigned_abs, not, is_none, length, drop, Some, None, IfSome, if◌then◌else◌};
 ghost use Rattle.vdif_frame.specs.Shape.{IsShape, head_bytes, chans_of, samples_per_frame};
 ghost use Rattle.vdif_frame.specs.Agreement.{first_field};
-ghost use Rattle.corr_model.specs.Level.{level_at};
+ghost use Rattle.sample_unpack.specs.Level.{level_at};
 ghost use Rattle.corr_model.specs.Sample.{counts_for, level_in};
 ghost use Rattle.corr_model.specs.Cell.{IsSmall, AreSmall};
 ghost use Rattle.corr_model.specs.Rotated.{timing_of, turned, band_sector};
@@ -10,10 +10,11 @@ ghost use Rattle.job_reader.specs.Job.{plan_of, scan_plan_of, station_plan_of};
 ghost use Rattle.vlbi_core.specs.Scan.{recorded_sample, recorded_value, values_of, band_of};
 ghost use Rattle.vlbi_core.specs.Delays.{IsTrackOf};
 
-use corr_model::{Values, sample_at};
+use corr_model::Values;
 use delay_track::{Track, nearest};
 use fringe_rotator::{rotate, sector};
 use job_reader::{Job, Station};
+use sample_unpack::sample_at;
 use vdif_frame::{Header, agrees, first_sample};
 
 /// The recordings of a job's two stations, read whole, with the delays of each.

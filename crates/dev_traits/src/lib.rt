@@ -5,17 +5,10 @@
 //! rose in it, so code over a device cannot report a fault that its device did not have. What a
 //! device holds is told by the devices in memory and not by those of the operating system; clauses
 //! about content hold where it is told.
-//!
-//! `memory` has a device of each kind whose faults are planned call by call; `real` has those of
-//! the operating system, whose files and streams no contract can speak of.
 #![tactic(auto)]
 
-pub mod memory;
-pub mod real;
 mod shelf;
 mod sink;
-#[cfg(test)]
-mod tests;
 
 pub use shelf::Shelf;
 pub use sink::{Sink, write_all};

@@ -1,5 +1,5 @@
 use crate::run;
-use dev_traits::memory::{MemShelf, MemSink};
+use mem_devices::{MemShelf, MemSink};
 use std::alloc::{AllocError, Global};
 use std::process::Abort;
 use std::test::Fail;

@@ -3,7 +3,7 @@
 //! the records, standard error a refusal's line, and the exit status is the call's.
 #![tactic(auto)]
 
-use dev_traits::real::{FileShelf, StdSink};
+use real_devices::{FileShelf, StdSink};
 use std::env;
 use std::io::ErrorKind;
 use std::process::ExitCode;

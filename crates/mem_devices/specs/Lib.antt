@@ -1,0 +1,3 @@
+pub mod MemShelfState
+pub mod MemSinkState
+pub mod Plan

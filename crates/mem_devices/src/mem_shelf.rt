@@ -1,0 +1,133 @@
+ghost use Rattle.std.specs.Prelude.{◌≡◌, ◌≤◌, ◌↔◌, length, IfOk, IsErr, IsTrue, Some};
+ghost use Rattle.std.specs.Option.{option_copied};
+ghost use Rattle.dev_traits.specs.Fault.{Counts};
+ghost use Rattle.dev_traits.specs.Files.{size_of, ReadsAt};
+ghost use Rattle.mem_devices.specs.MemShelfState.{bytes_under, files_of, fails_next, after_call};
+
+use dev_traits::{Failed, Shelf};
+use std::marker::Model;
+
+/// Files in memory. The calls of `size` and `read_at` are numbered together, from 0, and exactly
+/// those listed fail.
+#[derive(Drop)]
+pub struct MemShelf {
+    files: Vec<(String, Vec<u8>)>,
+    failing: Vec<u64>,
+    calls: u64,
+    faults: u64,
+}
+
+impl Model for MemShelf {
+    ghost use Rattle.mem_devices.specs.MemShelfState.{MemShelfState, files_of};
+
+    ghost Value = { MemShelfState };
+
+    ghost view = { λ shelf. record {
+      files = files_of shelf.files.items;
+      failing = shelf.failing.items;
+      calls = shelf.calls;
+      faults = shelf.faults;
+    } };
+}
+
+impl MemShelf {
+    /// A shelf of these files, by name and bytes: of two with one name the first counts. `failing`
+    /// lists the numbers of the calls that fail, in any order.
+    pub fn new(files: Vec<(String, Vec<u8>)>, failing: Vec<u64>) -> MemShelf
+        ensures { result ≡ record {
+          files = files_of files.items;
+          failing = failing.items;
+          calls = 0;
+          faults = 0;
+        } }
+    {
+        MemShelf {
+            files,
+            failing,
+            calls: 0,
+            faults: 0,
+        }
+    }
+
+    // Counts one call, and answers whether it fails.
+    fn fails(&mut self) -> bool
+        ensures fails { result ≡ fails_next self.old }
+        ensures called { self.new ≡ after_call self.old }
+        ensures no_fall { self.old.faults ≤ self.new.faults }
+    {
+        let fails = self.failing.contains(&self.calls);
+        self.calls = self.calls.saturating_add(1);
+        if fails {
+            self.faults = self.faults.saturating_add(1);
+        }
+        fails
+    }
+}
+
+impl Shelf for MemShelf {
+    ghost told = { λ shelf. Some (bytes_under shelf.files) };
+
+    ghost faults = { λ shelf. shelf.faults };
+
+    fn size(&mut self, name: &str) -> Result<Option<u64>, Failed>
+        ensures same { Some (bytes_under self.new.files) ≡ Some (bytes_under self.old.files) }
+        ensures size { IfOk result (λ size. size ≡ size_of (bytes_under self.old.files name.now)) }
+        ensures counts { Counts self.old.faults self.new.faults result }
+
+        ensures fails { IsErr result ↔ IsTrue (fails_next self.old) }
+        ensures called { self.new ≡ after_call self.old }
+    {
+        if self.fails() {
+            return Err(Failed);
+        }
+        match find(&self.files, name) {
+            Some(bytes) => Ok(Some(bytes.len() as u64)),
+            None => Ok(None),
+        }
+    }
+
+    fn read_at(&mut self, name: &str, at: u64, buf: &mut [u8]) -> Result<usize, Failed>
+        ensures same { Some (bytes_under self.new.files) ≡ Some (bytes_under self.old.files) }
+        ensures within { IfOk result (λ n. n ≤ length buf.old) }
+        ensures read { IfOk result
+            (λ n. ReadsAt (bytes_under self.old.files name.now) at buf.old n buf.new) }
+        ensures counts { Counts self.old.faults self.new.faults result }
+
+        ensures fails { IsErr result ↔ IsTrue (fails_next self.old) }
+        ensures called { self.new ≡ after_call self.old }
+    {
+        if self.fails() {
+            return Err(Failed);
+        }
+        match find(&self.files, name) {
+            Some(bytes) => Ok(read_from(bytes, at, buf)),
+            None => Ok(0),
+        }
+    }
+}
+
+// The bytes of the first file of that name.
+fn find<'a>(files: &'a [(String, Vec<u8>)], name: &str) -> Option<&'a [u8]>
+    ensures { option_copied result ≡ bytes_under (files_of files.now) name.now }
+{
+    for (key, bytes) in files {
+        if key.as_str() == name {
+            return Some(bytes.as_slice());
+        }
+    }
+    None
+}
+
+// Fills the front of `buf` from byte `at` of `bytes` on, and answers how many bytes that took.
+fn read_from(bytes: &[u8], at: u64, buf: &mut [u8]) -> usize
+    ensures { ReadsAt (Some bytes.now) at buf.old result buf.new }
+{
+    let at = at as usize;
+    if at >= bytes.len() {
+        return 0;
+    }
+    let rest = &bytes[at..];
+    let n = rest.len().min(buf.len());
+    buf[..n].copy_from_slice(&rest[..n]);
+    n
+}

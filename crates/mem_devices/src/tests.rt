@@ -1,0 +1,2 @@
+mod shelf;
+mod sink;

@@ -1,7 +1,9 @@
 pub mod Fault
 pub mod Files
+pub mod Images
 pub mod MemShelfState
 pub mod MemSinkState
+pub mod Moments
 pub mod Plan
 pub mod StdSinkState
 pub mod Told

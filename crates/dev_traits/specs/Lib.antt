@@ -1,3 +1,5 @@
 pub mod Fault
 pub mod Files
+pub mod Images
+pub mod Moments
 pub mod Told

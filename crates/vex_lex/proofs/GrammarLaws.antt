@@ -3,11 +3,12 @@ use Rattle.std.proofs.Common.{◌≡◌, ℕ, ◌+◌, ◌-◌, ◌<◌, ◌≤�
 use Rattle.std.specs.Prelude.{All, Result, Ok, Err, IfOk, IfErr, MatchResult, ◌⊎◌}
 use Rattle.std.proofs.lemmas.List.{drop-drop}
 use Rattle.std.proofs.lemmas.List.Elements.{All-nil, All-cons}
+use Rattle.vex_lex.specs.declared.token.TokenKind.{TokenKind}
 use Rattle.vex_lex.specs.declared.token.Token.{Token}
 use Rattle.vex_lex.specs.declared.fault.LexFault.{LexFault}
 use Rattle.vex_lex.specs.Shapes.{span}
-use Rattle.vex_lex.specs.Grammar.{LexesBetween, BreaksFrom, Lexes, Breaks, out_of_memory, IsFaultOf}
-use Rattle.vex_lex.specs.Laws.{HasOneReading, HasOneBreak, DoesNotBoth, put_together, CoverText}
+use Rattle.vex_lex.specs.Grammar.{IsToken, LexesBetween, BreaksFrom, Lexes, Breaks, out_of_memory, IsFaultOf}
+use Rattle.vex_lex.specs.Laws.{HasOneReading, HasOneBreak, DoesNotBoth, put_together, CoverText, BeginsAsItsKind}
 use Rattle.vex_lex.proofs.Gaps.{IsGap-forward}
 use Rattle.vex_lex.proofs.TokenShapes.{IsToken-within}
 use Rattle.vex_lex.proofs.OneToken.{BreaksFrom-inside, BreaksFrom-one}
@@ -61,6 +62,19 @@ cover_text text tokens lexes = record {
   within = all_within text 0 tokens (length text) lexes;
   together = together text 0 tokens (length text) lexes;
 }
+
+all_begin : (text : List ℕ) (from : ℕ) (tokens : List Token) (to : ℕ) → LexesBetween text from tokens to → All (BeginsAsItsKind text) tokens
+all_begin text from [] to front = All-nil (BeginsAsItsKind text)
+all_begin text from (token ∷ tokens) to front =
+    let of_kind : TokenKind → Type 0 = λ kind. IsToken text kind token.at (token.at + token.len) in
+    let here : BeginsAsItsKind text token = record {
+      word = λ is. (subst of_kind is front.1).opens.no_quoted;
+      quoted = λ is. (subst of_kind is front.1).opens;
+    } in
+    All-cons (BeginsAsItsKind text) token tokens here (all_begin text (token.at + token.len) tokens to front.2)
+
+pub begin_as_their_kinds : (text : List ℕ) (tokens : List Token) → Lexes text tokens → All (BeginsAsItsKind text) tokens
+begin_as_their_kinds text tokens lexes = all_begin text 0 tokens (length text) lexes
 
 -- A pass that answers the tokens of a text or its fault answers those that it has, and that which it has.
 module _ {V : Type 0} (text : List ℕ) (items : V → List Token) where

@@ -2,6 +2,7 @@ pub mod Firsts
 pub mod Placed
 pub mod Gaps
 pub mod Literals
+pub mod Closes
 pub mod TokenShapes
 pub mod Fronts
 pub mod OneToken

@@ -1,7 +1,9 @@
 -- What follows from the grammar for every text.
 use Rattle.std.specs.Prelude.{◌≡◌, ◌⊎◌, ℕ, ◌+◌, ◌<◌, ◌≤◌, List, [], ◌∷◌, ◌++◌, length, drop, All}
+use Rattle.vex_lex.specs.declared.token.TokenKind.TheVariants.{Word, Quoted}
 use Rattle.vex_lex.specs.declared.token.Token.{Token}
 use Rattle.vex_lex.specs.declared.fault.LexKind.{LexKind}
+use Rattle.vex_lex.specs.Bytes.{HasByte}
 use Rattle.vex_lex.specs.Shapes.{span}
 use Rattle.vex_lex.specs.Grammar.{Lexes, Breaks}
 
@@ -35,3 +37,8 @@ pub record CoverText (text : List ℕ) (tokens : List Token) : Type 0 where
   pub some : All (λ token. 0 < token.len) tokens
   pub within : All (λ token. token.at + token.len ≤ length text) tokens
   pub together : put_together text 0 tokens ≡ text
+
+-- A word does not begin with a quotation mark, and a quoted text does: so the first byte of a value's text tells which it is.
+pub record BeginsAsItsKind (text : List ℕ) (token : Token) : Type 0 where
+  pub word : token.kind ≡ Word → ¬ HasByte 34 text token.at
+  pub quoted : token.kind ≡ Quoted → HasByte 34 text token.at

@@ -1,5 +1,5 @@
 // Where the shapes of a text end. A place is an index of the text.
-ghost use Rattle.std.specs.Prelude.{◌↔◌, ℕ, ◌+◌, ◌≤◌, length, IsTrue, IfSome, IfNone};
+ghost use Rattle.std.specs.Prelude.{◌↔◌, ◌≢◌, ℕ, ◌+◌, ◌-◌, ◌<◌, ◌≤◌, length, slice_index, IsTrue, IfSome, IfNone};
 ghost use Rattle.vex_lex.specs.Bytes.{IsWhite, IsAt, HasByte, HasBytes};
 ghost use Rattle.vex_lex.specs.First.{IsFirst};
 ghost use Rattle.vex_lex.specs.Shapes.{EndsComment, StopsWord, IsTag, ClosesLiteral, IsQuoted, OpensLiteral, IsLiteral};
@@ -103,16 +103,32 @@ fn closes_literal(text: &[u8], at: usize, tag: &[u8]) -> bool
         && has_bytes(text, at + 12 + tag.len(), b")")
 }
 
-// The first place from `from` on at which the literal of a tag is closed.
+// Whether the `)` at a place closes the literal of a tag, with `end_literal` at `from` or behind it.
+fn is_closed_by(text: &[u8], from: usize, at: usize, tag: &[u8]) -> bool
+    requires order { from ≤ at }
+    requires within { at ≤ length text.now }
+    ensures { IsTrue result ↔ ((from + 12 + length tag.now ≤ at) × ClosesLiteral tag.now text.now (at - (12 + length tag.now))) }
+{
+    let len = 12 + tag.len();
+    len <= at - from && closes_literal(text, at - len, tag)
+}
+
+// The first place from `from` on at which the literal of a tag is closed. No `)` stands in the tag or
+// in `end_literal(`, so only what stands behind the last `)` is compared: each byte at most once.
 fn literal_close(text: &[u8], from: usize, tag: &[u8]) -> Option<usize>
-    requires { from ≤ length text.now }
+    requires within { from ≤ length text.now }
+    requires plain { (i : ℕ) → i < length tag.now → slice_index tag.now i ≢ 41 }
     ensures some { IfSome result (IsFirst (ClosesLiteral tag.now text.now) from) }
     ensures none { IfNone result ((place : ℕ) → ¬ IsFirst (ClosesLiteral tag.now text.now) from place) }
 {
+    let mut behind = from;
     let mut at = from;
     while at < text.len() {
-        if closes_literal(text, at, tag) {
-            return Some(at);
+        if text[at] == b')' {
+            if is_closed_by(text, behind, at, tag) {
+                return Some(at - (12 + tag.len()));
+            }
+            behind = at + 1;
         }
         at += 1;
     }

@@ -1,8 +1,8 @@
 //! What follows from the grammar for every text. The functions do nothing: a call brings its law.
-ghost use Rattle.std.specs.Prelude.{ℕ, List};
+ghost use Rattle.std.specs.Prelude.{ℕ, List, All};
 ghost use Rattle.vex_lex.specs.declared.token.Token.{Token};
 ghost use Rattle.vex_lex.specs.Grammar.{Lexes};
-ghost use Rattle.vex_lex.specs.Laws.{HasOneReading, HasOneBreak, HasTokensOrBreak, DoesNotBoth, CoverText};
+ghost use Rattle.vex_lex.specs.Laws.{HasOneReading, HasOneBreak, HasTokensOrBreak, DoesNotBoth, CoverText, BeginsAsItsKind};
 
 /// A text has at most one list of tokens.
 pub fn one_reading()
@@ -27,4 +27,9 @@ pub fn not_both()
 /// The tokens of a text and the gaps between them, put together, are the text.
 pub fn cover_text()
     ensures { (text : List ℕ) (tokens : List Token) → Lexes text tokens → CoverText text tokens }
+{}
+
+/// No word begins with a quotation mark, and each quoted text does.
+pub fn begin_as_their_kinds()
+    ensures { (text : List ℕ) (tokens : List Token) → Lexes text tokens → All (BeginsAsItsKind text) tokens }
 {}

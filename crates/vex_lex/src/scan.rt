@@ -1,9 +1,9 @@
 // The pass over a text.
-ghost use Rattle.std.specs.Prelude.{◌≡◌, ◌<◌, List, length, IfOk, IfErr};
+ghost use Rattle.std.specs.Prelude.{◌≡◌, ◌<◌, List, length, IfOk, IfErr, All};
 ghost use Rattle.vex_lex.specs.Bytes.{IsWhite, IsAt, HasByte};
 ghost use Rattle.vex_lex.specs.Shapes.{OpensNone, EndsWordAt, IsWord};
 ghost use Rattle.vex_lex.specs.Grammar.{IsToken, Lexes, BreaksFrom, Breaks, IsFaultOf, GivesTokens, GivesFault};
-ghost use Rattle.vex_lex.specs.Laws.{CoverText};
+ghost use Rattle.vex_lex.specs.Laws.{CoverText, BeginsAsItsKind};
 
 use crate::bytes::is_control;
 use crate::ends::{gap_end, literal_end, opens_literal, quoted_end, word_stop};
@@ -90,6 +90,7 @@ pub fn tokens(alloc: Global, text: &[u8]) -> Result<Vec<Token>, LexFault>
     ensures found { IfOk result (λ tokens. Lexes text.now tokens.items) }
     ensures fault { IfErr result (IsFaultOf text.now) }
     ensures cover { IfOk result (λ tokens. CoverText text.now tokens.items) }
+    ensures marks { IfOk result (λ tokens. All (BeginsAsItsKind text.now) tokens.items) }
 
     // A text that has tokens is refused for want of memory alone, and one with a fault always.
     ensures lexes { (tokens : List Token) → Lexes text.now tokens → GivesTokens result tokens }

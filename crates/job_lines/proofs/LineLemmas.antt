@@ -1,0 +1,36 @@
+-- The lines of a text, the first and those behind it.
+use Rattle.std.proofs.Common.{◌≡◌, ◌==◌, ◌<◌, ℕ, Bool, false, List, [], ◌∷◌, length, refl, ap, ◌∙◌, arith, All}
+use Rattle.std.specs.List.{position_or_len, before_first, after_first, slice_split}
+use Rattle.std.specs.Str.Lines.{lines, lines_of_parts, strip_carriage_return}
+use Rattle.std.proofs.lemmas.List.Elements.{All-from_get_or}
+use Rattle.std.proofs.lemmas.List.Sums.{fails_before_first}
+use Rattle.std.proofs.lemmas.List.Splits.{slice_split_none, slice_split_first, length-slice_split}
+
+abbrev is_line_feed : ℕ → Bool
+is_line_feed b = b == 10
+
+-- a part before others loses its carriage return
+parts-first : (x : List ℕ) (ys : List (List ℕ)) → 0 < length ys → lines_of_parts (x ∷ ys) ≡ strip_carriage_return x ∷ lines_of_parts ys
+parts-first x [] h = absurd (omega (arith, h))
+parts-first x (y ∷ ys) h = refl
+
+-- a text with a line feed is its first line, and the lines behind it
+pub lines-first : (text : List ℕ) → position_or_len is_line_feed text < length text
+    → lines text ≡ strip_carriage_return (before_first is_line_feed text) ∷ lines (after_first is_line_feed text)
+lines-first text h =
+    let some : 0 < length (slice_split is_line_feed (after_first is_line_feed text)) =
+    omega (arith, length-slice_split is_line_feed (after_first is_line_feed text)) in
+    ap lines_of_parts (slice_split_first is_line_feed text 0 h)
+    ∙ parts-first (before_first is_line_feed text) (slice_split is_line_feed (after_first is_line_feed text)) some
+
+-- a part at the end is a line where it has a byte
+part-last : (x : List ℕ) → 0 < length x → lines_of_parts (x ∷ []) ≡ x ∷ []
+part-last x h = grind (arith, h)
+
+-- a text without a line feed is its own line
+pub lines-last : (text : List ℕ) → 0 < length text → position_or_len is_line_feed text ≡ length text → lines text ≡ text ∷ []
+lines-last text some whole =
+    let none : All (λ b. is_line_feed b ≡ false) text =
+    All-from_get_or (λ b. is_line_feed b ≡ false) text 0
+    (λ i h. fails_before_first is_line_feed text i 0 (omega (arith, h, whole))) in
+    ap lines_of_parts (slice_split_none is_line_feed text none) ∙ part-last text some

@@ -1,0 +1,17 @@
+use Rattle.std.proofs.Common.{rules, tests, ◌∙◌, ap, length, nat_lt}
+use Rattle.std.specs.Slice.Iter.{split_rest, split_done, split_callee}
+use Rattle.std.proofs.lemmas.Iterator.Consumers.{map_from_collect, YieldsList-from_filter}
+use Rattle.std.proofs.lemmas.Iterator.Splits.{YieldsList-from_slice_split}
+use Rattle.job_lines.specs.Rows.{uncommented, is_blank}
+use Rattle.job_lines.proofs.fields.fields_of.Goals as goal
+
+pub returns : goal.returns
+returns c =
+    map_from_collect _ c.collect.ensures.ran
+    (YieldsList-from_filter _ (λ field. nat_lt 0 (length field))
+    (YieldsList-from_slice_split _ is_blank (uncommented c.args.line.now)
+    (ap split_rest c.filter.ensures.source ∙ c.split.ensures.rest ∙ c.uncommented.ensures)
+    (ap split_done c.filter.ensures.source ∙ c.split.ensures.done)
+    (ap split_callee c.filter.ensures.source ∙ c.split.ensures.closure)
+    (λ x r q k. search (rules, tests)))
+    c.filter.ensures.closure (λ x b q k. search (rules, tests)))

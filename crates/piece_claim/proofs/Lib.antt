@@ -1,0 +1,9 @@
+pub mod Numbers
+pub mod Weights
+pub mod Draws
+pub mod Posts
+pub mod Splits
+pub mod Joins
+pub mod Bounds
+pub mod EventLaws
+pub mod Opens

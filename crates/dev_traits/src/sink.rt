@@ -1,5 +1,5 @@
 // A place that bytes are appended to.
-ghost use Rattle.std.specs.Prelude.{◌≡◌, ◌≤◌, ◌<◌, List, ℕ, Option, length, take, IfOk, OnOk, OnErr};
+ghost use Rattle.std.specs.Prelude.{◌≡◌, ◌≤◌, ◌<◌, List, [], ℕ, Option, length, take, IfOk, IsOk, OnOk, OnErr};
 ghost use Rattle.dev_traits.specs.Fault.{Counts};
 ghost use Rattle.dev_traits.specs.Told.{more, PrefixMore};
 
@@ -23,9 +23,12 @@ pub trait Sink {
         ensures counts { Counts (faults self.old) (faults self.new) result };
 }
 
-/// Appends all of `bytes`, in as many writes as the sink takes. Where a write fails, what the
-/// earlier ones appended stays.
+/// Appends all of `bytes`, in as many writes as the sink takes: none where there are no bytes. Where a
+/// write fails, what the earlier ones appended stays.
 pub fn write_all<S: Sink>(out: &mut S, bytes: &[u8]) -> Result<(), Failed>
+    ensures empty { bytes.now ≡ [] → IsOk result }
+    ensures untouched { bytes.now ≡ [] → out.new ≡ out.old }
+
     ensures ok { OnOk result (S.told out.new ≡ more (S.told out.old) bytes.now) }
     ensures prefix { OnErr result (PrefixMore (S.told out.old) bytes.now (S.told out.new)) }
     ensures counts { Counts (S.faults out.old) (S.faults out.new) result }

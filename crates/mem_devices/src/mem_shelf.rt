@@ -1,4 +1,4 @@
-ghost use Rattle.std.specs.Prelude.{◌≡◌, ◌≤◌, ◌↔◌, length, IfOk, IsErr, IsTrue, Some};
+ghost use Rattle.std.specs.Prelude.{◌≡◌, ◌≤◌, ◌↔◌, length, IfOk, OnErr, IsErr, IsTrue, Some};
 ghost use Rattle.std.specs.Option.{option_copied};
 ghost use Rattle.dev_traits.specs.Fault.{Counts};
 ghost use Rattle.dev_traits.specs.Files.{size_of, ReadsAt};
@@ -95,8 +95,10 @@ impl Shelf for MemShelf {
 
         ensures fails { IsErr result ↔ IsTrue (fails_next self.old) }
         ensures called { self.new ≡ after_call self.old }
+        ensures untouched { OnErr result (buf.new ≡ buf.old) }
     {
-        if self.fails() {
+        let failed = self.fails();
+        if failed {
             return Err(Failed);
         }
         match find(&self.files, name) {

@@ -1,1 +1,4 @@
+pub mod FileShelfState
+pub mod Opened
+pub mod Placed
 pub mod StdSinkState

@@ -3,9 +3,16 @@
 #![tactic(auto)]
 
 mod file_shelf;
+mod held_streams;
+mod named_files;
+mod path_name;
+mod placed_file;
 mod std_sink;
 #[cfg(test)]
 mod tests;
 
 pub use file_shelf::FileShelf;
+pub use held_streams::HeldStreams;
+pub use named_files::{Kind, NamedFiles, SystemFiles};
+pub use placed_file::{PlacedFile, read_full};
 pub use std_sink::StdSink;

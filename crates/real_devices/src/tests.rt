@@ -1,2 +1,3 @@
+mod loops;
 mod shelf;
 mod sink;

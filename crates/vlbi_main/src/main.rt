@@ -1,19 +1,21 @@
 //! The program `vlbi`: the devices of the operating system, and one call of `run` over them. Its first
 //! word, the journal's path, is not used yet; the other words are the command's. Standard output gets
-//! the records, standard error a refusal's line, and the exit status is the call's.
+//! the records, standard error a refusal's line, and the exit status is the call's. Where one of the
+//! standard streams is closed, no file of the program's gets its number.
 #![tactic(auto)]
 
-use real_devices::{FileShelf, StdSink};
+use real_devices::{FileShelf, HeldStreams, StdSink, SystemFiles};
 use std::env;
 use std::io::ErrorKind;
 use std::process::ExitCode;
 use vlbi_core::{Refusal, WordsFault, run, status, write_note};
 
 fn main(rt: HostRuntime) -> ExitCode {
+    let _held = HeldStreams::new(&rt);
     let mut notes = StdSink::new(rt.stderr());
     match words(&rt) {
         Ok(words) => {
-            let mut shelf = FileShelf::new(&rt);
+            let mut shelf = FileShelf::new(SystemFiles::new(&rt));
             let mut out = StdSink::new(rt.stdout());
             ExitCode::from(run(&rt, rt.alloc(), &words, &mut shelf, &mut out, &mut notes))
         }

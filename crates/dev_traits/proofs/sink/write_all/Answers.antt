@@ -1,4 +1,4 @@
-use Rattle.std.proofs.Common.{arith, length-drop, ◌∙◌}
+use Rattle.std.proofs.Common.{length, arith, length-drop, ap, ◌∙◌}
 use Rattle.std.proofs.lemmas.List.{take_rest}
 use Rattle.dev_traits.proofs.Appended.{more-take}
 use Rattle.dev_traits.proofs.sink.write_all.Goals as goal
@@ -11,4 +11,5 @@ loop-at-preserved g c =
       omega (arith, within),
       more-take _ _ _ c.args.bytes.now c.loop-at.at n c.loop-at.invariant.1 appended,
       c.in_ok-at.ensures.counts.kept ∙ c.loop-at.invariant.2,
+      λ none_given. absurd (let empty = ap length none_given in omega (arith, empty)),
     )

@@ -6,8 +6,10 @@
 //! each step. `schedule` answers that, or want of memory; statements that no step names are not read.
 #![tactic(auto)]
 
+mod chans;
 mod fault;
 mod list;
+mod part;
 mod quantities;
 mod scan;
 mod scans;
@@ -16,6 +18,7 @@ mod statements;
 mod stay;
 mod values;
 
+pub use chans::ChanList;
 pub use fault::{SchedFault, SchedKind};
 pub use list::ScanList;
 pub use scan::{Chan, Pass, Scan};

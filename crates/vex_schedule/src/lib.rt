@@ -3,7 +3,8 @@
 //! file, `num_time` for numbers, times and names, and `item_list` for lists.
 //!
 //! `specs/Schedule.antt` says which scans a file has, or which fault is the first, a definition for
-//! each step. `schedule` answers that, or want of memory; statements that no step names are not read.
+//! each step. `schedule` answers that, or want of memory; statements that no step names are not read. A def of `$FREQ` is read
+//! once, however many stations it sets up, and these share its channels.
 #![tactic(auto)]
 
 mod chans;

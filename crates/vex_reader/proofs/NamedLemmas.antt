@@ -1,5 +1,7 @@
 -- Things by their names, as the entries of a map.
-use Rattle.std.proofs.Common.{◌≡◌, ◌≢◌, ℕ, Bool, true, false, cond, List, [], ◌∷◌, map, None, Some, ap, refl, ◌∙◌, bytes_eq}
+use Rattle.std.proofs.Common.{◌≡◌, ◌≢◌, ℕ, Bool, true, false, cond, List, [], ◌∷◌, map, None, Some, ap, refl, sym, ◌∙◌, bytes_eq, is_some, slice_get}
+use Rattle.std.specs.Prelude.{Option, option_map, IfSome, IfNone}
+use Rattle.std.proofs.lemmas.Option.{slice_get-map}
 use Rattle.std.specs.Global.{Vec}
 use Rattle.std.specs.List.{IsDistinct, AllByRecursion, AllPairs}
 use Rattle.std.specs.Map.{keys_of, lookup}
@@ -17,6 +19,28 @@ module _ {A : Type 0} where
   pub lookup-things : (name : List ℕ) (es : List (Vec ℕ × A)) → lookup (λ k. bytes_eq name k.items) es ≡ named (things es) name
   lookup-things name [] = refl
   lookup-things name (e ∷ es) = λ i. cond (nat_list_eq_equiv.symm name e.0.items i) (Some e.1) (lookup-things name es i)
+
+  values-things : (es : List (Vec ℕ × A)) → map (λ x. x.1) (things es) ≡ map (λ e. e.1) es
+  values-things [] = refl
+  values-things (e ∷ es) = ap (λ xs. e.1 ∷ xs) (values-things es)
+
+  -- the map's value at a place is the thing there
+  value_at : (es : List (Vec ℕ × A)) (i : ℕ) → option_map (λ x. x.1) (slice_get (things es) i) ≡ slice_get (map (λ e. e.1) es) i
+  value_at es i = sym (slice_get-map (λ x. x.1) (things es) i) ∙ ap (λ xs. slice_get xs i) (values-things es)
+
+  pub place-there : (name : List ℕ) (es : List (Vec ℕ × A)) (place : Option ℕ) → IfSome place (λ i. slice_get (map (λ e. e.1) es) i ≡ lookup (λ k. bytes_eq name k.items) es)
+      → IfSome place (λ i. option_map (λ x. x.1) (slice_get (things es) i) ≡ named (things es) name)
+  place-there name es None h = h
+  place-there name es (Some i) h = value_at es i ∙ h ∙ lookup-things name es
+
+  pub place-none : (name : List ℕ) (es : List (Vec ℕ × A)) (place : Option ℕ) → is_some place ≡ is_some (lookup (λ k. bytes_eq name k.items) es)
+      → IfNone place (named (things es) name ≡ None)
+  place-none name es (Some i) h = tt
+  place-none name es None h = sym (lookup-things name es) ∙ nothing (lookup (λ k. bytes_eq name k.items) es) h
+    where
+      nothing : (o : Option A) → is_some {T = ℕ} None ≡ is_some o → o ≡ None
+      nothing None e = refl
+      nothing (Some x) e = absurd cc
 
   -- the map's `insert` puts the thing under the name
   pub things-insert_entry : (es : List (Vec ℕ × A)) (k : Vec ℕ) (thing : A) → things (insert_entry (λ x y. bytes_eq x.items y.items) es k thing) ≡ put (things es) k.items thing

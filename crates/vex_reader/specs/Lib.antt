@@ -4,3 +4,4 @@ pub mod Shapes
 pub mod Reading
 pub mod ReadingState
 pub mod Grammar
+pub mod Laws

@@ -3,11 +3,13 @@
 //! lists and on `indexmap` for things found by name.
 //!
 //! `specs/Reading.antt` says what the statements of a text say, one after another, and which has the
-//! first fault. `read` answers that file, or that fault with its place, and else only want of memory.
+//! first fault. A text stands for one file or has one fault, and never both (`laws`). `read` answers that file, or that fault with
+//! its place, and else only want of memory.
 #![tactic(auto)]
 
 mod fault;
 mod file;
+pub mod laws;
 mod named;
 mod parts;
 mod pass;

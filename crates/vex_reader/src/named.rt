@@ -1,5 +1,5 @@
 // Things by their names.
-ghost use Rattle.std.specs.Prelude.{◌≡◌, ◌≢◌, ◌<◌, [], Some, IfOk, OnOk, option_copied, length, slice_get, is_some, AllPairs};
+ghost use Rattle.std.specs.Prelude.{◌≡◌, ◌≢◌, ◌<◌, [], None, Some, IfSome, IfNone, IfOk, OnOk, option_copied, option_map, length, slice_get, is_some, AllPairs};
 ghost use Rattle.vex_reader.specs.File.{named, names, put};
 
 use indexmap::IndexMap;
@@ -22,7 +22,7 @@ impl<T> Model for Named<T> {
 
 impl<T> Named<T> {
     /// No things.
-    pub(crate) fn new(alloc: Global) -> Self
+    pub fn new(alloc: Global) -> Self
         ensures { result ≡ [] }
     {
         Named {
@@ -38,10 +38,19 @@ impl<T> Named<T> {
     }
 
     /// Whether there is a thing of this name.
-    pub(crate) fn has(&self, name: &[u8]) -> bool
+    pub fn has(&self, name: &[u8]) -> bool
         ensures { result ≡ is_some (named self.now name.now) }
     {
         self.things.contains_key(name)
+    }
+
+    /// The place of the thing of this name, counted from 0.
+    pub fn place(&self, name: &[u8]) -> Option<usize>
+        ensures within { IfSome result (λ i. i < length self.now) }
+        ensures there { IfSome result (λ i. option_map (λ x. x.1) (slice_get self.now i) ≡ named self.now name.now) }
+        ensures none { IfNone result (named self.now name.now ≡ None) }
+    {
+        self.things.get_index_of(name)
     }
 
     /// How many things there are. No two of them have one name.
@@ -65,12 +74,7 @@ impl<T> Named<T> {
 
 impl<T: Drop> Named<T> {
     /// Puts a thing under a name, and gives what stood there. A new name goes last.
-    pub(crate) fn put(
-        &mut self,
-        alloc: Global,
-        name: &[u8],
-        thing: T,
-    ) -> Result<Option<T>, AllocError>
+    pub fn put(&mut self, alloc: Global, name: &[u8], thing: T) -> Result<Option<T>, AllocError>
         ensures put { OnOk result (self.new ≡ put self.old name.now thing) }
         ensures before { IfOk result (λ before. before ≡ named self.old name.now) }
     {

@@ -1,4 +1,5 @@
 pub mod Lists
 pub mod Names
+pub mod Setups
 pub mod Reading
 pub mod Turns

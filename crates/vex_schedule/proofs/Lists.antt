@@ -1,7 +1,7 @@
 -- Lists by their length.
 use Rattle.std.proofs.Common.{◌≡◌, ℕ, ◌+◌, ◌<◌, List, [], ◌∷◌, ◌++◌, length, get_or, map, take, drop, slice_get, Some, None, arith, refl, sym, ap, ◌∙◌, add-one}
 use Rattle.std.proofs.Math.Seq.{drop-cons}
-use Rattle.std.proofs.lemmas.List.{map_more}
+use Rattle.std.proofs.lemmas.List.{map_more, map_push}
 use Rattle.std.proofs.lemmas.Option.{get_or_from_slice_get}
 use Rattle.vex_schedule.specs.Quantities.{cut, number_and_unit}
 use Rattle.vex_schedule.specs.Values.{sole}
@@ -53,3 +53,13 @@ pub map-take_more : {A B : Type 0} (f : A → B) (xs : List A) (i : ℕ) (x : A)
 map-take_more f xs i x less is =
     let here : get_or xs i x ≡ x = get_or_from_slice_get xs i x x is in
     map_more f xs i x less ∙ ap (λ y. map f (take i xs) ++ f y ∷ []) here
+
+-- two lists that say the same, one more of each
+pub same-push : {A B C : Type 0} (f : A → C) (g : B → C) (ones more : List A) (a : A) (xs : List B) (i : ℕ) (x : B) → map f ones ≡ map g (take i xs) → f a ≡ g x
+    → i < length xs → slice_get xs i ≡ Some x → more ≡ ones ++ a ∷ [] → map f more ≡ map g (take (i + 1) xs)
+same-push f g ones more a xs i x so_far same less is pushed =
+    ap (map f) pushed
+    ∙ map_push f ones a
+    ∙ ap (λ front. front ++ f a ∷ []) so_far
+    ∙ ap (λ last. map g (take i xs) ++ last ∷ []) same
+    ∙ sym (map-take_more g xs i x less is)

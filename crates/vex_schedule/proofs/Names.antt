@@ -1,5 +1,6 @@
--- Names that differ.
-use Rattle.std.proofs.Common.{◌≡◌, ◌≢◌, ℕ, ◌<◌, true, false, List, [], ◌∷◌, ◌++◌, length, map, get_or, AllPairs, bytes_eq, arith, sym, ◌∙◌}
+-- Names that differ, and the names beside a list of things.
+use Rattle.std.proofs.Common.{◌≡◌, ◌≢◌, ℕ, ◌<◌, true, false, List, [], ◌∷◌, ◌++◌, length, map, get_or, AllPairs, bytes_eq, is_some, None, Some, cond, Bool, ◌||◌, arith, sym, ap, refl, ◌∙◌}
+use Rattle.vex_reader.specs.File.{named, names, put}
 use Rattle.std.specs.List.{list_any}
 use Rattle.std.proofs.lemmas.List.{map_push, get_or-map, length-map}
 use Rattle.std.proofs.lemmas.List.Folds.{list_any_at}
@@ -18,3 +19,40 @@ names-push name xs x differ new =
     let found : list_any (λ other. bytes_eq (name other) (name x)) xs ≡ true = list_any_at (λ other. bytes_eq (name other) (name x)) xs k x within equal in
     absurd cc in
     rw (map_push name xs x) (all_pairs_push (λ a b. a ≢ b) (map name xs) (name x) differ differs)
+
+-- a new name goes behind the others
+pub names-put : {T : Type 0} (xs : List (List ℕ × T)) (name : List ℕ) (thing : T) → named xs name ≡ None → names (put xs name thing) ≡ names xs ++ name ∷ []
+names-put [] name thing new = refl
+names-put {T} (x ∷ xs) name thing new = by (bytes_eq x.0 name) refl (names-put xs name thing)
+  where
+    by : (b : Bool) → bytes_eq x.0 name ≡ b → (named xs name ≡ None → names (put xs name thing) ≡ names xs ++ name ∷ [])
+        → names (cond b ((x.0, thing) ∷ xs) (x ∷ put xs name thing)) ≡ x.0 ∷ (names xs ++ name ∷ [])
+    by true e rest = absurd (let there : named (x ∷ xs) name ≡ Some x.1 = λ i. cond (e i) (Some x.1) (named xs name) in cc)
+    by false e rest =
+        let behind : named xs name ≡ None = sym (λ i. cond (e i) (Some x.1) (named xs name)) ∙ new in
+        ap (λ others. x.0 ∷ others) (rest behind)
+
+any_name : {T : Type 0} (xs : List (List ℕ × T)) (name : List ℕ) → list_any (λ other. bytes_eq other name) (names xs) ≡ is_some (named xs name)
+any_name [] name = refl
+any_name (x ∷ xs) name = by (bytes_eq x.0 name) (any_name xs name)
+  where
+    by : (b : Bool) → list_any (λ other. bytes_eq other name) (names xs) ≡ is_some (named xs name)
+        → (b || list_any (λ other. bytes_eq other name) (names xs)) ≡ is_some (cond b (Some x.1) (named xs name))
+    by true rest = refl
+    by false rest = rest
+
+any_map : {A : Type 0} (name_of : A → List ℕ) (ones : List A) (name : List ℕ) → list_any (λ other. bytes_eq (name_of other) name) ones ≡ list_any (λ other. bytes_eq other name) (map name_of ones)
+any_map name_of [] name = refl
+any_map name_of (a ∷ ones) name = ap (λ b. bytes_eq (name_of a) name || b) (any_map name_of ones name)
+
+-- whether one of some things has a name, where their names stand beside them
+pub beside : {A T : Type 0} (name_of : A → List ℕ) (ones : List A) (xs : List (List ℕ × T)) (name : List ℕ) → names xs ≡ map name_of ones
+    → list_any (λ other. bytes_eq (name_of other) name) ones ≡ is_some (named xs name)
+beside name_of ones xs name same =
+    any_map name_of ones name ∙ ap (list_any (λ other. bytes_eq other name)) (sym same) ∙ any_name xs name
+
+-- and they stand beside them when one more is put there
+pub beside-push : {A T : Type 0} (name_of : A → List ℕ) (ones : List A) (a : A) (xs ys : List (List ℕ × T)) (thing : T) → names xs ≡ map name_of ones → named xs (name_of a) ≡ None
+    → ys ≡ put xs (name_of a) thing → names ys ≡ map name_of (ones ++ a ∷ [])
+beside-push name_of ones a xs ys thing same new puts =
+    ap names puts ∙ names-put xs (name_of a) thing new ∙ ap (λ front. front ++ name_of a ∷ []) same ∙ sym (map_push name_of ones a)

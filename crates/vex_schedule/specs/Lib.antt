@@ -5,3 +5,4 @@ pub mod Values
 pub mod Statements
 pub mod Schedule
 pub mod Sound
+pub mod Setups

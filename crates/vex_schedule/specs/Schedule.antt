@@ -1,7 +1,8 @@
 -- The schedule of a VEX file: its scans, with the second at which each starts, the stations that take part, and the
 -- sample rate and the channels of each station by the scan's mode.
-use Rattle.std.specs.Prelude.{ℕ, ℤ, pos, int_le, Bool, not, ◌&&◌, if◌then◌else◌, List, [], filter, codes, bytes_eq, Option, None, option_and_then, Result, Ok, Err}
+use Rattle.std.specs.Prelude.{ℕ, ℤ, pos, int_le, Bool, not, ◌&&◌, if◌then◌else◌, List, [], filter, codes, bytes_eq, Option, None, Result, Ok, Err}
 use Rattle.std.specs.List.{list_any}
+use Rattle.std.specs.Option.{option_map_or}
 use Rattle.vex_reader.specs.declared.file.Item.{Item}
 use Rattle.vex_reader.specs.declared.file.Statement.{Statement}
 use Rattle.vex_reader.specs.declared.file.VexFile.{VexFile}
@@ -16,9 +17,13 @@ use Rattle.vex_schedule.specs.Answers.{◌>>=◌, fault, given, in_turn}
 use Rattle.vex_schedule.specs.Statements.{has_key, only, is_setup}
 use Rattle.vex_schedule.specs.Values.{is_name, word_at, only_word, start_in, rate_in, stay_in, chan_in}
 
+-- the defs of a block, none where it is not there
+abbrev pub defs_in : VexFile → List ℕ → List (List ℕ × Item)
+defs_in file block = option_map_or (λ b. b.defs) (named file.blocks block) []
+
 -- the def of a name in a block, if both are there
 unfoldable pub def_of : VexFile → List ℕ → List ℕ → Option Item
-def_of file block name = option_and_then (λ b. named b.defs name) (named file.blocks block)
+def_of file block name = named (defs_in file block) name
 
 -- the second at which a scan starts
 unfoldable pub start_of : Item → Result ℤ SchedFault
@@ -49,13 +54,6 @@ stay_of before statement = do
 unfoldable pub stays_of : Item → Result (List Stay) SchedFault
 stays_of scan = in_turn stay_of [] (filter (has_key (codes "station")) scan.statements)
 
--- the def of `$FREQ` that a mode sets up for a station
-unfoldable pub setup_of : VexFile → Item → List ℕ → Result Item SchedFault
-setup_of file mode key = do
-  ref ← only mode.at (filter (is_setup key) mode.statements)
-  name ← given (word_at ref.values 0) BadValue ref.at
-  given (def_of file (codes "$FREQ") name) UnknownRef ref.at
-
 -- the sample rate of a def
 unfoldable pub setup_rate : Item → Result ℕ SchedFault
 setup_rate setup = do
@@ -72,13 +70,35 @@ chan_of before statement = do
 unfoldable pub chans_of : Item → Result (List Chan) SchedFault
 chans_of setup = in_turn chan_of [] (filter (has_key (codes "chan_def")) setup.statements)
 
+-- what a def of `$FREQ` gives a station: its sample rate and its channels
+pub record Part : Type 0 where
+  pub rate : ℕ
+  pub chans : List Chan
+
+unfoldable pub setup_in : Item → Result Part SchedFault
+setup_in setup = do
+  rate ← setup_rate setup
+  chans ← chans_of setup
+  Ok (record { rate = rate; chans = chans })
+
+-- what a ref to `$FREQ` gives
+unfoldable pub setup_at : VexFile → Statement → Result Part SchedFault
+setup_at file ref = do
+  name ← given (word_at ref.values 0) BadValue ref.at
+  setup ← given (def_of file (codes "$FREQ") name) UnknownRef ref.at
+  setup_in setup
+
+-- what a mode gives a station, by the one of its refs that covers it
+unfoldable pub setup_of : VexFile → Item → List ℕ → Result Part SchedFault
+setup_of file mode key = do
+  ref ← only mode.at (filter (is_setup key) mode.statements)
+  setup_at file ref
+
 -- the part that a station takes in a scan of a mode
 unfoldable pub pass_of : VexFile → Item → Stay → Result Pass SchedFault
 pass_of file mode stay = do
   setup ← setup_of file mode stay.key
-  rate ← setup_rate setup
-  chans ← chans_of setup
-  Ok (record { key = stay.key; from_us = stay.from_us; to_us = stay.to_us; samples = None; rate = rate; chans = chans })
+  Ok (record { key = stay.key; from_us = stay.from_us; to_us = stay.to_us; samples = None; rate = setup.rate; chans = setup.chans })
 
 -- the parts that some stations take in a scan of a mode
 unfoldable pub passes_of : VexFile → Item → List Stay → Result (List Pass) SchedFault

@@ -1,5 +1,5 @@
 -- What each schedule keeps, read from a file or made otherwise.
-use Rattle.std.specs.Prelude.{◌≢◌, ◌<◌, ◌≤◌, ◌^◌, pos, ◌≤ℤ◌, List, length, map, All, AllPairs}
+use Rattle.std.specs.Prelude.{ℕ, ◌≢◌, ◌<◌, ◌≤◌, ◌^◌, pos, ◌≤ℤ◌, List, length, map, All, AllPairs}
 use Rattle.num_time.specs.Times.{IsSecond}
 use Rattle.vex_schedule.specs.declared.scan.Chan.{Chan}
 use Rattle.vex_schedule.specs.declared.scan.Pass.{Pass}
@@ -10,6 +10,12 @@ use Rattle.vex_schedule.specs.declared.stay.Stay.{Stay}
 pub record IsChan (chan : Chan) : Type 0 where
   pub hertz : chan.hertz < 2 ^ 40
   pub band : chan.band_hertz < 2 ^ 40
+
+-- a setup's sample rate is not 0, and its channels differ in their names
+pub record IsSetup (rate : ℕ) (chans : List Chan) : Type 0 where
+  pub some : 0 < rate
+  pub each : All IsChan chans
+  pub distinct : AllPairs (λ x y. x ≢ y) (map (λ chan. chan.id) chans)
 
 -- a station starts at the scan's start or later, and does not stop before it starts
 pub record IsStay (stay : Stay) : Type 0 where

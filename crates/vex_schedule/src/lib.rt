@@ -3,11 +3,14 @@
 //! file, `num_time` for numbers, times and names, and `item_list` for lists.
 //!
 //! `specs/Schedule.antt` says which scans a file has, or which fault is the first, a definition for
-//! each step. `schedule` answers that, or want of memory; statements that no step names are not read.
+//! each step. `schedule` answers that, or want of memory; statements that no step names are not read. A def of `$FREQ` is read
+//! once, however many stations it sets up, and these share its channels.
 #![tactic(auto)]
 
+mod chans;
 mod fault;
 mod list;
+mod part;
 mod quantities;
 mod scan;
 mod scans;
@@ -16,6 +19,7 @@ mod statements;
 mod stay;
 mod values;
 
+pub use chans::ChanList;
 pub use fault::{SchedFault, SchedKind};
 pub use list::ScanList;
 pub use scan::{Chan, Pass, Scan};

@@ -1,4 +1,5 @@
 //! Scans, and what each station does in them.
+use crate::chans::ChanList;
 use item_list::ItemList;
 use num_time::Name;
 
@@ -27,7 +28,8 @@ pub struct Pass {
     pub samples: Option<u64>,
     /// Its samples a second.
     pub rate: u32,
-    pub chans: ItemList<Chan>,
+    /// The channels of its setup, which it shares with the other stations that have it.
+    pub chans: ChanList,
 }
 
 /// A scan: the stations that observe together from a second on.

@@ -3,12 +3,14 @@ ghost use Rattle.std.specs.Prelude.{◌≡◌, All, map, IfOk};
 ghost use Rattle.num_time.specs.Times.{IsSecond};
 ghost use Rattle.vex_schedule.specs.Answers.{Gives};
 ghost use Rattle.vex_schedule.specs.Schedule.{start_of, pass_of, passes_of, scan_of, scans_of, schedule_of};
+ghost use Rattle.vex_schedule.specs.Setups.{AreSetups};
 ghost use Rattle.vex_schedule.specs.Sound.{IsStay, IsPass, IsScan, AreScans};
 
 use crate::fault::{SchedFault, SchedKind};
 use crate::list::ScanList;
+use crate::part::Setup;
 use crate::scan::{Pass, Scan};
-use crate::setup::{chans_of, mode_of, setup_of, setup_rate};
+use crate::setup::{mode_of, setup_of, setups_of};
 use crate::statements::only_with;
 use crate::stay::{Stay, stays_of};
 use crate::values::{is_name, start_in};
@@ -30,22 +32,28 @@ fn start_of(scan: &Item) -> Result<i64, SchedFault>
 
 // The part that a station takes in a scan of a mode.
 #[tactic(auto, unfolding(crate::specs::Schedule::pass_of))]
-fn pass_of(alloc: Global, file: &VexFile, mode: &Item, stay: &Stay) -> Result<Pass, SchedFault>
-    requires { IsStay stay.now }
+fn pass_of(
+    alloc: Global,
+    file: &VexFile,
+    setups: &[Result<Setup, SchedFault>],
+    mode: &Item,
+    stay: &Stay,
+) -> Result<Pass, SchedFault>
+    requires stay { IsStay stay.now }
+    requires setups { AreSetups file.now setups.now }
     ensures value { Gives (λ pass. pass) result (pass_of file.now mode.now stay.now) }
     ensures sound { IfOk result IsPass }
     ensures key { IfOk result (λ pass. pass.key ≡ stay.now.key) }
 {
-    let setup = setup_of(file, mode, stay.key.bytes())?;
-    let rate = setup_rate(setup)?;
-    let chans = chans_of(alloc, setup)?;
+    let setup = setup_of(file, setups, mode, stay.key.bytes())?;
+    let chans = setup.chans.share()?;
     let key = Name::new(alloc, stay.key.bytes())?;
     Ok(Pass {
         key,
         from_us: stay.from_us,
         to_us: stay.to_us,
         samples: None,
-        rate,
+        rate: setup.rate,
         chans,
     })
 }
@@ -55,17 +63,19 @@ fn pass_of(alloc: Global, file: &VexFile, mode: &Item, stay: &Stay) -> Result<Pa
 fn passes_of(
     alloc: Global,
     file: &VexFile,
+    setups: &[Result<Setup, SchedFault>],
     mode: &Item,
     stays: &[Stay],
 ) -> Result<ItemList<Pass>, SchedFault>
-    requires { All IsStay stays.now }
+    requires stays { All IsStay stays.now }
+    requires setups { AreSetups file.now setups.now }
     ensures value { Gives (λ passes. passes) result (passes_of file.now mode.now stays.now) }
     ensures sound { IfOk result (All IsPass) }
     ensures keys { IfOk result (λ passes. map (λ pass. pass.key) passes ≡ map (λ stay. stay.key) stays.now) }
 {
     let mut passes = Vec::new(alloc);
     for stay in stays {
-        let pass = pass_of(alloc, file, mode, stay)?;
+        let pass = pass_of(alloc, file, setups, mode, stay)?;
         passes.push(pass)?;
     }
     Ok(ItemList::of(passes))
@@ -73,7 +83,14 @@ fn passes_of(
 
 // A scan by its name and its statements.
 #[tactic(auto, unfolding(crate::specs::Schedule::scan_of))]
-fn scan_of(alloc: Global, file: &VexFile, name: &[u8], scan: &Item) -> Result<Scan, SchedFault>
+fn scan_of(
+    alloc: Global,
+    file: &VexFile,
+    setups: &[Result<Setup, SchedFault>],
+    name: &[u8],
+    scan: &Item,
+) -> Result<Scan, SchedFault>
+    requires { AreSetups file.now setups.now }
     ensures value { Gives (λ scan. scan) result (scan_of file.now name.now scan.now) }
     ensures sound { IfOk result IsScan }
     ensures name { IfOk result (λ scan. scan.name ≡ name.now) }
@@ -84,7 +101,7 @@ fn scan_of(alloc: Global, file: &VexFile, name: &[u8], scan: &Item) -> Result<Sc
     let second = start_of(scan)?;
     let mode = mode_of(file, scan)?;
     let stays = stays_of(alloc, scan)?;
-    let passes = passes_of(alloc, file, mode, &stays)?;
+    let passes = passes_of(alloc, file, setups, mode, &stays)?;
     let name = Name::new(alloc, name)?;
     Ok(Scan {
         name,
@@ -98,15 +115,17 @@ fn scan_of(alloc: Global, file: &VexFile, name: &[u8], scan: &Item) -> Result<Sc
 fn scans_of(
     alloc: Global,
     file: &VexFile,
+    setups: &[Result<Setup, SchedFault>],
     items: &Named<Item>,
 ) -> Result<ItemList<Scan>, SchedFault>
+    requires { AreSetups file.now setups.now }
     ensures value { Gives (λ scans. scans) result (scans_of file.now items.now) }
     ensures sound { IfOk result AreScans }
 {
     let mut scans = Vec::new(alloc);
     for i in 0..items.len() {
         let (name, item) = items.at(i);
-        let scan = scan_of(alloc, file, name, item)?;
+        let scan = scan_of(alloc, file, setups, name, item)?;
         scans.push(scan)?;
     }
     Ok(ItemList::of(scans))
@@ -120,6 +139,7 @@ pub fn schedule(alloc: Global, file: &VexFile) -> Result<ScanList, SchedFault>
     let Some(block) = file.blocks.get(b"$SCHED") else {
         return Err(SchedFault::new(SchedKind::NoSched, 0));
     };
-    let scans = scans_of(alloc, file, &block.scans)?;
+    let setups = setups_of(alloc, file)?;
+    let scans = scans_of(alloc, file, &setups, &block.scans)?;
     Ok(ScanList { scans })
 }

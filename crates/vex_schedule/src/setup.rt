@@ -1,18 +1,20 @@
 //! Modes and setups: which def of `$FREQ` a station has, its sample rate and its channels.
-ghost use Rattle.std.specs.Prelude.{◌≡◌, ◌≢◌, ◌<◌, All, AllPairs, map, bytes_eq, false, option_copied, IfOk};
-ghost use Rattle.std.specs.List.{list_any};
-ghost use Rattle.vex_schedule.specs.Answers.{seen, Gives};
-ghost use Rattle.vex_schedule.specs.Schedule.{def_of, mode_of, setup_of, setup_rate, chan_of, chans_of};
+ghost use Rattle.std.specs.Prelude.{◌≡◌, ◌≢◌, ◌<◌, List, None, All, AllPairs, map, option_copied, option_map, length, slice_get, IfOk, IfErr, IfSome, IfNone};
+ghost use Rattle.vex_reader.specs.File.{named, names};
+ghost use Rattle.vex_schedule.specs.declared.scan.Chan.{Chan};
+ghost use Rattle.vex_schedule.specs.Answers.{seen, out_of_memory, Gives};
+ghost use Rattle.vex_schedule.specs.Schedule.{defs_in, def_of, mode_of, setup_of, setup_rate, chan_of, chans_of, setup_in};
+ghost use Rattle.vex_schedule.specs.Setups.{part_of, AreSetups};
 ghost use Rattle.vex_schedule.specs.Sound.{IsChan};
 
+use crate::chans::ChanList;
 use crate::fault::{SchedFault, SchedKind};
+use crate::part::Setup;
 use crate::scan::Chan;
 use crate::statements::{first_with, only_setup, only_with};
-use crate::values::{chan_in, is_text, only_word, rate_in, word_at};
-use item_list::ItemList;
-use num_time::Name;
+use crate::values::{chan_in, only_word, rate_in, word_at};
 use std::alloc::Global;
-use vex_reader::{Item, Statement, VexFile};
+use vex_reader::{Item, Named, Statement, VexFile};
 
 // The def of a name in a block.
 #[tactic(auto, unfolding(crate::specs::Schedule::def_of))]
@@ -20,6 +22,16 @@ fn def_of<'a>(file: &'a VexFile, block: &[u8], name: &[u8]) -> Option<&'a Item>
     ensures { option_copied result ≡ def_of file.now block.now name.now }
 {
     file.blocks.get(block)?.defs.get(name)
+}
+
+// The place of the def of a name among those of a block.
+#[tactic(auto, unfolding(crate::specs::Schedule::def_of))]
+fn def_place(file: &VexFile, block: &[u8], name: &[u8]) -> Option<usize>
+    ensures within { IfSome result (λ i. i < length (defs_in file.now block.now)) }
+    ensures there { IfSome result (λ i. option_map (λ x. x.1) (slice_get (defs_in file.now block.now) i) ≡ def_of file.now block.now name.now) }
+    ensures none { IfNone result (def_of file.now block.now name.now ≡ None) }
+{
+    file.blocks.get(block)?.defs.place(name)
 }
 
 /// The mode of a scan.
@@ -34,22 +46,6 @@ pub(crate) fn mode_of<'a>(file: &'a VexFile, scan: &Item) -> Result<&'a Item, Sc
     def_of(file, b"$MODE", name).ok_or(unknown)
 }
 
-/// The def that a mode sets up for a station.
-#[tactic(auto, unfolding(crate::specs::Schedule::setup_of))]
-pub(crate) fn setup_of<'a>(
-    file: &'a VexFile,
-    mode: &Item,
-    key: &[u8],
-) -> Result<&'a Item, SchedFault>
-    ensures { seen (λ setup. setup.now) result ≡ setup_of file.now mode.now key.now }
-{
-    let statement = only_setup(mode.statements.items(), key, mode.at)?;
-    let bad = SchedFault::new(SchedKind::BadValue, statement.at);
-    let name = word_at(statement.values.items(), 0).ok_or(bad)?;
-    let unknown = SchedFault::new(SchedKind::UnknownRef, statement.at);
-    def_of(file, b"$FREQ", name).ok_or(unknown)
-}
-
 /// The sample rate of a setup.
 #[tactic(auto, unfolding(crate::specs::Schedule::setup_rate))]
 pub(crate) fn setup_rate(setup: &Item) -> Result<u32, SchedFault>
@@ -61,26 +57,18 @@ pub(crate) fn setup_rate(setup: &Item) -> Result<u32, SchedFault>
     rate_in(statement.values.items()).ok_or(bad)
 }
 
-// Whether a channel of this name is there.
-fn has_id(chans: &[Chan], id: &Name) -> bool
-    ensures { result ≡ list_any (λ chan. bytes_eq chan.id id.now) chans.now }
-{
-    chans
-        .iter()
-        .any(|chan| is_text(chan.id.bytes(), id.bytes()))
-}
-
-// A channel, behind those that were defined before.
+// A channel, behind those that were defined before, whose names are these.
 #[tactic(auto, unfolding(crate::specs::Schedule::chan_of))]
-fn chan_of(alloc: Global, before: &[Chan], statement: &Statement) -> Result<Chan, SchedFault>
-    ensures value { Gives (λ chan. chan) result (chan_of before.now statement.now) }
+fn chan_of(alloc: Global, ids: &Named<()>, statement: &Statement) -> Result<Chan, SchedFault>
+    ensures value { (before : List Chan) → names ids.now ≡ map (λ chan. chan.id) before
+        → Gives (λ chan. chan) result (chan_of before statement.now) }
     ensures sound { IfOk result IsChan }
-    ensures new { IfOk result (λ chan. list_any (λ other. bytes_eq other.id chan.id) before.now ≡ false) }
+    ensures new { IfOk result (λ chan. named ids.now chan.id ≡ None) }
 {
     let Some(chan) = chan_in(alloc, statement.values.items())? else {
         return Err(SchedFault::new(SchedKind::BadValue, statement.at));
     };
-    if has_id(before, &chan.id) {
+    if ids.has(chan.id.bytes()) {
         return Err(SchedFault::new(SchedKind::DoubleStatement, statement.at));
     }
     Ok(chan)
@@ -88,17 +76,81 @@ fn chan_of(alloc: Global, before: &[Chan], statement: &Statement) -> Result<Chan
 
 /// The channels of a setup.
 #[tactic(auto, unfolding(crate::specs::Schedule::chans_of))]
-pub(crate) fn chans_of(alloc: Global, setup: &Item) -> Result<ItemList<Chan>, SchedFault>
+pub(crate) fn chans_of(alloc: Global, setup: &Item) -> Result<ChanList, SchedFault>
     ensures value { Gives (λ chans. chans) result (chans_of setup.now) }
     ensures sound { IfOk result (All IsChan) }
     ensures distinct { IfOk result (λ chans. AllPairs (λ x y. x ≢ y) (map (λ chan. chan.id) chans)) }
 {
     let mut chans = Vec::new(alloc);
+    let mut ids = Named::new(alloc);
     let mut rest = setup.statements.items();
     while let Some((statement, behind)) = first_with(rest, b"chan_def") {
-        let chan = chan_of(alloc, &chans, statement)?;
+        let chan = chan_of(alloc, &ids, statement)?;
+        ids.put(alloc, chan.id.bytes(), ())?;
         chans.push(chan)?;
         rest = behind;
     }
-    Ok(ItemList::of(chans))
+    Ok(ChanList::of(alloc, chans)?)
+}
+
+// What a def of `$FREQ` gives a station.
+#[tactic(auto, unfolding(crate::specs::Schedule::setup_in))]
+fn setup_in(alloc: Global, def: &Item) -> Result<Setup, SchedFault>
+    ensures { Gives part_of result (setup_in def.now) }
+{
+    let rate = setup_rate(def)?;
+    let chans = chans_of(alloc, def)?;
+    Ok(Setup { rate, chans })
+}
+
+// What a def of `$FREQ` gives a station, or its fault; want of memory is an answer by itself.
+fn settled(alloc: Global, def: &Item) -> Result<Result<Setup, SchedFault>, SchedFault>
+    ensures settled { IfOk result (λ answer. seen part_of answer ≡ setup_in def.now) }
+    ensures memory { IfErr result (λ fault. fault ≡ out_of_memory) }
+{
+    match setup_in(alloc, def) {
+        Err(fault) if fault.kind == SchedKind::Memory => Err(SchedFault::new(SchedKind::Memory, 0)),
+        answer => Ok(answer),
+    }
+}
+
+/// What the defs of `$FREQ` give stations, each read once, in the block's order.
+pub(crate) fn setups_of(
+    alloc: Global,
+    file: &VexFile,
+) -> Result<Vec<Result<Setup, SchedFault>>, SchedFault>
+    ensures settled { IfOk result (λ setups. AreSetups file.now setups.items) }
+    ensures memory { IfErr result (λ fault. fault ≡ out_of_memory) }
+{
+    let mut setups = Vec::new(alloc);
+    let Some(block) = file.blocks.get(b"$FREQ") else {
+        return Ok(setups);
+    };
+    for i in 0..block.defs.len() {
+        let (_, def) = block.defs.at(i);
+        setups.push(settled(alloc, def)?)?;
+    }
+    Ok(setups)
+}
+
+/// What a mode gives a station.
+#[tactic(auto, unfolding(crate::specs::Schedule::setup_of, crate::specs::Schedule::setup_at))]
+pub(crate) fn setup_of<'a>(
+    file: &VexFile,
+    setups: &'a [Result<Setup, SchedFault>],
+    mode: &Item,
+    key: &[u8],
+) -> Result<&'a Setup, SchedFault>
+    requires { AreSetups file.now setups.now }
+    ensures { seen (λ setup. part_of setup.now) result ≡ setup_of file.now mode.now key.now }
+{
+    let statement = only_setup(mode.statements.items(), key, mode.at)?;
+    let bad = SchedFault::new(SchedKind::BadValue, statement.at);
+    let name = word_at(statement.values.items(), 0).ok_or(bad)?;
+    let unknown = SchedFault::new(SchedKind::UnknownRef, statement.at);
+    let place = def_place(file, b"$FREQ", name).ok_or(unknown)?;
+    match &setups[place] {
+        Ok(setup) => Ok(setup),
+        Err(fault) => Err(*fault),
+    }
 }

@@ -1,4 +1,5 @@
 use Rattle.std.proofs.Common.{◌≡◌, ◌≢◌, filter, length, map, codes, All, AllPairs}
+use Rattle.vex_reader.specs.File.{names}
 use Rattle.vex_schedule.specs.Answers.{in_turn}
 use Rattle.vex_schedule.specs.Statements.{has_key}
 use Rattle.vex_schedule.specs.Schedule.{chan_of, chans_of}
@@ -9,6 +10,7 @@ abbrev pub invariant-loop-statement : goal.invariant-loop-statement
 invariant-loop-statement l = record {
   so_far : in_turn chan_of l.chans.items (filter (has_key (codes "chan_def")) l.rest) ≡ chans_of l.setup;
   sound : All IsChan l.chans.items;
+  beside : names l.ids ≡ map (λ chan. chan.id) l.chans.items;
   distinct : AllPairs (λ x y. x ≢ y) (map (λ chan. chan.id) l.chans.items);
 }
 

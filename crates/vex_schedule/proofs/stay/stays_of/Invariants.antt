@@ -1,4 +1,5 @@
 use Rattle.std.proofs.Common.{◌≡◌, ◌≢◌, filter, length, map, codes, All, AllPairs}
+use Rattle.vex_reader.specs.File.{names}
 use Rattle.vex_schedule.specs.Answers.{in_turn}
 use Rattle.vex_schedule.specs.Statements.{has_key}
 use Rattle.vex_schedule.specs.Schedule.{stay_of, stays_of}
@@ -9,6 +10,7 @@ abbrev pub invariant-loop-statement : goal.invariant-loop-statement
 invariant-loop-statement l = record {
   so_far : in_turn stay_of l.stays.items (filter (has_key (codes "station")) l.rest) ≡ stays_of l.scan;
   sound : All IsStay l.stays.items;
+  beside : names l.keys ≡ map (λ stay. stay.key) l.stays.items;
   distinct : AllPairs (λ x y. x ≢ y) (map (λ stay. stay.key) l.stays.items);
 }
 

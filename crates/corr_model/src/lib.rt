@@ -17,6 +17,3 @@ pub use levels::{level, sample_at};
 pub use plain::plain_cell;
 pub use records::RecordAt;
 pub use values::Values;
-
-#[cfg(test)]
-mod tests;

@@ -15,6 +15,3 @@ pub use cell::{Cell, Pair};
 pub use plain::plain_cell;
 pub use records::RecordAt;
 pub use values::Values;
-
-#[cfg(test)]
-mod tests;

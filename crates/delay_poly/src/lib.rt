@@ -9,6 +9,3 @@ mod poly;
 
 pub use entry::{PolyEntry, PolyList};
 pub use poly::Poly;
-
-#[cfg(test)]
-mod tests;

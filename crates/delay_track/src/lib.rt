@@ -14,6 +14,3 @@ mod track;
 pub use line::nearest;
 pub use model::StationModel;
 pub use track::Track;
-
-#[cfg(test)]
-mod tests;

@@ -9,6 +9,3 @@ mod rotation;
 
 pub use phase::sector;
 pub use rotation::rotate;
-
-#[cfg(test)]
-mod tests;

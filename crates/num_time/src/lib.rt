@@ -17,6 +17,3 @@ pub use name::Name;
 pub use numerals::{NumFault, decimal};
 pub use quotients::floor_div;
 pub use times::{TimeFault, vex_second};
-
-#[cfg(test)]
-mod tests;

@@ -9,6 +9,3 @@ mod entry;
 
 pub use clock::clock_at;
 pub use entry::{ClockEntry, ClockList};
-
-#[cfg(test)]
-mod tests;

@@ -11,6 +11,3 @@ mod shape;
 pub use header::Header;
 pub use place::first_sample;
 pub use shape::{Field, Shape, agrees};
-
-#[cfg(test)]
-mod tests;

@@ -1,0 +1,197 @@
+//! The entries of a station, and the delays by them.
+ghost use Rattle.std.specs.Prelude.{◌≡◌, IfSome};
+
+use crate::text::numbers;
+use anyhow::{Context, Result, bail};
+use delay_poly::{Poly, PolyEntry, PolyList};
+use delay_track::{StationModel, Track};
+use station_clock::{ClockEntry, ClockList};
+use std::alloc::Global;
+use std::io;
+
+// The second at which each scan starts: 00:00 of 1 January 2010.
+const START: i64 = 1_262_304_000;
+
+/// A station's entries, and the scan that they are for.
+#[derive(Drop)]
+pub struct Entries {
+    polys: PolyList,
+    clocks: ClockList,
+    rate: u32,
+    knot: u32,
+    samples: u64,
+}
+
+impl Entries {
+    pub fn new(alloc: Global) -> Entries {
+        Entries {
+            polys: PolyList::new(alloc),
+            clocks: ClockList::new(alloc),
+            rate: 1,
+            knot: 1,
+            samples: 0,
+        }
+    }
+
+    /// Prints the answer to a line of these; false where its word is another.
+    pub fn read(&mut self, rt: &impl Print, alloc: Global, word: &str, rest: &str) -> Result<bool> {
+        match word {
+            "station" => {
+                *self = Entries::new(alloc);
+                println!(rt; "no entries")?;
+            }
+            "scan" => {
+                self.set_scan(&numbers(alloc, rest)?)?;
+                println!(rt; "set")?;
+            }
+            "add_poly" => println!(rt; "{}", self.add_poly(&numbers(alloc, rest)?)?)?,
+            "add_clock" => println!(rt; "{}", self.add_clock(&numbers(alloc, rest)?)?)?,
+            "poly_for" => print_poly(rt, self.polys.entry_for(rest.parse::<i64>()?))?,
+            "clock_for" => print_clock(rt, self.clocks.entry_for(rest.parse::<i64>()?))?,
+            "has" => self.print_has(rt)?,
+            "delay" => self.print_delay(rt, rest.parse::<u64>()?)?,
+            _ => return Ok(false),
+        }
+        Ok(true)
+    }
+
+    // The samples in a second, those from one knot to the next, and those of the scan.
+    fn set_scan(&mut self, values: &[i64]) -> Result<()> {
+        let [rate, knot, samples] = values else {
+            bail!("rate, knot and samples");
+        };
+        self.rate = u32::try_from(*rate)?;
+        self.knot = u32::try_from(*knot)?;
+        self.samples = u64::try_from(*samples)?;
+        Ok(())
+    }
+
+    fn add_poly(&mut self, values: &[i64]) -> Result<bool> {
+        let (second, coeffs) = values.split_first().context("a second")?;
+        let poly = Poly::new(coeffs).context("no polynomial")?;
+        Ok(
+            self.polys.add(PolyEntry {
+                second: *second,
+                poly,
+            })?,
+        )
+    }
+
+    fn add_clock(&mut self, values: &[i64]) -> Result<bool> {
+        let [second, c0, c1] = values else {
+            bail!("second, offset and drift");
+        };
+        Ok(
+            self.clocks.add(ClockEntry {
+                second: *second,
+                c0: *c0,
+                c1: *c1,
+            })?,
+        )
+    }
+
+    // Whether the scan has a model, and whether it has a clock too.
+    fn print_has(&self, rt: &impl Print) -> Result<()> {
+        let model = model(
+            &self.polys,
+            &self.clocks,
+            self.rate,
+            self.knot,
+            self.samples,
+        )
+        .context("out of range")?;
+        if !model.has_model() {
+            println!(rt; "no model")?;
+        } else if !model.has_clock() {
+            println!(rt; "a model, no clock")?;
+        } else {
+            println!(rt; "a model and a clock")?;
+        }
+        Ok(())
+    }
+
+    // The delay at a sample, and its whole samples.
+    fn print_delay(&self, rt: &impl Print, n: u64) -> Result<()> {
+        let track = track(
+            &self.polys,
+            &self.clocks,
+            self.rate,
+            self.knot,
+            self.samples,
+        )
+        .context("no model or no clock")?;
+        if n >= self.samples {
+            bail!("no such sample");
+        }
+        println!(rt; "{} {}", track.delay(n), track.whole(n))?;
+        Ok(())
+    }
+}
+
+// The model of these entries in a scan from `START` on, None where something is out of its range.
+fn model<'a>(
+    polys: &'a PolyList,
+    clocks: &'a ClockList,
+    rate: u32,
+    knot: u32,
+    samples: u64,
+) -> Option<StationModel<'a>>
+    ensures { IfSome result (λ m. m.samples ≡ samples) }
+{
+    let in_years = |second: i64| 0 <= second && second < 4_102_444_800;
+    let polys_fit = polys.entries().iter().all(|e| in_years(e.second));
+    let clocks_fit = clocks.entries().iter().all(|c| {
+        in_years(c.second) && c.c0.unsigned_abs() < 1 << 57 && c.c1.unsigned_abs() < 1 << 25
+    });
+    if polys_fit
+        && clocks_fit
+        && rate > 0
+        && 1 <= knot
+        && knot <= 1 << 24
+        && samples <= 1 << 40
+        && samples <= (1 << 27) * u64::from(rate)
+    {
+        Some(StationModel {
+            polys,
+            clocks,
+            second: START,
+            rate,
+            knot,
+            samples,
+        })
+    } else {
+        None
+    }
+}
+
+// The track of these entries, None where it has no model or no clock.
+fn track<'a>(
+    polys: &'a PolyList,
+    clocks: &'a ClockList,
+    rate: u32,
+    knot: u32,
+    samples: u64,
+) -> Option<Track<'a>>
+    ensures { IfSome result (λ t. t.samples ≡ samples) }
+{
+    let model = model(polys, clocks, rate, knot, samples)?;
+    if !model.has_model() || !model.has_clock() {
+        return None;
+    }
+    Some(model.track())
+}
+
+// A polynomial's second, and its values at the first knot and at the last.
+fn print_poly(rt: &impl Print, entry: Option<PolyEntry>) -> io::Result<()> {
+    match entry {
+        None => println!(rt; "none"),
+        Some(e) => println!(rt; "{} {} {}", e.second, e.poly.at(0), e.poly.at(1 << 24)),
+    }
+}
+
+fn print_clock(rt: &impl Print, entry: Option<ClockEntry>) -> io::Result<()> {
+    match entry {
+        None => println!(rt; "none"),
+        Some(e) => println!(rt; "{} {} {}", e.second, e.c0, e.c1),
+    }
+}

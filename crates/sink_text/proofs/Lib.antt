@@ -1,0 +1,2 @@
+pub mod AppendedText
+pub mod WrittenText

@@ -1,0 +1,3 @@
+pub mod Appends
+pub mod Written
+pub mod Pieces

@@ -1,8 +1,8 @@
 ghost use Rattle.std.specs.Prelude.{None};
 
 use super::*;
-use mem_devices::MemSink;
 use dev_traits::{Failed, Sink};
+use mem_devices::MemSink;
 use std::test::*;
 
 // A sink that keeps the length of each of its first eight writes.

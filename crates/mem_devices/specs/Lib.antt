@@ -1,0 +1,5 @@
+pub mod MemDiskImages
+pub mod MemDiskPlan
+pub mod MemDiskRecord
+pub mod MemDiskState
+pub mod MemDiskWords

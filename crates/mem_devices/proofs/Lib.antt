@@ -1,0 +1,3 @@
+pub mod MemDiskComes
+pub mod MemDiskFile
+pub mod MemDiskReplay

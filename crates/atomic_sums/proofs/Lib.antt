@@ -1,0 +1,3 @@
+pub mod RuleSteps
+pub mod Closes
+pub mod Posting

@@ -1,7 +1,6 @@
 -- At the close one seat has all shares, so every piece is in it.
-use Rattle.std.proofs.Common.{◌≡◌, ◌<◌, ◌≤◌, ℕ, zero, suc, ◌+◌, min, List, [], ◌∷◌, ◌++◌, length, get_or, map, drop, Bool, true, false, None, if◌then◌else◌, refl, sym, ap, ◌∙◌, subst, arith, ⊎_elim, All}
-use Rattle.std.specs.List.{sum_by, range_with_len}
-use Rattle.std.specs.Option.{option_to_list}
+use Rattle.std.proofs.Common.{◌≡◌, ◌<◌, ℕ, zero, suc, min, List, [], ◌∷◌, length, get_or, drop, Bool, true, false, None, if◌then◌else◌, refl, sym, ap, ◌∙◌, arith, All}
+use Rattle.std.specs.List.{sum_by}
 use Rattle.std.proofs.lemmas.List.{get_or_default}
 use Rattle.std.proofs.lemmas.List.FromFn.{fill_by_all}
 use Rattle.std.proofs.lemmas.List.Sums.{sum_by-cons, get_or-le-sum_by}
@@ -10,10 +9,9 @@ use mathlib.Core.Option.{some}
 use lib.ListN.{get_elem?}
 use Rattle.piece_claim.specs.declared.sizes.Sizes.{Sizes}
 use Rattle.piece_claim.specs.State.{Piece, Seat, BoardState, pieces, sums, ended_seat, seat_at, held_by, weight, has_number, amount_at, live_shares}
-use Rattle.piece_claim.specs.Invariant.{IsSound}
 use Rattle.piece_claim.proofs.Weights.{part_free, live_inside}
-use Rattle.atomic_sums.specs.Views.{SeatView, times_in}
-use Rattle.atomic_sums.specs.Rule.{Keeps, state_in}
+use Rattle.atomic_sums.specs.Views.{SeatView}
+use Rattle.atomic_sums.specs.Rule.{Keeps}
 use Rattle.atomic_sums.specs.Seats.{EachOnce, LastState}
 use Rattle.atomic_sums.specs.Sums.{totals_of}
 use Rattle.atomic_sums.proofs.RuleSteps.{Table1, at_seat, state_of}

@@ -1,5 +1,5 @@
 -- A piece in hand grows by one amount a step.
-use Rattle.std.proofs.Common.{◌≡◌, ◌≢◌, ◌<◌, ◌≤◌, ℕ, zero, suc, ◌+◌, ◌*◌, ◌/◌, ◌^◌, List, [], ◌∷◌, ◌++◌, length, get_or, drop, take, Bool, true, false, Option, None, Some, IsSome, if◌then◌else◌, eqb, eq-eqb, ne_eqb, refl, sym, ap, ◌∙◌, subst, arith}
+use Rattle.std.proofs.Common.{◌≡◌, ◌<◌, ℕ, zero, suc, ◌+◌, ◌*◌, ◌/◌, ◌^◌, List, [], ◌∷◌, ◌++◌, length, get_or, drop, take, Option, None, Some, IsSome, if◌then◌else◌, eq-eqb, ne_eqb, refl, sym, ap, ◌∙◌, subst, arith}
 use Rattle.std.proofs.lemmas.Nat.{mul-add-lt}
 use Rattle.std.proofs.Math.Nat.{div-lt_iff_lt-mul}
 use Rattle.std.proofs.lemmas.List.{length-drop, get_or-drop, take_more}
@@ -9,7 +9,7 @@ use Rattle.piece_claim.specs.declared.sizes.Sizes.{Sizes}
 use Rattle.piece_claim.specs.State.{Piece, Seat, piece, seat, pieces, sums}
 use Rattle.piece_claim.specs.Moves.{with_piece, posted}
 use Rattle.piece_claim.specs.Invariant.{IsSizes}
-use Rattle.atomic_sums.specs.Seats.{BoardId, SeatOf, finished_with}
+use Rattle.atomic_sums.specs.Seats.{BoardId, SeatOf}
 use Rattle.atomic_sums.specs.Fields.{board_id, seat_in}
 use Rattle.atomic_sums.specs.declared.board.SumBoard.TheInside.{Inside as BoardFields}
 use Rattle.atomic_sums.specs.declared.board.BoardSeat.TheInside.{Inside as SeatFields}

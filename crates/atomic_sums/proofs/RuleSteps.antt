@@ -1,18 +1,17 @@
 -- Each step of the table is an event of the machine, and keeps the rule.
-use Rattle.std.proofs.Common.{◌≡◌, ◌≢◌, ◌⊎◌, ◌<◌, ◌≤◌, ℕ, zero, suc, ◌+◌, ◌*◌, ◌%◌, ◌^◌, min, List, [], ◌∷◌, ◌++◌, length, set, get_or, map, drop, replicate, slice_index, Bool, true, false, Option, None, Some, if◌then◌else◌, refl, sym, ap, ◌∙◌, subst, arith, ⊎_elim, All, get_or-set_same, get_or-set_other}
+use Rattle.std.proofs.Common.{◌≡◌, ◌≢◌, ◌<◌, ◌≤◌, ℕ, zero, suc, ◌+◌, ◌%◌, ◌^◌, min, List, [], ◌∷◌, ◌++◌, set, get_or, map, drop, replicate, false, refl, sym, ap, ◌∙◌, subst, arith, ⊎_elim, All, get_or-set_same, get_or-set_other}
 use Rattle.std.specs.List.{sum_by}
 use Rattle.std.proofs.lemmas.Bool.{false≢true, cases_lt}
 use Rattle.std.proofs.Math.Nat.{mod-eq_of_lt}
-use Rattle.std.proofs.lemmas.List.{length-set, length-replicate, length-map, length-drop, map-set, map-append, drop-set-lt, drop-set-add, get_or-drop, set-get_or}
-use Rattle.std.proofs.lemmas.List.Sums.{sum_by-append}
+use Rattle.std.proofs.lemmas.List.{length-set, length-replicate, map-set, map-append, drop-set-lt, drop-set-add, get_or-drop, set-get_or}
 use Rattle.std.proofs.lemmas.List.Elements.{All-set, All-push, All-cons, All-nil}
 use mathlib.Core.Option.{some, none, some-injective, some-ne-none}
 use lib.ListN.{get_elem?}
-use Rattle.atomic_table.specs.Table.{State, Me, Act, step, Allows, Splits, Joins, opening}
+use Rattle.atomic_table.specs.Table.{State, step, Allows, Splits, Joins, opening}
 use Rattle.atomic_table.specs.Table.Act.{keeps}
-use Rattle.atomic_table.proofs.Lists.{at_set, at_map, set_again}
+use Rattle.atomic_table.proofs.Lists.{at_set, set_again}
 use Rattle.piece_claim.specs.declared.sizes.Sizes.{Sizes}
-use Rattle.piece_claim.specs.State.{Piece, Seat, BoardState, board, pieces, sums, new_seat, ended_seat, seat_at, held_by, times, has_number, opening as board_opening}
+use Rattle.piece_claim.specs.State.{Seat, BoardState, board, pieces, sums, new_seat, ended_seat, seat_at, has_number}
 use Rattle.piece_claim.specs.Moves.{CanDraw, CanPost, CanSplit, CanJoin, drawn, posted, added, word_of, one_less, joined, after_draw, after_post, after_split, after_join}
 use Rattle.piece_claim.specs.Invariant.{IsSizes, IsSound}
 use Rattle.piece_claim.specs.Shown.{IsBoard}
@@ -21,7 +20,7 @@ use Rattle.piece_claim.proofs.Posts.{keeps_post}
 use Rattle.piece_claim.proofs.Splits.{keeps_split}
 use Rattle.piece_claim.proofs.Joins.{keeps_join}
 use Rattle.piece_claim.proofs.Opens.{opens}
-use Rattle.piece_claim.proofs.EventLaws.{next_fits, word_inside, word_fits}
+use Rattle.piece_claim.proofs.EventLaws.{next_fits, word_fits}
 use Rattle.piece_claim.proofs.Weights.{part, part-le-weight, live_inside}
 use Rattle.atomic_sums.specs.Views.{SeatView, Sat, seen_by, last_after, first_view, left_view, right_view, joined_view, spent_view, times_in, Draws, Posts, Learns}
 use Rattle.atomic_sums.specs.Rule.{Keeps, state_in}

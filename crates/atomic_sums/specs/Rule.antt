@@ -1,5 +1,5 @@
 -- The rule of the table: its words and the views of all seats are a state of the machine with its invariant.
-use Rattle.std.specs.Prelude.{◌≡◌, ℕ, ◌+◌, ◌*◌, ◌≤◌, List, [], map, drop, All, length, slice_index, Bool, false}
+use Rattle.std.specs.Prelude.{◌≡◌, ℕ, ◌+◌, List, map, drop, All, length, slice_index, false}
 use Rattle.atomic_table.specs.Table.{State}
 use Rattle.piece_claim.specs.declared.sizes.Sizes.{Sizes}
 use Rattle.piece_claim.specs.State.{BoardState, board, sums}

@@ -1,11 +1,10 @@
 -- What callers see of a board and of a seat.
-use Rattle.std.specs.Prelude.{◌≡◌, ℕ, ◌+◌, ◌*◌, ◌<◌, ◌≤◌, ◌^◌, List, [], ◌∷◌, ◌++◌, Bool, false, Option, Some, None, Contains, length}
-use Rattle.std.specs.List.{sum_by}
+use Rattle.std.specs.Prelude.{◌≡◌, ℕ, ◌<◌, ◌≤◌, List, [], ◌∷◌, ◌++◌, Option, Some, None, Contains}
 use Rattle.atomic_table.specs.Seated.{TableId}
 use Rattle.piece_claim.specs.declared.sizes.Sizes.{Sizes}
-use Rattle.piece_claim.specs.State.{Piece, Seat, BoardState, piece, seat, pieces, sums, sum_below}
+use Rattle.piece_claim.specs.State.{Piece, Seat, BoardState, piece, seat, pieces}
 use Rattle.piece_claim.specs.Moves.{finishing, holding}
-use Rattle.piece_claim.specs.Invariant.{IsSizes, IsSound}
+use Rattle.piece_claim.specs.Invariant.{IsSound}
 use Rattle.atomic_sums.specs.Views.{times_in}
 
 -- which board it is, and its sizes

@@ -1,10 +1,10 @@
 -- What a seat of a board knows: the board's sizes and its own state. And what each step tells it.
-use Rattle.std.specs.Prelude.{◌≡◌, ◌≢◌, ℕ, ◌+◌, ◌*◌, ◌<◌, ◌≤◌, List, [], Bool, false, Option, Some, None, nat_lt, if◌then◌else◌}
+use Rattle.std.specs.Prelude.{◌≡◌, ℕ, ◌<◌, ◌≤◌, List, Option, Some, None, nat_lt, if◌then◌else◌}
 use Rattle.std.specs.List.{sum_by}
 use Rattle.atomic_table.specs.Table.{Me, Step}
 use Rattle.piece_claim.specs.declared.sizes.Sizes.{Sizes}
 use Rattle.piece_claim.specs.State.{Piece, Seat, pieces, new_seat, ended_seat, has_number}
-use Rattle.piece_claim.specs.Moves.{holding, finishing, drawn, posted, one_less, joined}
+use Rattle.piece_claim.specs.Moves.{drawn, posted, one_less, joined}
 
 pub record SeatView : Type 0 where
   pub sizes : Sizes

@@ -1,14 +1,14 @@
-use Rattle.std.proofs.Common.{arith, ◌≡◌, ◌<◌, ◌≤◌, ℕ, ◌+◌, ◌*◌, ◌/◌, ◌%◌, ◌^◌, List, [], ◌∷◌, ◌++◌, length, take, get_or, Some, ap, ◌∙◌, sym, subst, refl}
+use Rattle.std.proofs.Common.{arith, ◌≡◌, ◌<◌, ℕ, ◌+◌, ◌*◌, ◌/◌, ◌%◌, ◌^◌, List, [], length, take, get_or, Some, ap, ◌∙◌, sym, subst, refl}
 use Rattle.std.proofs.lemmas.List.{take_more, length-take, take_all}
 use mathlib.Core.Option.{none}
 use Rattle.atomic_table.specs.Table.{step, Allows}
 use Rattle.piece_claim.specs.declared.sizes.Sizes.{Sizes}
-use Rattle.piece_claim.specs.State.{Seat, piece, seat, sums}
+use Rattle.piece_claim.specs.State.{Seat, piece, seat}
 use Rattle.piece_claim.specs.Moves.{CanPost, posted, with_piece}
 use Rattle.atomic_sums.specs.Views.{Sat, SeatView, seen_by, Posts}
 use Rattle.atomic_sums.specs.Rule.{Keeps}
 use Rattle.atomic_sums.proofs.RuleSteps.{posts}
-use Rattle.atomic_sums.proofs.Posting.{base_in, place_in, held_already, finished_now, one_more, still_held}
+use Rattle.atomic_sums.proofs.Posting.{place_in, held_already, finished_now, one_more, still_held}
 use Rattle.atomic_sums.proofs.board.post_all.Goals as goal
 
 abbrev sat : SeatView → Seat → Sat → Sat

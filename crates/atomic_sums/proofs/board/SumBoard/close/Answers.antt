@@ -1,9 +1,7 @@
-use Rattle.std.proofs.Common.{rules, arith, ◌≡◌, ◌∙◌, ◌<◌, ◌*◌, ℕ, List, Bool, true, IfOk, drop, ap, sym, subst}
+use Rattle.std.proofs.Common.{arith, ◌≡◌, ◌∙◌, ℕ, List, true, IfOk, drop, ap, sym, subst}
 use Rattle.std.proofs.lemmas.Result.{IfOk-from_err}
-use Rattle.std.specs.Slots.{slots_items}
 use Rattle.piece_claim.specs.declared.sizes.Sizes.{Sizes}
 use Rattle.piece_claim.specs.State.{Seat, pieces}
-use Rattle.atomic_sums.specs.Views.{SeatView}
 use Rattle.atomic_sums.specs.Seats.{EachOnce, LastState}
 use Rattle.atomic_sums.specs.Sums.{Totals, totals_of}
 use Rattle.atomic_sums.specs.Rule.{Keeps}

@@ -1,4 +1,4 @@
-use Rattle.std.proofs.Common.{◌≡◌, ◌∙◌, Bool, true, arith, ap, sym, subst}
+use Rattle.std.proofs.Common.{◌≡◌, ◌∙◌, true, arith, ap, sym, subst}
 use Rattle.piece_claim.specs.Moves.{CanJoin}
 use Rattle.atomic_sums.proofs.RuleSteps.{joins, learns}
 use Rattle.atomic_sums.proofs.Posting.{of_board}

@@ -1,4 +1,4 @@
-use Rattle.std.proofs.Common.{rules, arith, ◌≡◌, ◌+◌, ◌∙◌, ap, length, replicate, ℕ}
+use Rattle.std.proofs.Common.{◌+◌, ◌∙◌, ap, length, ℕ}
 use Rattle.std.proofs.lemmas.List.{length-replicate}
 use Rattle.piece_claim.specs.declared.sizes.Sizes.{Sizes}
 use Rattle.piece_claim.specs.State.{sums}

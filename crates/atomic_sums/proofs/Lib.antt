@@ -1,0 +1,4 @@
+pub mod RuleSteps
+pub mod Closes
+pub mod Posting
+pub mod Cells

@@ -1,0 +1,5 @@
+pub mod Views
+pub mod Rule
+pub mod Sums
+pub mod Seats
+pub mod Fields

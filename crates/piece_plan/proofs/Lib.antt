@@ -1,0 +1,11 @@
+pub mod Quotients
+pub mod ListPlaces
+pub mod PartLemmas
+pub mod SumLemmas
+pub mod CountLemmas
+pub mod AboveLemmas
+pub mod EndLemmas
+pub mod EpochLemmas
+pub mod WalkLemmas
+pub mod JobLemmas
+pub mod PieceLemmas

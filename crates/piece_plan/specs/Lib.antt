@@ -1,0 +1,6 @@
+pub mod Parts
+pub mod Epochs
+pub mod Counts
+pub mod Order
+pub mod Pieces
+pub mod Sums

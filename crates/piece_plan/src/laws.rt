@@ -1,0 +1,33 @@
+//! What follows from the definitions. The functions do nothing: a call brings its law.
+ghost use Rattle.std.specs.Prelude.{◌≡◌, ◌≤◌, ◌<◌, ℕ, ℤ, List};
+ghost use Rattle.corr_model.specs.declared.cell.Pair.{Pair};
+ghost use Rattle.corr_model.specs.Cell.{Samples, cell_in};
+ghost use Rattle.piece_plan.specs.declared.job.ScanSize.{ScanSize};
+ghost use Rattle.piece_plan.specs.Parts.{Range, GoThrough, parts};
+ghost use Rattle.piece_plan.specs.Epochs.{JobSizes, IsJob, integration_at, integration_count, integration_epochs, ranges_of, epochs_of};
+ghost use Rattle.piece_plan.specs.Order.{CoverJob};
+ghost use Rattle.piece_plan.specs.Sums.{cell_over};
+
+/// The parts of a range go through it.
+pub fn parts_go_through()
+    ensures { (from to step : ℕ) → from ≤ to → 0 < step → GoThrough from to (parts from to step) }
+{}
+
+/// The epochs of an integration go through it.
+pub fn epochs_go_through_integration()
+    ensures { (job : JobSizes) (number m : ℕ) (size : ScanSize) → IsJob job → m < integration_count job size
+        → GoThrough (integration_at job size m).from (integration_at job size m).to
+        (ranges_of (integration_epochs job number size m)) }
+{}
+
+/// The epochs of a job go through it in order.
+pub fn epochs_cover_job()
+    ensures { (job : JobSizes) → IsJob job → CoverJob job (epochs_of job) }
+{}
+
+/// The cell of a range is the sum of that cell over ranges that go through it.
+pub fn cells_add_up()
+    ensures { (z : Samples) (pair : Pair) (samples : ℕ) (lag : ℤ) (from to : ℕ) (ranges : List Range)
+        → GoThrough from to ranges
+        → cell_over z pair samples lag ranges ≡ cell_in z pair samples lag from to }
+{}

@@ -19,6 +19,19 @@ abbrev pub IsInForce : {E : Type 0} → (E → ℤ) → List E → ℤ → Optio
 IsInForce second_of entries second found =
     MatchOption found (All (λ x. second <ℤ second_of x) entries) (IsLatest second_of entries second)
 
+-- The second at which the next entry begins: one of the entries begins there, and no entry begins between.
+pub record IsNextSecond {E : Type 0} (second_of : E → ℤ) (entries : List E) (second next : ℤ) : Type 0 where
+  pub entry : E
+  pub among : Contains entries entry
+  pub begins : second_of entry ≡ next
+  pub after : second <ℤ next
+  pub first : All (λ x. second <ℤ second_of x → next ≤ℤ second_of x) entries
+
+-- that second, or none where no entry begins later
+abbrev pub IsNext : {E : Type 0} → (E → ℤ) → List E → ℤ → Option ℤ → Type 0
+IsNext second_of entries second found =
+    MatchOption found (All (λ x. second_of x ≤ℤ second) entries) (IsNextSecond second_of entries second)
+
 -- the later of an entry in force and a further one, where that one is in force
 abbrev pub IsLater : {E : Type 0} → (E → ℤ) → Option E → E → ℤ → Option E → Type 0
 IsLater second_of latest x second found =

@@ -1,9 +1,12 @@
-ghost use Rattle.std.specs.Prelude.{◌≡◌, ◌≢◌, ◌<ℤ◌, MatchOption, ◌++◌, ◌∷◌, [], ◌↔◌, ℤ, IfOk, OnErr, IsTrue, if◌then◌else◌};
+ghost use Rattle.std.specs.Prelude.{◌≡◌, ◌≢◌, ◌++◌, ◌∷◌, [], ◌↔◌, ℤ, IfOk, OnErr, IsTrue, if◌then◌else◌};
 ghost use Rattle.std.specs.List.{All};
-ghost use Rattle.entry_list.specs.Latest.{DifferInSecond, IsInForce, IsLater, in_force};
+ghost use Rattle.entry_list.specs.Latest.{DifferInSecond, IsInForce, IsNext, in_force};
+ghost use Rattle.entry_list.specs.Index.{IsGreatestUpTo, IsLeastAfter};
 
 use std::alloc::{AllocError, Global};
+use std::collections::BTreeMap;
 use std::marker::Model;
+use std::ops::Bound;
 
 /// What is in force from a second on.
 pub trait HasSecond: Copy {
@@ -15,65 +18,48 @@ pub trait HasSecond: Copy {
         ensures { result ≡ second_of self.now };
 }
 
-/// Entries that differ in their seconds, in the order in which they were added.
+/// Entries that differ in their seconds, in the order in which they were added. Each is found by its
+/// second through an ordered map.
 #[derive(Drop)]
 pub struct EntryList<E: HasSecond> {
     entries: Vec<E>,
+    index: BTreeMap<i64, E>,
 }
 
 impl<E: HasSecond> Model for EntryList<E> {
     ghost use Rattle.std.specs.Prelude.{List};
     ghost use Rattle.entry_list.specs.Latest.{DifferInSecond};
+    ghost use Rattle.entry_list.specs.Index.{IsIndex};
 
     ghost Value = { List E };
 
     ghost view = { λ list. list.entries.items };
 
-    ghost invariant = { λ list. DifferInSecond E.second_of list.entries.items };
+    ghost invariant = { λ list. DifferInSecond E.second_of list.entries.items
+        × IsIndex E.second_of list.entries.items list.index };
 }
 
-// Whether no entry begins at the second of this one.
-fn is_free<E: HasSecond>(entries: &[E], e: &E) -> bool
-    ensures { IsTrue result ↔ All (λ x. E.second_of x ≢ E.second_of e.now) entries.now }
+// The entry under the greatest second that is not after this one.
+fn greatest_up_to<E: HasSecond>(index: &BTreeMap<i64, E>, second: i64) -> Option<E>
+    ensures { IsGreatestUpTo index.now second result }
 {
-    for x in entries {
-        if x.second() == e.second() {
-            return false;
-        }
-    }
-    true
-}
-
-// Whether there is no entry yet or one that begins before the second.
-fn is_before<E: HasSecond>(entry: Option<E>, second: i64) -> bool
-    ensures { IsTrue result ↔ MatchOption entry (Unit {0}) (λ x. E.second_of x <ℤ second) }
-{
-    match entry {
-        None => true,
-        Some(x) => x.second() < second,
+    match index.range(..=second).next_back() {
+        None => None,
+        Some((_, e)) => Some(*e),
     }
 }
 
-// The later of an entry in force and another one, which is in force if its second is not after this one.
-fn later<E: HasSecond>(latest: Option<E>, x: &E, second: i64) -> Option<E>
-    ensures { IsLater E.second_of latest x.now second result }
+// The least second after this one.
+fn least_after<E: HasSecond>(index: &BTreeMap<i64, E>, second: i64) -> Option<i64>
+    ensures { IsLeastAfter index.now second result }
 {
-    let begins = x.second();
-    if begins <= second && is_before(latest, begins) {
-        Some(*x)
-    } else {
-        latest
+    match index
+        .range((Bound::Excluded(second), Bound::Unbounded))
+        .next()
+    {
+        None => None,
+        Some((next, _)) => Some(*next),
     }
-}
-
-fn in_force<E: HasSecond>(entries: &[E], second: i64) -> Option<E>
-    ensures { IsInForce E.second_of entries.now second result }
-{
-    let mut latest: Option<E> = None;
-    for x in entries {
-        latest = later(latest, x, second);
-    }
-    latest
 }
 
 impl<E: HasSecond> EntryList<E> {
@@ -83,6 +69,7 @@ impl<E: HasSecond> EntryList<E> {
     {
         EntryList {
             entries: Vec::new(alloc),
+            index: BTreeMap::new(alloc),
         }
     }
 
@@ -95,10 +82,14 @@ impl<E: HasSecond> EntryList<E> {
         ensures unchanged { OnErr result (self.new ≡ self.old) }
         ensures differ { DifferInSecond E.second_of self.new }
     {
-        if !is_free(&self.entries, &e) {
+        if self.index.contains_key(&e.second()) {
             return Ok(false);
         }
         self.entries.push(e)?;
+        if self.index.insert(e.second(), e).is_err() {
+            self.entries.pop();
+            return Err(AllocError);
+        }
         Ok(true)
     }
 
@@ -122,6 +113,14 @@ impl<E: HasSecond> EntryList<E> {
         ensures latest { IsInForce E.second_of self.now second result }
         ensures same { result ≡ in_force E.second_of self.now second }
     {
-        in_force(&self.entries, second)
+        greatest_up_to(&self.index, second)
+    }
+
+    /// The second at which the entry after the one in force begins: the least second of an entry that is
+    /// later than this one, `None` where there is none.
+    pub fn next_second(&self, second: i64) -> Option<i64>
+        ensures { IsNext E.second_of self.now second result }
+    {
+        least_after(&self.index, second)
     }
 }

@@ -2,6 +2,9 @@
 //! not tell their content, since no contract can speak of the files and streams of a system.
 #![tactic(auto)]
 
+mod file_disk;
+#[cfg(test)]
+mod file_disk_tests;
 mod file_shelf;
 mod held_streams;
 mod named_files;
@@ -11,6 +14,7 @@ mod std_sink;
 #[cfg(test)]
 mod tests;
 
+pub use file_disk::FileDisk;
 pub use file_shelf::FileShelf;
 pub use held_streams::HeldStreams;
 pub use named_files::{Kind, NamedFiles, SystemFiles};

@@ -1,12 +1,12 @@
 -- What a correlation appends: the record text over all cells of a plan.
-use Rattle.std.specs.Prelude.{ℕ, ◌+◌, ◌*◌, ◌/◌, min, ℤ, pos, ◌-ℤ◌, List, ◌++◌, length, map, flat_map}
+use Rattle.std.specs.Prelude.{ℕ, ◌+◌, ◌*◌, ◌/◌, min, ℤ, pos, ◌-ℤ◌, List, [], map, flat_map, slice_index_or}
 use Rattle.std.specs.Int.{div_ceil}
-use Rattle.std.specs.List.{range_with_len, enumerate_from}
+use Rattle.std.specs.List.{range_with_len}
 use Rattle.corr_model.specs.declared.cell.Cell.{Cell}
 use Rattle.corr_model.specs.Cell.{Samples, cell_in}
-use Rattle.corr_model.specs.Plan.{Plan, ProductPlan, BaselinePlan, ScanPlan, Files}
+use Rattle.corr_model.specs.Plan.{Plan, StationPlan, ProductPlan, BaselinePlan, ScanPlan, Files}
 use Rattle.corr_model.specs.Rotated.{rotated}
-use Rattle.corr_model.specs.Records.{head_text, record_text, end_text}
+use Rattle.corr_model.specs.Records.{Head, HeadScan, vis_text}
 
 -- the lags from -L/2 to L/2 - 1
 abbrev pub lag_of : ℕ → ℕ → ℤ
@@ -34,32 +34,42 @@ abbrev pub cells_of : Plan → Samples → ScanPlan → ℕ → ProductPlan → 
 cells_of plan z scan m p b =
     map (λ i. cell_of plan z scan m p b (lag_of plan.lags i)) (range_with_len 0 plan.lags)
 
--- the records' texts, in the order scan, integration, product, baseline
-abbrev pub product_records : Plan → Samples → ℕ → ScanPlan → ℕ → ℕ → ProductPlan → List (List ℕ)
-product_records plan z number scan m product p =
-    map (λ (b : ℕ × BaselinePlan).
-    record_text (record { scan = number; m = m; product = product; baseline = b.0 })
-    (cells_of plan z scan m p b.1))
-    (enumerate_from 0 scan.baselines)
+-- the cells of a scan's records, in the order integration, product, baseline
+abbrev pub product_cells : Plan → Samples → ScanPlan → ℕ → ProductPlan → List Cell
+product_cells plan z scan m p = flat_map (cells_of plan z scan m p) scan.baselines
 
-abbrev pub integration_records : Plan → Samples → ℕ → ScanPlan → ℕ → List (List ℕ)
-integration_records plan z number scan m =
-    flat_map (λ (p : ℕ × ProductPlan). product_records plan z number scan m p.0 p.1)
-    (enumerate_from 0 plan.products)
+abbrev pub integration_cells : Plan → Samples → ScanPlan → ℕ → List Cell
+integration_cells plan z scan m = flat_map (product_cells plan z scan m) plan.products
 
-abbrev pub scan_records : Plan → Samples → ℕ → ScanPlan → List (List ℕ)
-scan_records plan z number scan =
-    flat_map (integration_records plan z number scan)
-    (range_with_len 0 (integrations_of plan scan))
+abbrev pub cells_of_scan : Plan → Samples → ScanPlan → List Cell
+cells_of_scan plan z scan = flat_map (integration_cells plan z scan) (range_with_len 0 (integrations_of plan scan))
 
-unfoldable pub records_of : Plan → Files → List (List ℕ)
-records_of plan files =
-    flat_map (λ (s : ℕ × ScanPlan). scan_records plan (rotated plan files s.1) s.0 s.1)
-    (enumerate_from 0 plan.scans)
+-- all cells, scan by scan
+unfoldable pub plan_cells : Plan → Files → List Cell
+plan_cells plan files = flat_map (λ (scan : ScanPlan). cells_of_scan plan (rotated plan files scan) scan) plan.scans
+
+-- the head of a plan's record file
+abbrev pub product_names : List (List ℕ) → ProductPlan → List ℕ × List ℕ
+product_names channels p = (slice_index_or channels p.x [], slice_index_or channels p.y [])
+
+abbrev pub head_scan : ScanPlan → HeadScan
+head_scan s = record {
+  name = s.name;
+  second = s.second;
+  samples = s.samples;
+  baselines = map (λ (b : BaselinePlan). (b.a, b.b)) s.baselines;
+}
+
+abbrev pub head_of : Plan → Head
+head_of plan = record {
+  lags = plan.lags;
+  integration = plan.integration;
+  rate = plan.rate;
+  stations = map (λ (s : StationPlan). s.key) plan.stations;
+  products = map (product_names plan.channels) plan.products;
+  scans = map head_scan plan.scans;
+}
 
 -- the whole text
 unfoldable pub output : Plan → Files → List ℕ
-output plan files =
-    head_text plan
-    ++ flat_map (λ (text : List ℕ). text) (records_of plan files)
-    ++ end_text (length (records_of plan files))
+output plan files = vis_text (head_of plan) (plan_cells plan files)

@@ -42,7 +42,7 @@ start_of text = bounded_or_none 0 (2 ^ 32 - 1) (vex_second_of text)
 
 -- a name that the records can hold
 abbrev pub name_fits : List ℕ → Bool
-name_fits name = nat_le (length name) 255
+name_fits name = nat_le 1 (length name) && nat_le (length name) 255
 
 -- the samples of a frame: each byte after its header of 32 bytes has four, of 2 bits
 abbrev pub frame_samples : ℕ → ℕ

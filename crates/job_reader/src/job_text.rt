@@ -94,7 +94,7 @@ fn start_of(text: &str) -> Option<u32>
 fn name_fits(name: &str) -> bool
     ensures { result ≡ name_fits name.now }
 {
-    name.len() <= 255
+    name.len() >= 1 && name.len() <= 255
 }
 
 #[tactic(auto, unfolding(crate::specs::JobText::frame_bytes_of))]
@@ -272,6 +272,7 @@ fn band_of(line: &BandLine<'_>) -> Option<(u64, bool)>
 fn lags_of(text: &str) -> Option<u32>
     ensures value { result ≡ lags_of text.now }
     ensures even { IfSome result (λ n. n % 2 ≡ 0) }
+    ensures least { IfSome result (λ n. 2 ≤ n) }
     ensures most { IfSome result (λ n. n ≤ 1024) }
 {
     let lags = number_within(2, 1024, text)? as u32;
@@ -297,6 +298,7 @@ fn knot_of(text: Option<&str>) -> Option<u32>
 fn lengths_of(job: &JobLines<'_>) -> Option<(u32, u64, u32, u32)>
     ensures value { result ≡ lengths_of (job_fields job.now) }
     ensures even_lags { IfSome result (λ x. x.0 % 2 ≡ 0) }
+    ensures some_lags { IfSome result (λ x. 2 ≤ x.0) }
     ensures most_lags { IfSome result (λ x. x.0 ≤ 1024) }
     ensures integration { IfSome result (λ x. (1 ≤ x.1) × (x.1 ≤ 2 ^ 36)) }
     ensures rate { IfSome result (λ x. 0 < x.2) }
@@ -316,6 +318,7 @@ fn lengths_of(job: &JobLines<'_>) -> Option<(u32, u64, u32, u32)>
 #[tactic(auto, unfolding(crate::specs::JobText::scan_of))]
 fn scan_of(line: &ScanLine<'_>, band: &BandLine<'_>) -> Option<((u32, u64), (u64, bool))>
     ensures value { Gives (λ x. scan_plan line.now x.0 (band_plan x.1)) result (scan_of (scan_fields line.now) (band_fields band.now)) }
+    ensures some_name { OnSome result (1 ≤ length line.now.name.now) }
     ensures name { OnSome result (length line.now.name.now ≤ 255) }
     ensures start { IfSome result (λ x. IsSecond (pos x.0.0)) }
     ensures samples { IfSome result (λ x. x.0.1 ≤ 2 ^ 20) }

@@ -1,3 +1,1 @@
-pub mod AppendedText
-pub mod PlacedBytes
-pub mod RecordPieces
+pub mod HeadPieces

@@ -1,11 +1,14 @@
-//! The writer of the record file: a head, the records in their order, an end. It stands on `corr_model`
-//! for the record text, on `job_reader` for the job whose head it writes, and on `dev_traits` for the
-//! sink that takes the bytes. Each call appends its text, or a first part of it where the sink fails;
-//! no call takes memory.
+//! Record files: the head that says what was correlated, and the writer of a head, the records in their order
+//! and an end. It stands on `corr_model` for the record text, on `num_time` and `item_list` for what a head
+//! holds, and on `sink_text` for the bytes on their way to a sink. Each call of the writer appends its text, or a
+//! first part of it where the sink fails, and takes no memory.
 #![tactic(auto)]
 
+mod head;
+mod numbers;
 mod writer;
 
+pub use head::{VisBaseline, VisHead, VisProduct, VisScan};
 pub use writer::{SinkFault, write_end, write_head, write_record};
 
 #[cfg(test)]

@@ -1,58 +1,60 @@
-ghost use Rattle.std.specs.Prelude.{◌≤◌, length};
+ghost use Rattle.std.specs.Prelude.{None};
 
 use super::*;
 use corr_model::{Cell, RecordAt};
-use delay_poly::PolyList;
 use dev_traits::memory::MemSink;
-use job_reader::{Job, Station};
-use station_clock::ClockList;
-use std::alloc::Global;
+use dev_traits::{Failed, Sink};
+use item_list::ItemList;
+use num_time::Name;
+use std::alloc::{AllocError, Global};
 use std::test::Fail;
-use vdif_frame::Shape;
 
-const SHAPE: Shape = Shape {
-    legacy: false,
-    frame_bytes: 40,
-    chans_log2: 0,
-    bits: 2,
-    station: 1,
-    frames: 2,
-};
+// A sink that keeps the length of each of its first eight writes.
+#[derive(Drop)]
+struct Lengths {
+    lengths: [usize; 8],
+    writes: usize,
+}
 
-// A station without a delay.
-fn station(alloc: Global, key: &'static str, file: &'static str, thread: u16) -> Station<'static>
-    requires { length key.now ≤ 255 }
-{
-    Station {
-        key,
-        shape: SHAPE,
-        file,
-        thread,
-        polys: PolyList::new(alloc),
-        clocks: ClockList::new(alloc),
+impl Sink for Lengths {
+    ghost told = { λ _. None };
+
+    ghost faults = { λ _. 0 };
+
+    fn write(&mut self, bytes: &[u8]) -> Result<usize, Failed> {
+        if self.writes < 8 {
+            self.lengths[self.writes] = bytes.len();
+            self.writes += 1;
+        }
+        Ok(bytes.len())
     }
 }
 
-// Writes the head of a job.
-fn write_job(alloc: Global, sink: &mut MemSink) -> Result<(), SinkFault> {
-    let job = Job {
-        lags: 4,
-        integration: 0x0102030405,
-        a: station(alloc, "Ef", "ef.vdif", 0),
-        b: station(alloc, "Wb1", "wb.vdif", 3),
-        channel: "X",
-        rate: 1_000_000,
-        knot: 32_768,
-        scan: "No0001",
-        start: 1_262_304_000,
-        samples: 500_000,
-        hertz: 0,
-        upper: true,
+// A head of two stations, one product and one scan of one baseline.
+fn head(alloc: Global) -> Result<VisHead, AllocError> {
+    let a = Name::new(alloc, b"Ef")?;
+    let b = Name::new(alloc, b"Wb1")?;
+    let product = VisProduct {
+        x: Name::new(alloc, b"X")?,
+        y: Name::new(alloc, b"Y")?,
     };
-    write_head(&job, sink)
+    let scan = VisScan {
+        name: Name::new(alloc, b"No0001")?,
+        second: 1_262_304_000,
+        samples: 500_000,
+        baselines: ItemList::of(vec![in alloc; VisBaseline { a: 0, b: 1 }]?),
+    };
+    Ok(VisHead::new(
+        4,
+        0x0102030405,
+        1_000_000,
+        ItemList::of(vec![in alloc; a, b]?),
+        ItemList::of(vec![in alloc; product]?),
+        ItemList::of(vec![in alloc; scan]?),
+    ))
 }
 
-// The head of that job, piece by piece.
+// That head, piece by piece.
 const HEAD: [u8; 91] = [
     b'V', b'L', b'B', b'I', b'V', b'I', b'S', b'1', //
     4, 0, 0, 0, //
@@ -63,7 +65,7 @@ const HEAD: [u8; 91] = [
     3, 0, b'W', b'b', b'1', //
     1, 0, 0, 0, //
     1, 0, b'X', //
-    1, 0, b'X', //
+    1, 0, b'Y', //
     1, 0, 0, 0, //
     6, 0, b'N', b'o', b'0', b'0', b'0', b'1', //
     0x00, 0x3B, 0x3D, 0x4B, 0, 0, 0, 0, //
@@ -103,8 +105,16 @@ const CELL_TEXT: [u8; 24] = [
 
 #[test]
 fn a_head(rt: HostRuntime) -> Result<(), Fail> {
+    let head = head(rt.alloc())?;
+    assert_eq!(rt;
+        (head.lags(), head.integration(), head.rate()),
+        (4, 0x0102030405, 1_000_000)
+    );
+    assert_eq!(rt; head.stations()[1].bytes(), b"Wb1".as_slice());
+    assert_eq!(rt; head.products()[0].y.bytes(), b"Y".as_slice());
+    assert_eq!(rt; head.scans()[0].samples, 500_000);
     let mut sink = MemSink::new(rt.alloc(), 5, Vec::new(rt.alloc()));
-    assert_eq!(rt; write_job(rt.alloc(), &mut sink), Ok(()));
+    assert_eq!(rt; write_head(&head, &mut sink), Ok(()));
     assert_eq!(rt; sink.bytes(), HEAD.as_slice());
     Ok(())
 }
@@ -120,20 +130,6 @@ fn a_record(rt: HostRuntime) -> Result<(), Fail> {
     Ok(())
 }
 
-// More cells than are appended at once, of which the last differs.
-#[test]
-fn a_record_of_many_cells(rt: HostRuntime) -> Result<(), Fail> {
-    let mut cells = [Cell::ZERO; 70];
-    cells[69] = CELL;
-    let mut sink = MemSink::new(rt.alloc(), 1000, Vec::new(rt.alloc()));
-    assert_eq!(rt; write_record(&AT, &cells, &mut sink), Ok(()));
-    let mut wanted = FRONT.to_vec(rt.alloc())?;
-    wanted.resize(21 + 69 * 24, 0)?;
-    wanted.extend_from_slice(&CELL_TEXT)?;
-    assert_eq!(rt; sink.bytes(), wanted.as_slice());
-    Ok(())
-}
-
 #[test]
 fn an_end(rt: HostRuntime) -> Result<(), Fail> {
     let mut sink = MemSink::new(rt.alloc(), 4, Vec::new(rt.alloc()));
@@ -142,34 +138,35 @@ fn an_end(rt: HostRuntime) -> Result<(), Fail> {
     Ok(())
 }
 
-// The mark, the numbers and a name's length are written before the write that fails.
+// What the sink took before the write that fails stays.
 #[test]
-fn a_fault_in_a_head(rt: HostRuntime) -> Result<(), Fail> {
-    let mut sink = MemSink::new(rt.alloc(), 1000, vec![in rt.alloc(); 3]?);
-    assert_eq!(rt; write_job(rt.alloc(), &mut sink), Err(SinkFault::Sink));
+fn faults(rt: HostRuntime) -> Result<(), Fail> {
+    let head = head(rt.alloc())?;
+    let mut sink = MemSink::new(rt.alloc(), 34, vec![in rt.alloc(); 1, 3, 5]?);
+    assert_eq!(rt; write_head(&head, &mut sink), Err(SinkFault::Sink));
     assert_eq!(rt; Some(sink.bytes()), HEAD.get(..34));
-    Ok(())
-}
-
-// The front and 32 cells are written before the write that fails.
-#[test]
-fn a_fault_in_a_record(rt: HostRuntime) -> Result<(), Fail> {
-    let mut sink = MemSink::new(rt.alloc(), 1000, vec![in rt.alloc(); 2]?);
     assert_eq!(rt;
         write_record(&AT, &[CELL; 40], &mut sink),
         Err(SinkFault::Sink)
     );
-    assert_eq!(rt; sink.bytes().len(), 21 + 32 * 24);
-    assert!(rt; sink.bytes().ends_with(&CELL_TEXT));
+    assert_eq!(rt; sink.bytes().len(), 68);
+    assert_eq!(rt; write_end(1, &mut sink), Ok(()));
+    assert_eq!(rt; write_end(1, &mut sink), Err(SinkFault::Sink));
+    assert_eq!(rt; sink.bytes().len(), 77);
     Ok(())
 }
 
+// A record of 300 lags is one write; of one of 1,024 lags only the last write is short.
 #[test]
-fn a_fault_in_an_end(rt: HostRuntime) -> Result<(), Fail> {
-    let mut sink = MemSink::new(rt.alloc(), 4, vec![in rt.alloc(); 0]?);
-    assert_eq!(rt; write_end(1, &mut sink), Err(SinkFault::Sink));
-    assert_eq!(rt; sink.bytes(), [].as_slice());
+fn whole_stretches(rt: HostRuntime) -> Result<(), Fail> {
+    let cells = vec![in rt.alloc(); CELL; 1024]?;
+    let mut sink = Lengths {
+        lengths: [0; 8],
+        writes: 0,
+    };
+    assert_eq!(rt; write_record(&AT, &cells[..300], &mut sink), Ok(()));
+    assert_eq!(rt; write_record(&AT, &cells, &mut sink), Ok(()));
     assert_eq!(rt; write_end(1, &mut sink), Ok(()));
-    assert_eq!(rt; sink.bytes(), [255, 1, 0, 0, 0, 0, 0, 0, 0].as_slice());
+    assert_eq!(rt; sink.lengths, [7221, 8189, 8192, 8192, 24, 9, 0, 0]);
     Ok(())
 }

@@ -6,6 +6,7 @@ use Rattle.std.proofs.lemmas.List.{append-nil}
 use Rattle.std.proofs.lemmas.Grind.{flat_map-append}
 use Rattle.corr_model.specs.Cell.{Samples}
 use Rattle.corr_model.specs.Records.{head_text, end_text}
+use Rattle.corr_model.specs.Output.{head_of}
 use Rattle.job_reader.specs.declared.job.Job.{Job}
 use Rattle.job_reader.specs.Job.{plan_of}
 use Rattle.vlbi_core.specs.Scan.{scan_record, scan_records_text, scan_integrations, scan_output}
@@ -47,7 +48,7 @@ records_text-rest job z m count inside =
 
 -- a record file is its head, its records and its end
 pub scan_output-parts : (job : Job) (z : Samples) (count : ℕ) → count ≡ scan_integrations job
-    → scan_output job z ≡ (head_text (plan_of job) ++ scan_records_text job z count) ++ end_text count
+    → scan_output job z ≡ (head_text (head_of (plan_of job)) ++ scan_records_text job z count) ++ end_text count
 unfolding scan_output
 scan_output-parts job z count is =
-    ap (λ n. (head_text (plan_of job) ++ scan_records_text job z n) ++ end_text n) (sym is)
+    ap (λ n. (head_text (head_of (plan_of job)) ++ scan_records_text job z n) ++ end_text n) (sym is)

@@ -7,3 +7,4 @@ pub mod ScanLemmas
 pub mod WalkLemmas
 pub mod IntegrationLemmas
 pub mod ForeignLemmas
+pub mod HeadLemmas

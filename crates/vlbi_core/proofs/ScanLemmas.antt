@@ -5,19 +5,20 @@ use Rattle.std.proofs.Common.{◌≡◌, ℕ, zero, suc, ℤ, unsigned_abs, Bool
 use Rattle.std.specs.List.{range_with_len}
 use Rattle.std.proofs.lemmas.List.{append-nil}
 use Rattle.std.proofs.lemmas.List.Concat.{flat_map_single}
-use Rattle.std.proofs.lemmas.List.Folds.{flat_map-map}
 use Rattle.std.proofs.lemmas.List.FromFn.{length-map-range_with_len}
 use Rattle.corr_model.specs.Sample.{sample_of}
 use Rattle.corr_model.specs.Cell.{Value, Samples, is_inside}
 use Rattle.corr_model.specs.Plan.{Files, bytes_under}
 use Rattle.corr_model.specs.Rotated.{rotated, timing_of, value_at}
-use Rattle.corr_model.specs.Records.{head_text, end_text}
-use Rattle.corr_model.specs.Output.{output, records_of, integrations_of}
-use Rattle.corr_model.proofs.RecordLemmas.{output-parts}
+use Rattle.corr_model.specs.declared.cell.Cell.{Cell}
+use Rattle.corr_model.specs.declared.records.RecordAt.{RecordAt}
+use Rattle.corr_model.specs.Records.{Head, head_text, end_text, places_of, records_text}
+use Rattle.corr_model.specs.Output.{output, head_of, plan_cells}
+use Rattle.corr_model.proofs.RecordLemmas.{output-parts, vis_text-parts, places_of-scans, plan_cells-scans, records_text-each}
 use Rattle.job_reader.specs.declared.job.Station.{Station}
 use Rattle.job_reader.specs.declared.job.Job.{Job}
 use Rattle.job_reader.specs.Job.{plan_of, scan_plan_of, station_plan_of}
-use Rattle.vlbi_core.specs.Scan.{AreRecordings, delay_model, band_of, values_of, scan_record, scan_output}
+use Rattle.vlbi_core.specs.Scan.{AreRecordings, delay_model, band_of, values_of, scan_cell, scan_cells, scan_integrations, scan_records_text, scan_output}
 
 none_both : (b : Bool) → ◌≡◌ {A = Value} (if b then None else None) None
 none_both true = refl
@@ -50,33 +51,64 @@ pub rotated-values_of : (job : Job) (files : Files) (a b : List ℕ) → AreReco
 rotated-values_of job files a b h =
     fun_ext (λ station. fun_ext (λ chan. fun_ext (λ n. rotated-at job files a b h station chan n)))
 
--- the records of the plan: one for each integration
-records_of-job : (job : Job) (files : Files)
-    → records_of (plan_of job) files
-    ≡ map (scan_record job (rotated (plan_of job) files (scan_plan_of job))) (range_with_len 0 (integrations_of (plan_of job) (scan_plan_of job)))
-unfolding records_of
-records_of-job job files =
-    append-nil _
-    ∙ flat_map_single (scan_record job (rotated (plan_of job) files (scan_plan_of job))) (range_with_len 0 (integrations_of (plan_of job) (scan_plan_of job)))
+-- the record of integration m, and its cells
+place : ℕ → RecordAt
+place m = record { scan = 0; m = m; product = 0; baseline = 0 }
 
-text_of : Job → List (List ℕ) → List ℕ
-text_of job records = head_text (plan_of job) ++ flat_map (λ (text : List ℕ). text) records ++ end_text (length records)
+numbers : Job → List ℕ
+numbers job = range_with_len 0 (scan_integrations job)
 
-text_of-records : (job : Job) (z : Samples)
-    → text_of job (map (scan_record job z) (range_with_len 0 (integrations_of (plan_of job) (scan_plan_of job)))) ≡ scan_output job z
-unfolding text_of scan_output
-text_of-records job z =
-    let count : ℕ = integrations_of (plan_of job) (scan_plan_of job) in
-    let records : List (List ℕ) = map (scan_record job z) (range_with_len 0 count) in
-    ap (λ text. head_text (plan_of job) ++ text ++ end_text (length records)) (flat_map-map (λ (text : List ℕ). text) (scan_record job z) (range_with_len 0 count))
-    ∙ ap (λ n. head_text (plan_of job) ++ flat_map (scan_record job z) (range_with_len 0 count) ++ end_text n) (length-map-range_with_len (scan_record job z) 0 count)
+-- the records of the head: one for each integration
+places_of-job : (job : Job) → places_of (head_of (plan_of job)) ≡ map place (numbers job)
+unfolding place numbers
+places_of-job job =
+    places_of-scans (head_of (plan_of job))
+    ∙ append-nil _
+    ∙ flat_map_single place (numbers job)
+
+-- all cells: those of each integration
+plan_cells-job : (job : Job) (files : Files)
+    → plan_cells (plan_of job) files
+    ≡ flat_map (scan_cells job (rotated (plan_of job) files (scan_plan_of job))) (numbers job)
+unfolding numbers
+plan_cells-job job files =
+    let z : Samples = rotated (plan_of job) files (scan_plan_of job) in
+    plan_cells-scans (plan_of job) files
+    ∙ append-nil _
+    ∙ ap (λ (f : ℕ → List Cell). flat_map f (numbers job))
+    (fun_ext (λ m. append-nil (scan_cells job z m ++ []) ∙ append-nil (scan_cells job z m)))
+
+records_text-job : (job : Job) (z : Samples)
+    → records_text job.lags (map place (numbers job)) (flat_map (scan_cells job z) (numbers job))
+    ≡ scan_records_text job z (scan_integrations job)
+unfolding place numbers
+records_text-job job z =
+    records_text-each job.lags place (scan_cells job z) (numbers job)
+    (λ m. length-map-range_with_len (scan_cell job z m) 0 job.lags)
+
+-- the whole text of these records
+text_of-job : (job : Job) (z : Samples)
+    → head_text (head_of (plan_of job))
+    ++ records_text job.lags (map place (numbers job)) (flat_map (scan_cells job z) (numbers job))
+    ++ end_text (length (map place (numbers job)))
+    ≡ scan_output job z
+unfolding scan_output numbers
+text_of-job job z =
+    ap (λ text. head_text (head_of (plan_of job)) ++ text ++ end_text (length (map place (numbers job)))) (records_text-job job z)
+    ∙ ap (λ n. head_text (head_of (plan_of job)) ++ scan_records_text job z (scan_integrations job) ++ end_text n)
+    (length-map-range_with_len place 0 (scan_integrations job))
 
 -- the record file of the plan is that of the two recordings' values
 pub output-scan_output : (job : Job) (files : Files) (a b : List ℕ) → AreRecordings files job a b
     → output (plan_of job) files ≡ scan_output job (values_of job a b)
-unfolding text_of
 output-scan_output job files a b h =
+    let z : Samples = rotated (plan_of job) files (scan_plan_of job) in
+    let head : Head = head_of (plan_of job) in
     output-parts (plan_of job) files
-    ∙ ap (text_of job) (records_of-job job files)
-    ∙ text_of-records job (rotated (plan_of job) files (scan_plan_of job))
+    ∙ vis_text-parts head (plan_cells (plan_of job) files)
+    ∙ ap (λ (places : List RecordAt). head_text head ++ records_text job.lags places (plan_cells (plan_of job) files) ++ end_text (length places))
+    (places_of-job job)
+    ∙ ap (λ (cells : List Cell). head_text head ++ records_text job.lags (map place (numbers job)) cells ++ end_text (length (map place (numbers job))))
+    (plan_cells-job job files)
+    ∙ text_of-job job z
     ∙ ap (scan_output job) (rotated-values_of job files a b h)

@@ -8,7 +8,7 @@ use Rattle.corr_model.specs.Delay.{DelayModel, has_model, has_clock}
 use Rattle.corr_model.specs.Plan.{Files, ProductPlan, BaselinePlan, Band}
 use Rattle.corr_model.specs.Rotated.{timing_of, model_of, value_at}
 use Rattle.corr_model.specs.Records.{head_text, record_text, end_text}
-use Rattle.corr_model.specs.Output.{cell_of, lag_of, integrations_of}
+use Rattle.corr_model.specs.Output.{cell_of, lag_of, integrations_of, head_of}
 use Rattle.job_reader.specs.declared.job.Station.{Station}
 use Rattle.job_reader.specs.declared.job.Job.{Job}
 use Rattle.job_reader.specs.Job.{plan_of, scan_plan_of, station_plan_of}
@@ -77,7 +77,7 @@ scan_integrations job = integrations_of (plan_of job) (scan_plan_of job)
 -- the record file
 unfoldable pub scan_output : Job → Samples → List ℕ
 scan_output job z =
-    head_text (plan_of job)
+    head_text (head_of (plan_of job))
     ++ scan_records_text job z (scan_integrations job)
     ++ end_text (scan_integrations job)
 

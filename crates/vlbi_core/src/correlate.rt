@@ -2,17 +2,20 @@
 ghost use Rattle.std.specs.Prelude.{◌≡◌, ◌<◌, ℕ, length, OnOk, OnErr, IfErr, ⊤};
 ghost use Rattle.dev_traits.specs.Told.{more, PrefixMore};
 ghost use Rattle.vlbi_core.specs.Refusal.{IsWriteOrMemory, MatchWrite, CountsWrites};
-ghost use Rattle.vis_records.specs.Records.{Appends};
+ghost use Rattle.sink_text.specs.Appends.{Appends};
+ghost use Rattle.corr_model.specs.Output.{head_of};
+ghost use Rattle.job_reader.specs.Job.{plan_of};
 ghost use Rattle.vlbi_core.specs.Scan.{scan_output, scan_records_text, scan_integrations, scan_cells, scan_cell, values_of};
 
 use crate::delays::track;
+use crate::head::head_of_job;
 use crate::prepare::Ready;
 use crate::recording::Recordings;
 use crate::refusal::Refusal;
 use corr_model::{Cell, Pair, RecordAt, plain_cell};
 use dev_traits::Sink;
 use std::alloc::Global;
-use vis_records::{SinkFault, write_end, write_head, write_record};
+use vis_records::{SinkFault, VisHead, write_end, write_head, write_record};
 
 /// Correlates the scan and appends its records. All memory is taken before the first byte.
 pub fn correlate<S: Sink>(alloc: Global, ready: &Ready<'_>, out: &mut S) -> Result<(), Refusal>
@@ -22,6 +25,7 @@ pub fn correlate<S: Sink>(alloc: Global, ready: &Ready<'_>, out: &mut S) -> Resu
     ensures cause { IfErr result IsWriteOrMemory }
     ensures counts { CountsWrites (S.faults out.old) (S.faults out.new) result }
 {
+    let head = head_of_job(alloc, &ready.job)?;
     let mut cells = vec![in alloc; Cell::ZERO; ready.job.lags as usize]?;
     let scan = Recordings {
         job: &ready.job,
@@ -30,7 +34,7 @@ pub fn correlate<S: Sink>(alloc: Global, ready: &Ready<'_>, out: &mut S) -> Resu
         track_a: track(&ready.job, &ready.job.a),
         track_b: track(&ready.job, &ready.job.b),
     };
-    match write_scan(&scan, &mut cells, out) {
+    match write_scan(&scan, &head, &mut cells, out) {
         Ok(()) => Ok(()),
         Err(SinkFault::Sink) => Err(Refusal::Write),
     }
@@ -39,14 +43,16 @@ pub fn correlate<S: Sink>(alloc: Global, ready: &Ready<'_>, out: &mut S) -> Resu
 // Appends the record file.
 fn write_scan<S: Sink>(
     scan: &Recordings<'_>,
+    head: &VisHead,
     cells: &mut [Cell],
     out: &mut S,
 ) -> Result<(), SinkFault>
-    requires { length cells.old ≡ scan.now.job.now.lags }
+    requires head { head.now ≡ head_of (plan_of scan.now.job.now) }
+    requires room { length cells.old ≡ scan.now.job.now.lags }
     ensures { Appends (S.told out.old) (S.told out.new) (scan_output scan.now.job.now (values_of scan.now.job.now scan.now.a.now scan.now.b.now)) (S.faults out.old) (S.faults out.new) result }
 {
     let count = scan.job.samples.div_ceil(scan.job.integration);
-    write_head(scan.job, out)?;
+    write_head(head, out)?;
     write_records(scan, count, cells, out)?;
     write_end(count, out)
 }

@@ -1,6 +1,6 @@
 //! Statuses and notes.
 ghost use Rattle.std.specs.Prelude.{◌≡◌, ◌++◌, List, ℕ, codes};
-ghost use Rattle.vis_records.specs.Records.{Appends};
+ghost use Rattle.sink_text.specs.Appends.{Appends};
 ghost use Rattle.vlbi_core.specs.Refusal.{answer_of, words_fault_name, field_name, recording_answer, note_line};
 
 use crate::refusal::Refusal;

@@ -1,12 +1,10 @@
-use Rattle.std.proofs.Common.{rules, w64, FitsSigned, to_z-of_z}
-use Rattle.vis_records.proofs.PlacedBytes.{cell_placed}
+use Rattle.std.proofs.Common.{refl, rules, w64, FitsSigned, to_z-of_z}
+use Rattle.sink_text.proofs.WrittenText.{Puts-then}
 use Rattle.vis_records.proofs.writer.put_cell.Goals as goal
 
 pub returns : goal.returns
-returns c =
+returns g c =
     let re : FitsSigned w64 c.args.cell.now.re = search rules in
     let im : FitsSigned w64 c.args.cell.now.im = search rules in
-    cell_placed c.args.bytes.now c.put_i64.new.bytes c.put_i64-2.new.bytes c.put_u64.new.bytes _ _ _ c.args.at
-    (simp to_z-of_z at c.put_i64.ensures)
-    (simp to_z-of_z at c.put_i64-2.ensures)
-    c.put_u64.ensures
+    let two = Puts-then refl (simp to_z-of_z at c.put_i64.ensures) (simp to_z-of_z at c.put_i64-2.ensures) in
+    Puts-then refl two c.put_u64.ensures

@@ -1,7 +1,11 @@
-use Rattle.std.proofs.Common.{◌≡◌, ◌*◌, take}
+use Rattle.std.proofs.Common.{take}
 use Rattle.std.specs.List.{flat_map}
 use Rattle.corr_model.specs.Records.{cell_text}
+use Rattle.sink_text.specs.Written.{Puts}
 use Rattle.vis_records.proofs.writer.put_cells.Given as goal
 
-abbrev pub invariant-loop-i : goal.invariant-loop-i
-invariant-loop-i l = take (24 * l.i) l.bytes ≡ flat_map cell_text (take l.i l.cells)
+abbrev pub invariant-loop-cell : goal.invariant-loop-cell
+invariant-loop-cell g l =
+    Puts (flat_map cell_text (take l.cell-index l.cells)) l.initial.stretch l.stretch
+    (g.S.Sink.told l.initial.out) (g.S.Sink.told l.out)
+    (g.S.Sink.faults l.initial.out) (g.S.Sink.faults l.out)

@@ -1,39 +1,29 @@
-use Rattle.std.proofs.Common.{refl}
-use Rattle.job_reader.specs.Job.{plan_of}
-use Rattle.vis_records.specs.Records.{stations_text, products_text, scans_text}
-use Rattle.vis_records.proofs.AppendedText.{Appends-then, Appends-both, Appends-exit, Appends-longer}
-use Rattle.vis_records.proofs.RecordPieces.{head_text-four}
+use Rattle.std.proofs.Common.{refl, sym, subst}
+use Rattle.std.specs.List.{All}
+use Rattle.corr_model.specs.Records.{IsName}
+use Rattle.sink_text.proofs.WrittenText.{Puts-then, Appends-written}
+use Rattle.vis_records.proofs.HeadPieces.{head_text-pieces, products-names, scans-short}
 use Rattle.vis_records.proofs.writer.write_head.Goals as goal
 
-pub returns-in_err-append_sizes : goal.returns-in_err-append_sizes
-returns-in_err-append_sizes g c =
-    let plan = plan_of c.args.job.now in
-    let two = Appends-longer (stations_text plan) c.in_err-append_sizes.ensures in
-    let three = Appends-longer (products_text plan) two in
-    let all = Appends-exit (scans_text plan) (head_text-four plan) c.from_residual.ensures.0 three in
-    record { ok = all.ok; prefix = all.prefix; counts = all.counts }
+pub put_names-requires : goal.put_names-requires
+put_names-requires g c = subst (All IsName) (sym c.stations.ensures.stations) c.stations.ensures.head.keys
 
-pub returns-in_err-append_stations : goal.returns-in_err-append_stations
-returns-in_err-append_stations g c =
-    let plan = plan_of c.args.job.now in
-    let failed = c.from_residual-in_err-append_stations.ensures.0 in
-    let two = Appends-then refl c.in_ok-append_sizes.ensures c.in_err-append_stations.ensures in
-    let three = Appends-longer (products_text plan) two in
-    let all = Appends-exit (scans_text plan) (head_text-four plan) failed three in
-    record { ok = all.ok; prefix = all.prefix; counts = all.counts }
+pub put_products-requires : goal.put_products-requires
+put_products-requires g c =
+    products-names c.args.head.now c.products-2.result.now c.products-2.ensures.head c.products-2.ensures.products
 
-pub returns-in_err-append_products : goal.returns-in_err-append_products
-returns-in_err-append_products g c =
-    let plan = plan_of c.args.job.now in
-    let failed = c.from_residual-in_err-append_products.ensures.0 in
-    let two = Appends-both refl c.in_ok-append_sizes.ensures c.in_ok-append_stations.ensures in
-    let three = Appends-then refl two c.in_err-append_products.ensures in
-    let all = Appends-exit (scans_text plan) (head_text-four plan) failed three in
-    record { ok = all.ok; prefix = all.prefix; counts = all.counts }
+pub put_scans-requires : goal.put_scans-requires
+put_scans-requires g c = scans-short c.args.head.now c.scans-2.result.now c.scans-2.ensures.head c.scans-2.ensures.scans
 
 pub returns : goal.returns
 returns g c =
-    let two = Appends-both refl c.in_ok-append_sizes.ensures c.in_ok-append_stations.ensures in
-    let three = Appends-both refl two c.in_ok-append_products.ensures in
-    let all = Appends-then (head_text-four (plan_of c.args.job.now)) three c.append_scans.ensures in
-    record { ok = all.ok; prefix = all.prefix; counts = all.counts }
+    let text =
+    head_text-pieces c.args.head.now _ _ _ _ _ c.stations.ensures.stations c.products.ensures.products
+    c.products-2.ensures.products
+    c.scans.ensures.scans
+    c.scans-2.ensures.scans in
+    let two = Puts-then refl c.put_sizes.ensures c.put_names.ensures in
+    let three = Puts-then refl two c.put_u32.ensures in
+    let four = Puts-then refl three c.put_products.ensures in
+    let five = Puts-then refl four c.put_u32-2.ensures in
+    Appends-written c.new-stretch.ensures (Puts-then text five c.put_scans.ensures) c.end.ensures

@@ -1,7 +1,7 @@
 use Rattle.std.proofs.Common.{refl}
 use Rattle.corr_model.specs.Records.{end_text}
 use Rattle.vlbi_core.specs.Scan.{scan_records_text, values_of}
-use Rattle.vis_records.proofs.AppendedText.{Appends-then, Appends-exit, Appends-longer}
+use Rattle.sink_text.proofs.AppendedText.{Appends-then, Appends-exit, Appends-longer}
 use Rattle.vlbi_core.proofs.IntegrationLemmas.{scan_output-parts}
 use Rattle.vlbi_core.proofs.correlate.write_scan.Goals as goal
 
@@ -10,26 +10,25 @@ returns-in_err-write_head g c =
     let scan = c.args.scan.now in
     let z = values_of scan.job.now scan.a.now scan.b.now in
     let count = c.div_ceil-count.result in
-    let head = c.in_err-write_head.ensures in
+    let head = rw c.requires.head at c.in_err-write_head.ensures in
     Appends-exit (end_text count) (scan_output-parts scan.job.now z count c.div_ceil-count.ensures) c.from_residual.ensures.0
-    (Appends-longer (scan_records_text scan.job.now z count) (record { ok = head.ok; prefix = head.prefix; counts = head.counts }))
+    (Appends-longer (scan_records_text scan.job.now z count) head)
 
 pub returns-in_err-write_records : goal.returns-in_err-write_records
 returns-in_err-write_records g c =
     let scan = c.args.scan.now in
     let z = values_of scan.job.now scan.a.now scan.b.now in
     let count = c.div_ceil-count.result in
-    let head = c.in_ok-write_head.ensures in
+    let head = rw c.requires.head at c.in_ok-write_head.ensures in
     Appends-exit (end_text count) (scan_output-parts scan.job.now z count c.div_ceil-count.ensures) c.from_residual-in_err-write_records.ensures.0
-    (Appends-then refl (record { ok = head.ok; prefix = head.prefix; counts = head.counts }) c.in_err-write_records.ensures)
+    (Appends-then refl head c.in_err-write_records.ensures)
 
 pub returns : goal.returns
 returns g c =
     let scan = c.args.scan.now in
     let z = values_of scan.job.now scan.a.now scan.b.now in
     let count = c.div_ceil-count.result in
-    let head = c.in_ok-write_head.ensures in
-    let end = c.write_end.ensures in
+    let head = rw c.requires.head at c.in_ok-write_head.ensures in
     Appends-then (scan_output-parts scan.job.now z count c.div_ceil-count.ensures)
-    (Appends-then refl (record { ok = head.ok; prefix = head.prefix; counts = head.counts }) c.in_ok-write_records.ensures)
-    (record { ok = end.ok; prefix = end.prefix; counts = end.counts })
+    (Appends-then refl head c.in_ok-write_records.ensures)
+    c.write_end.ensures

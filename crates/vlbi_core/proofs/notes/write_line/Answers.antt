@@ -1,6 +1,6 @@
 use Rattle.std.proofs.Common.{◌≡◌, ◌++◌, List, ℕ, codes, [], ◌∷◌, refl, ap, sym, ◌∙◌, append_assoc}
 use Rattle.vlbi_core.specs.Refusal.{note_line}
-use Rattle.vis_records.proofs.AppendedText.{Appends-done, Appends-then, Appends-both, Appends-exit}
+use Rattle.sink_text.proofs.AppendedText.{Appends-done, Appends-then, Appends-both, Appends-exit}
 use Rattle.vlbi_core.proofs.notes.write_line.Goals as goal
 
 -- the mark and the first text, and then the rest

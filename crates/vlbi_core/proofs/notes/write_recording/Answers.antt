@@ -1,7 +1,7 @@
 use Rattle.std.specs.Prelude.{codes}
 use Rattle.std.proofs.Common.{◌++◌, List, ℕ, [], ◌∷◌, refl, ap, sym}
 use Rattle.vlbi_core.specs.Refusal.{field_name}
-use Rattle.vis_records.proofs.AppendedText.{Appends-then, Appends-exit, Appends-longer}
+use Rattle.sink_text.proofs.AppendedText.{Appends-then, Appends-exit, Appends-longer}
 use Rattle.vlbi_core.proofs.notes.write_recording.Goals as goal
 
 pub returns-in_err-put : goal.returns-in_err-put

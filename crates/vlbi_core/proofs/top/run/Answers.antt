@@ -5,7 +5,7 @@ use Rattle.vlbi_core.specs.Words.{texts_of}
 use Rattle.vlbi_core.specs.Verdict.{verdict}
 use Rattle.vlbi_core.proofs.ToldLemmas.{WhereTold-weaker}
 use Rattle.vlbi_core.proofs.VerdictLemmas.{note_after-cause}
-use Rattle.vis_records.proofs.AppendedText.{Appends-part}
+use Rattle.sink_text.proofs.AppendedText.{Appends-part}
 use Rattle.vlbi_core.proofs.top.run.Goals as goal
 
 pub returns-in-Err-clause-part : goal.returns-in-Err-clause-part

@@ -110,9 +110,11 @@ fn a_head(rt: HostRuntime) -> Result<(), Fail> {
         (head.lags(), head.integration(), head.rate()),
         (4, 0x0102030405, 1_000_000)
     );
-    assert_eq!(rt; head.stations()[1].bytes(), b"Wb1".as_slice());
+    let second = head.stations().get(1).ok_or("no second station")?;
+    assert_eq!(rt; second.bytes(), b"Wb1".as_slice());
     assert_eq!(rt; head.products()[0].y.bytes(), b"Y".as_slice());
-    assert_eq!(rt; head.scans()[0].samples, 500_000);
+    let scan = head.scans().first().ok_or("no scan")?;
+    assert_eq!(rt; scan.samples, 500_000);
     let mut sink = MemSink::new(rt.alloc(), 5, Vec::new(rt.alloc()));
     assert_eq!(rt; write_head(&head, &mut sink), Ok(()));
     assert_eq!(rt; sink.bytes(), HEAD.as_slice());

@@ -1,0 +1,4 @@
+pub mod Rows
+pub mod FileText
+pub mod WritesLemmas
+pub mod FileLemmas

@@ -1,0 +1,4 @@
+pub mod Cells
+pub mod Writes
+pub mod PlanCells
+pub mod Texts

@@ -45,9 +45,9 @@ module _ {C F : Type 0} (head : C → Head) (cells : C → Option CellsOf) (stea
       → Ok x ≡ of_sink {F = F} written
       → Writes head cells steady fails (λ of. scans_text h of) old new told' told'' faults' faults'' r
       → Writes head cells steady fails (λ of. head_text h ++ scans_text h of) old new told told'' faults faults'' r
-  both {x = x} written new told told' told'' faults faults' faults'' one done scans =
+  both written new told told' told'' faults faults' faults'' one done scans =
       let first = Writes-sunk head cells steady fails laws written (head_text h) old told told' faults faults' one in
-      Writes-then {x = x} head cells steady fails laws (λ of. head_text h ++ scans_text h of) (λ of. head_text h) (λ of. scans_text h of)
+      Writes-then head cells steady fails laws (λ of. head_text h ++ scans_text h of) (λ of. head_text h) (λ of. scans_text h of)
       old old new told told' told'' faults faults' faults''
       (where_same (λ of. head_text h ++ scans_text h of))
       (subst (λ (r : Result (Unit {0}) (WriteFault F)). Writes head cells steady fails (λ of. head_text h) old old told told' faults faults' r) (sym done) first)

@@ -2,3 +2,4 @@ pub mod Rows
 pub mod FileText
 pub mod WritesLemmas
 pub mod FileLemmas
+pub mod FillLemmas

@@ -6,11 +6,13 @@
 #![tactic(auto)]
 
 mod fault;
+mod plan_cells;
 mod records;
 mod source;
 mod writer;
 
 
 pub use fault::WriteFault;
+pub use plan_cells::fill_integration;
 pub use source::CellSource;
 pub use writer::write_records;

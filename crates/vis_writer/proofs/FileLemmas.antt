@@ -13,7 +13,6 @@ use Rattle.vis_writer.proofs.WritesLemmas.{where_then, where_always, Writes-then
 
 module _ {C F : Type 0} (head : C → Head) (cells : C → Option CellsOf) (steady : C → C → Type 0) (fails : C → C → F → Type 0) (laws : Composes steady fails)
     (h : Head) (old : C) (is : head old ≡ h) (full : WhereTold (cells old) (IsFull (head old))) where
-
   parts : WhereTold (cells old) (λ of. vis_text h (all_cells h of) ≡ (head_text h ++ scans_text h of) ++ end_text (length (places_of h)))
   parts =
       where_then (cells old) (IsFull (head old)) (λ of. vis_text h (all_cells h of) ≡ (head_text h ++ scans_text h of) ++ end_text (length (places_of h)))

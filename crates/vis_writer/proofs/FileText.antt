@@ -77,9 +77,10 @@ numbered : (head : Head) (k : ℕ) (d : ℕ × HeadScan) → k < length (enumera
     → (get_or (enumerate_from 0 head.scans) k d ≡ (k, get_or head.scans k d.1)) × (slice_get head.scans k ≡ Some (get_or head.scans k d.1))
 numbered head k d h =
     let within : k < length head.scans = omega (arith, h, length-enumerate_from 0 head.scans) in
-    let here : 0 + k ≡ k = omega arith in
-    ( get_or-enumerate_from 0 head.scans k d within ∙ ap (λ (n : ℕ). (n, get_or head.scans k d.1)) here
-    , slice_get-get_or head.scans k d.1 within )
+    let here : 0 + k ≡ k = omega arith in (
+      get_or-enumerate_from 0 head.scans k d within ∙ ap (λ (n : ℕ). (n, get_or head.scans k d.1)) here,
+      slice_get-get_or head.scans k d.1 within,
+    )
 
 all_even : (head : Head) (of : CellsOf) → IsFull head of
     → Even head.lags (λ (s : ℕ × HeadScan). scan_places head s.0 s.1) (scan_cells head of) (enumerate_from 0 head.scans)

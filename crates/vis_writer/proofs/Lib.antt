@@ -3,3 +3,6 @@ pub mod FileText
 pub mod WritesLemmas
 pub mod FileLemmas
 pub mod FillLemmas
+pub mod PlanHead
+pub mod PlanText
+pub mod DirectLemmas

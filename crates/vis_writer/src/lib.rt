@@ -5,14 +5,19 @@
 //! no call but `head_of_plan` takes memory.
 #![tactic(auto)]
 
+mod direct;
 mod fault;
+mod head;
+pub mod laws;
 mod plan_cells;
 mod records;
 mod source;
 mod writer;
 
-
+pub use direct::Direct;
 pub use fault::WriteFault;
+pub use head::head_of_plan;
 pub use plan_cells::fill_integration;
+pub use records::widest;
 pub use source::CellSource;
 pub use writer::write_records;

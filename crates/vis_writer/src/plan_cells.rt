@@ -17,12 +17,26 @@ pub fn fill_integration<V: Values>(plan: &Plan, scan: &ScanPlan, v: &V, m: u64, 
 {
     let width = scan.baselines.items().len() * plan.lags as usize;
     for (i, product) in plan.products.items().iter().enumerate() {
-        fill_product(plan, scan, v, m, product, &mut cells[i * width..i * width + width]);
+        fill_product(
+            plan,
+            scan,
+            v,
+            m,
+            product,
+            &mut cells[i * width..i * width + width],
+        );
     }
 }
 
 // The cells of a product, by baseline.
-fn fill_product<V: Values>(plan: &Plan, scan: &ScanPlan, v: &V, m: u64, product: &ProductPlan, cells: &mut [Cell])
+fn fill_product<V: Values>(
+    plan: &Plan,
+    scan: &ScanPlan,
+    v: &V,
+    m: u64,
+    product: &ProductPlan,
+    cells: &mut [Cell],
+)
     requires plan { IsPlan plan.now }
     requires scan { IsScanPlan plan.now scan.now }
     requires inside { m < integrations_of plan.now scan.now }
@@ -31,19 +45,40 @@ fn fill_product<V: Values>(plan: &Plan, scan: &ScanPlan, v: &V, m: u64, product:
 {
     let lags = plan.lags as usize;
     for (i, baseline) in scan.baselines.items().iter().enumerate() {
-        fill_record(plan, scan, v, m, product, baseline, &mut cells[i * lags..i * lags + lags]);
+        fill_record(
+            plan,
+            scan,
+            v,
+            m,
+            product,
+            baseline,
+            &mut cells[i * lags..i * lags + lags],
+        );
     }
 }
 
 // The cells of a record, by rising lag.
-fn fill_record<V: Values>(plan: &Plan, scan: &ScanPlan, v: &V, m: u64, product: &ProductPlan, baseline: &BaselinePlan, cells: &mut [Cell])
+fn fill_record<V: Values>(
+    plan: &Plan,
+    scan: &ScanPlan,
+    v: &V,
+    m: u64,
+    product: &ProductPlan,
+    baseline: &BaselinePlan,
+    cells: &mut [Cell],
+)
     requires plan { IsPlan plan.now }
     requires scan { IsScanPlan plan.now scan.now }
     requires inside { m < integrations_of plan.now scan.now }
     requires room { length cells.old ≡ plan.now.lags }
     ensures { cells.new ≡ cells_of plan.now (V.samples v.now) scan.now m product.now baseline.now }
 {
-    let pair = Pair { a: baseline.a, x: product.x, b: baseline.b, y: product.y };
+    let pair = Pair {
+        a: baseline.a,
+        x: product.x,
+        b: baseline.b,
+        y: product.y,
+    };
     let from = m * plan.integration;
     let to = (from + plan.integration).min(scan.samples);
     for (i, cell) in cells.iter_mut().enumerate() {

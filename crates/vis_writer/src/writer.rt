@@ -6,9 +6,8 @@ ghost use Rattle.vis_writer.specs.Cells.{all_cells, integrations_of, cells_of, w
 ghost use Rattle.vis_writer.specs.Writes.{Writes, of_sink};
 ghost use Rattle.vis_writer.specs.Texts.{integration_text, scan_text_by, scans_text};
 
-use crate::CellSource;
-use crate::WriteFault;
 use crate::records::{record_count, write_products};
+use crate::{CellSource, WriteFault};
 use corr_model::Cell;
 use dev_traits::Sink;
 use vis_records::{SinkFault, VisHead, VisScan, write_end, write_head};
@@ -16,7 +15,12 @@ use vis_records::{SinkFault, VisHead, VisScan, write_end, write_head};
 /// Appends the record file of `head`: the head, every record in the order scan, integration, product and baseline with
 /// the source's cells, and the end. `buffer` holds the cells of one integration at a time; there is room in it for those
 /// of any integration of the head. The end has the lowest 64 bits of the number of records.
-pub fn write_records<C: CellSource, S: Sink>(head: &VisHead, source: &mut C, buffer: &mut [Cell], out: &mut S) -> Result<(), WriteFault<C::Fault>>
+pub fn write_records<C: CellSource, S: Sink>(
+    head: &VisHead,
+    source: &mut C,
+    buffer: &mut [Cell],
+    out: &mut S,
+) -> Result<(), WriteFault<C::Fault>>
     requires head { C.head source.old ≡ head.now }
     requires room { widest head.now ≤ length buffer.old }
     ensures { Writes C.head C.cells C.steady C.fails (λ of. vis_text head.now (all_cells head.now of)) source.old source.new (S.told out.old) (S.told out.new) (S.faults out.old) (S.faults out.new) result }
@@ -27,7 +31,12 @@ pub fn write_records<C: CellSource, S: Sink>(head: &VisHead, source: &mut C, buf
 }
 
 // Appends the records of all scans.
-fn write_scans<C: CellSource, S: Sink>(head: &VisHead, source: &mut C, buffer: &mut [Cell], out: &mut S) -> Result<(), WriteFault<C::Fault>>
+fn write_scans<C: CellSource, S: Sink>(
+    head: &VisHead,
+    source: &mut C,
+    buffer: &mut [Cell],
+    out: &mut S,
+) -> Result<(), WriteFault<C::Fault>>
     requires head { C.head source.old ≡ head.now }
     requires room { widest head.now ≤ length buffer.old }
     ensures { Writes C.head C.cells C.steady C.fails (λ of. scans_text head.now of) source.old source.new (S.told out.old) (S.told out.new) (S.faults out.old) (S.faults out.new) result }
@@ -40,7 +49,14 @@ fn write_scans<C: CellSource, S: Sink>(head: &VisHead, source: &mut C, buffer: &
 }
 
 // Appends the records of a scan, whose number in the head this is.
-fn write_scan<C: CellSource, S: Sink>(head: &VisHead, number: u32, scan: &VisScan, source: &mut C, buffer: &mut [Cell], out: &mut S) -> Result<(), WriteFault<C::Fault>>
+fn write_scan<C: CellSource, S: Sink>(
+    head: &VisHead,
+    number: u32,
+    scan: &VisScan,
+    source: &mut C,
+    buffer: &mut [Cell],
+    out: &mut S,
+) -> Result<(), WriteFault<C::Fault>>
     requires head { C.head source.old ≡ head.now }
     requires ranges { IsHead head.now }
     requires scan { slice_get head.now.scans number ≡ Some (scan_of scan.now) }
@@ -54,7 +70,15 @@ fn write_scan<C: CellSource, S: Sink>(head: &VisHead, number: u32, scan: &VisSca
 }
 
 // Appends the records of integration `m` of a scan.
-fn write_integration<C: CellSource, S: Sink>(head: &VisHead, number: u32, scan: &VisScan, m: u64, source: &mut C, buffer: &mut [Cell], out: &mut S) -> Result<(), WriteFault<C::Fault>>
+fn write_integration<C: CellSource, S: Sink>(
+    head: &VisHead,
+    number: u32,
+    scan: &VisScan,
+    m: u64,
+    source: &mut C,
+    buffer: &mut [Cell],
+    out: &mut S,
+) -> Result<(), WriteFault<C::Fault>>
     requires head { C.head source.old ≡ head.now }
     requires scan { slice_get head.now.scans number ≡ Some (scan_of scan.now) }
     requires inside { m < integrations_of head.now (scan_of scan.now) }

@@ -6,7 +6,7 @@ use Rattle.vex_schedule.specs.declared.scan.Scan.{Scan}
 use Rattle.job_text.specs.Job.{JobFields, StationFields}
 use Rattle.job_join.specs.Standing.{Stand, is_taken, stands_in, rate_of}
 use Rattle.job_join.specs.Channels.{channels_of, chans_in, differ, are_different}
-use Rattle.job_join.specs.Spans.{shape_of}
+use Rattle.job_text.specs.Ranges.{shape_of}
 
 -- the first scan that is taken and for which a test holds, by its number in the schedule
 abbrev pub first_taken : JobFields → List Scan → (Scan → Bool) → Option ℕ

@@ -20,7 +20,8 @@ use Rattle.job_join.specs.declared.fault.JoinFault.TheVariants.{UnknownScan, Unk
 use Rattle.job_join.specs.Standing.{Stand, taken, stands_in, rate_of, unknown_scan, unknown_station}
 use Rattle.job_join.specs.Channels.{channels_of, chan_with}
 use Rattle.job_join.specs.Differing.{rate_differs, channel_differs, product_differs, frame_rate}
-use Rattle.job_join.specs.Spans.{first_sample, end_sample, samples_of, shape_of}
+use Rattle.job_join.specs.Spans.{first_sample, end_sample, samples_of}
+use Rattle.job_text.specs.Ranges.{shape_of}
 use Rattle.job_join.specs.Modelled.{no_model, no_clock}
 use Rattle.job_join.specs.Limits.{baselines_in, limit}
 

@@ -1,10 +1,9 @@
--- Samples of a scan: those of a station's part, and how many there are; and the frames of a station.
+-- Samples of a scan: those of a station's part, and how many there are.
 use Rattle.std.specs.Prelude.{ℕ, ◌*◌, ◌/◌, ℤ, unsigned_abs, max, fold}
 use Rattle.std.specs.Option.{option_map_or}
-use Rattle.vdif_frame.specs.Shape.{ShapeFields}
 use Rattle.vex_schedule.specs.declared.scan.Pass.{Pass}
 use Rattle.vex_schedule.specs.declared.scan.Scan.{Scan}
-use Rattle.job_text.specs.Job.{JobFields, StationFields}
+use Rattle.job_text.specs.Job.{JobFields}
 use Rattle.job_join.specs.Standing.{Stand, stands_in}
 
 -- the whole samples in so many microseconds
@@ -22,14 +21,3 @@ end_sample rate pass = option_map_or (λ (n : ℕ). n) pass.samples (samples_in 
 -- the samples of a scan: as far as a station of the job goes
 unfoldable pub samples_of : JobFields → ℕ → Scan → ℕ
 samples_of job rate scan = fold (λ most (s : Stand). max most (end_sample rate s.pass)) 0 (stands_in job scan)
-
--- the shape of a station's frames, of which so many come in a second
-abbrev pub shape_of : ℕ → StationFields → ShapeFields
-shape_of frames s = record {
-  legacy = s.legacy;
-  frame_bytes = s.frame_bytes;
-  chans_log2 = s.chans_log2;
-  bits = s.bits;
-  station = s.id;
-  frames = frames;
-}

@@ -1,1 +1,5 @@
 pub mod RangesLists
+pub mod RangesBaselines
+pub mod RangesStands
+pub mod RangesAccepted
+pub mod RangesRates

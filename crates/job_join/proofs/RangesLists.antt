@@ -1,11 +1,12 @@
 -- What holds of each element, and of each two, in lists made from others.
 use Rattle.std.specs.Prelude.{flat_map, filter_map, find}
-use Rattle.std.specs.List.{cons_option, enumerate_from, position, position_or_len, prefix_len}
+use Rattle.std.specs.List.{cons_option, list_any, enumerate_from, position, position_or_len, prefix_len}
 use Rattle.std.proofs.Common.{◌≡◌, ◌∙◌, sym, ap, ℕ, zero, suc, ◌+◌, ◌<◌, ◌≤◌, max, Bool, true, false, cond, not, nat_lt, ltb-false, List, [], ◌∷◌, ◌++◌, length, get_or, map, filter, fold, slice_get, Option, None, Some, is_some, IfSome, option_map, All, AllPairs, arith, refl, inl, inr}
+use Rattle.std.proofs.lemmas.Bool.{or_from}
 use Rattle.std.proofs.lemmas.List.{length-append, length-map}
 use Rattle.std.proofs.lemmas.List.Elements.{All-nil, All-cons, All-head, All-tail, All-append, All-map, All-filter, All-weaker}
 use Rattle.std.proofs.lemmas.List.FromFn.{length-enumerate_from, get_or-enumerate_from}
-use Rattle.std.proofs.lemmas.Option.{slice_get-get_or}
+use Rattle.std.proofs.lemmas.Option.{slice_get-get_or, slice_get-map}
 
 -- ---- each element
 
@@ -101,6 +102,43 @@ first-none (x ∷ xs) none = absurd cc
 pub option_map-none : {X Y : Type 0} (f : X → Y) (o : Option X) → option_map f o ≡ None → o ≡ None
 option_map-none f None none = refl
 option_map-none f (Some x) none = absurd cc
+
+pub flat_map-none : {X Y : Type 0} (f : X → List Y) (xs : List X) → flat_map f xs ≡ [] → All (λ x. f x ≡ []) xs
+flat_map-none f [] none = All-nil (λ x. f x ≡ [])
+flat_map-none {X} {Y} f (x ∷ xs) none = by (f x) refl none (flat_map-none f xs)
+  where
+    by : (ys : List Y) → f x ≡ ys → ys ++ flat_map f xs ≡ [] → (flat_map f xs ≡ [] → All (λ x. f x ≡ []) xs) → All (λ x. f x ≡ []) (x ∷ xs)
+    by [] is empty rest = All-cons (λ x. f x ≡ []) x xs is (rest empty)
+    by (y ∷ ys) is empty rest = absurd cc
+
+pub list_any-none : {X : Type 0} (p : X → Bool) (xs : List X) → All (λ x. p x ≡ false) xs → list_any p xs ≡ false
+list_any-none p [] none = refl
+list_any-none p (x ∷ xs) none =
+    or_from (p x) (list_any p xs) (All-head (λ x. p x ≡ false) x xs none) (list_any-none p xs (All-tail (λ x. p x ≡ false) x xs none))
+
+pub All-from_map : {X Y : Type 0} (P : Y → Type 0) (f : X → Y) (xs : List X) → All P (map f xs) → All (λ x. P (f x)) xs
+All-from_map P f [] all = All-nil (λ x. P (f x))
+All-from_map P f (x ∷ xs) all = All-cons (λ x. P (f x)) x xs (All-head P (f x) (map f xs) all) (All-from_map P f xs (All-tail P (f x) (map f xs) all))
+
+pub All-from_enumerate : {X : Type 0} (P : X → Type 0) (n : ℕ) (xs : List X) → All (λ e. P e.1) (enumerate_from n xs) → All P xs
+All-from_enumerate P n [] all = All-nil P
+All-from_enumerate P n (x ∷ xs) all =
+    All-cons P x xs (All-head (λ e. P e.1) (n, x) (enumerate_from (n + 1) xs) all) (All-from_enumerate P (n + 1) xs (All-tail (λ e. P e.1) (n, x) (enumerate_from (n + 1) xs) all))
+
+-- what is found of the things made of a list is made of one of them
+pub found-of : {X Y : Type 0} (p : Y → Bool) (f : X → Y) (P : X → Type 0) (xs : List X) → All P xs → is_some (find p (map f xs)) ≡ true → (x : X) × P x × (p (f x) ≡ true)
+found-of p f P [] all is = absurd cc
+found-of {X} p f P (x ∷ xs) all is = by (p (f x)) refl is (found-of p f P xs (All-tail P x xs all))
+  where
+    by : (b : Bool) → p (f x) ≡ b → is_some (cond b (Some (f x)) (find p (map f xs))) ≡ true → (is_some (find p (map f xs)) ≡ true → (x : X) × P x × (p (f x) ≡ true)) → (x : X) × P x × (p (f x) ≡ true)
+    by true passes found rest = (x, All-head P x xs all, passes)
+    by false passes found rest = rest found
+
+pub there-of : {X Y : Type 0} (p : X → Y → Bool) (f : X → Y) → ((x : X) → p x (f x) ≡ true) → (xs : List X) → All (λ x. is_some (find (p x) (map f xs)) ≡ true) xs
+there-of {X} p f passes xs k d within =
+    let x : X = get_or xs k d in
+    let here : slice_get (map f xs) k ≡ Some (f x) = slice_get-map f xs k ∙ ap (option_map f) (slice_get-get_or xs k d within) in
+    find-there (p x) (map f xs) k (f x) here (passes x)
 
 -- the greatest of some numbers
 module _ {X : Type 0} (f : X → ℕ) where

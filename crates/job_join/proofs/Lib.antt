@@ -3,3 +3,5 @@ pub mod RangesBaselines
 pub mod RangesStands
 pub mod RangesAccepted
 pub mod RangesRates
+pub mod RangesStations
+pub mod RangesChannels

@@ -2,9 +2,10 @@
 use Rattle.std.specs.Int.{div_ceil}
 use Rattle.std.specs.List.{enumerate_from, list_any}
 use Rattle.std.specs.Prelude.{flat_map}
-use Rattle.std.proofs.Common.{◌≡◌, ◌∙◌, sym, ap, refl, ℕ, ◌+◌, ◌-◌, ◌*◌, ◌/◌, ◌%◌, ◌^◌, ◌<◌, ◌≤◌, Bool, true, false, not, List, [], ◌∷◌, length, All, IfSome, Option, None, Some, is_some, option_map, unwrap_or, slice_get, arith, div-add-mod'}
+use Rattle.std.proofs.Common.{◌≡◌, ◌∙◌, sym, ap, refl, ℕ, ◌+◌, ◌-◌, ◌*◌, ◌/◌, ◌%◌, ◌^◌, ◌<◌, ◌≤◌, min, zero, suc, Bool, true, false, not, List, [], ◌∷◌, length, All, IfSome, Option, None, Some, is_some, option_map, unwrap_or, slice_get, arith, div-add-mod'}
 use Rattle.std.proofs.lemmas.Bool.{not-false}
 use Rattle.std.proofs.lemmas.List.Elements.{All-weaker, All-head, All-filter}
+use Rattle.std.proofs.lemmas.Nat.{mul-le, mod_below}
 use Rattle.vex_schedule.specs.declared.scan.Pass.{Pass}
 use Rattle.vex_schedule.specs.declared.scan.Scan.{Scan}
 use Rattle.job_text.specs.Job.{JobFields, StationFields}
@@ -73,6 +74,22 @@ rate_of-All P job scans known some all =
     by None some first = absurd (some refl)
     by (Some s) some first = first
 
+below_parts : (quotient rest rate most : ℕ) → rest < rate → quotient + min 1 rest ≤ most → quotient * rate + rest ≤ most * rate
+below_parts quotient zero rate most less few = omega (arith, mul-le quotient rate most rate (omega arith) (omega arith))
+below_parts quotient (suc rest) rate most less few = omega (arith, mul-le (quotient + 1) rate most rate (omega arith) (omega arith))
+
 -- so many whole seconds at most are so many samples
-pub samples-from_seconds : (samples rate most : ℕ) → div_ceil samples rate ≤ most → samples ≤ most * rate
-samples-from_seconds samples rate most few = ?h1
+pub samples-from_seconds : (samples rate most : ℕ) → 0 < rate → div_ceil samples rate ≤ most → samples ≤ most * rate
+samples-from_seconds samples rate most some few =
+    omega (arith, div-add-mod' samples rate, below_parts (samples / rate) (samples % rate) rate most (mod_below samples rate some) few)
+
+some_quotient : (quotient a b : ℕ) → 0 < a → quotient * b + 0 ≡ a → 0 < quotient
+some_quotient zero a b some is = omega arith
+some_quotient (suc quotient) a b some is = omega arith
+
+-- what is divided without a rest
+pub divided : (a b : ℕ) → a % b ≡ 0 → a ≡ a / b * b
+divided a b none = omega (arith, div-add-mod' a b, none)
+
+pub divided-some : (a b : ℕ) → 0 < a → a % b ≡ 0 → 0 < a / b
+divided-some a b some none = some_quotient (a / b) a b some (omega (arith, divided a b none))

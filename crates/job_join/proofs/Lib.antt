@@ -5,3 +5,4 @@ pub mod RangesAccepted
 pub mod RangesRates
 pub mod RangesStations
 pub mod RangesChannels
+pub mod RangesParts

@@ -65,6 +65,7 @@ station-there job rate channels scans s is some whole =
       recorded = All-map (IsRecorded (shape_of frames s)) (recorded_of s) channels (λ k d less. recorded-there frames s _ is);
       polys = is.polys;
       clocks = is.clocks;
+      files = is.files;
     }
 
 frames-whole : (job : JobFields) (scans : List Scan) → frame_rate job scans ≡ None → All (λ s. rate_of job scans % samples_per_frame (shape_of 0 s) ≡ 0) job.stations

@@ -6,3 +6,4 @@ pub mod RangesRates
 pub mod RangesStations
 pub mod RangesChannels
 pub mod RangesParts
+pub mod RangesModelled

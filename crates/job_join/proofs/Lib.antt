@@ -7,3 +7,5 @@ pub mod RangesStations
 pub mod RangesChannels
 pub mod RangesParts
 pub mod RangesModelled
+pub mod RangesScans
+pub mod Ranges

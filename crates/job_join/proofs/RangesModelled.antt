@@ -1,6 +1,6 @@
 -- The stations of a plan's scan have a delay model and a clock at each of its samples.
-use Rattle.std.specs.Prelude.{find, flat_map}
-use Rattle.std.proofs.Common.{◌≡◌, ◌∙◌, sym, ap, refl, subst, ℕ, ◌==◌, ℤ, pos, unsigned_abs, Bool, true, false, not, List, [], ◌∷◌, ◌++◌, length, map, All, Option, None, Some, option_map, is_some, slice_get, get_or, arith}
+use Rattle.std.specs.Prelude.{flat_map}
+use Rattle.std.proofs.Common.{◌≡◌, ◌∙◌, sym, ap, subst, ℕ, ◌==◌, ℤ, pos, unsigned_abs, Bool, true, List, [], ◌∷◌, ◌++◌, map, All, None, Some, option_map, is_some, slice_get, get_or, arith}
 use Rattle.std.proofs.lemmas.Bool.{eqb-true, not-false}
 use Rattle.std.proofs.lemmas.Int.{ints}
 use Rattle.std.proofs.lemmas.List.Elements.{All-nil, All-cons, All-head, All-tail, All-weaker}

@@ -1,20 +1,17 @@
 -- The stations' parts of a scan in a plan.
 use Rattle.std.specs.Option.{option_map_or}
-use Rattle.std.specs.Prelude.{find}
-use Rattle.std.proofs.Common.{◌≡◌, ◌∙◌, sym, ap, refl, subst, ℕ, ◌+◌, ◌*◌, ◌/◌, ◌<◌, ◌≤◌, ◌^◌, ◌==◌, ℤ, pos, ◌≤ℤ◌, unsigned_abs, true, List, length, map, max, All, AllPairs, IfSome, Option, None, Some, option_map, is_some, slice_get, bytes_eq, get_or, arith}
+use Rattle.std.proofs.Common.{◌≡◌, refl, ℕ, ◌*◌, ◌/◌, ◌<◌, ◌≤◌, ◌==◌, ℤ, pos, ◌≤ℤ◌, unsigned_abs, true, List, map, All, AllPairs, IfSome, Option, None, Some, is_some, bytes_eq, get_or, arith}
 use Rattle.std.proofs.lemmas.Bool.{eq-eqb}
 use Rattle.std.proofs.lemmas.Int.{ints}
 use Rattle.std.proofs.lemmas.List.{length-map}
-use Rattle.std.proofs.lemmas.List.Elements.{All-map, All-weaker}
+use Rattle.std.proofs.lemmas.List.Elements.{All-map}
 use Rattle.std.proofs.lemmas.Nat.{mul-le, le-div}
 use Rattle.std.proofs.lemmas.Option.{slice_get_within}
 use Rattle.std.proofs.Math.Nat.{div-mul-le_self}
-use Rattle.num_time.specs.Times.{IsSecond}
 use Rattle.vex_schedule.specs.declared.scan.Chan.{Chan}
 use Rattle.vex_schedule.specs.declared.scan.Pass.{Pass}
 use Rattle.vex_schedule.specs.declared.scan.Scan.{Scan}
 use Rattle.vex_schedule.specs.Sound.{IsChan, IsPass}
-use Rattle.job_plan.specs.declared.plan.BaselinePlan.{BaselinePlan}
 use Rattle.job_plan.specs.declared.plan.StayPlan.{StayPlan}
 use Rattle.job_plan.specs.Values.{stay_of}
 use Rattle.job_plan.specs.Ranges.{IsBand, IsStay, IsOfScan}
@@ -25,7 +22,7 @@ use Rattle.job_join.specs.Spans.{samples_in, first_sample, end_sample, samples_o
 use Rattle.job_join.specs.Limits.{baselines_in}
 use Rattle.job_join.specs.Joined.{band_of, station_plan, stay_plan, scan_plan, plan_by}
 use Rattle.job_join.proofs.RangesLists.{find-All, there-of, fold-max, AllPairs-map}
-use Rattle.job_join.proofs.RangesBaselines.{pair, All-baselines_in}
+use Rattle.job_join.proofs.RangesBaselines.{All-baselines_in}
 use Rattle.job_join.proofs.RangesStands.{IsStand, stands-there, stands-rising, stands-All}
 
 quotients-rise : (a b k : ℕ) → 0 < k → a ≤ b → a / k ≤ b / k
@@ -34,7 +31,7 @@ quotients-rise a b k some less = le-div (a / k) b k some (omega (arith, div-mul-
 samples_in-rise : (rate : ℕ) (from to : ℤ) → pos 0 ≤ℤ from → from ≤ℤ to → samples_in rate from ≤ samples_in rate to
 samples_in-rise rate from to start order =
     quotients-rise (unsigned_abs from * rate) (unsigned_abs to * rate) 1000000 (omega arith)
-        (mul-le (unsigned_abs from) rate (unsigned_abs to) rate (omega (arith, ints)) (omega arith))
+    (mul-le (unsigned_abs from) rate (unsigned_abs to) rate (omega (arith, ints)) (omega arith))
 
 -- a part does not end before it begins
 part-order : (rate : ℕ) (pass : Pass) → IsPass pass → first_sample rate pass ≤ end_sample rate pass
@@ -72,7 +69,7 @@ module _ (job : JobFields) (rate : ℕ) (channels : List (List ℕ)) (scans : Li
       → All (IsStay (plan_by job rate channels scans) (scan_plan job rate channels scan)) (map (stay_plan rate channels) (stands_in job scan))
   stays-there all =
       All-map (IsStay (plan_by job rate channels scans) (scan_plan job rate channels scan)) (stay_plan rate channels) (stands_in job scan)
-          (λ k d less. stay-there (get_or (stands_in job scan) k d) (stands-there job scan k d less) (stands-All IsPass job scan all k d less) (parts-end job rate scan k d less))
+      (λ k d less. stay-there (get_or (stands_in job scan) k d) (stands-there job scan k d less) (stands-All IsPass job scan all k d less) (parts-end job rate scan k d less))
 
 pub stays-in_order : (job : JobFields) (rate : ℕ) (channels : List (List ℕ)) (scan : Scan)
     → AllPairs (λ (s t : StayPlan). s.station < t.station) (map (stay_plan rate channels) (stands_in job scan))
@@ -88,4 +85,4 @@ pub baselines-there : (job : JobFields) (rate : ℕ) (channels : List (List ℕ)
     → All (IsOfScan (scan_plan job rate channels scan)) (baselines_in job scan)
 baselines-there job rate channels scan =
     All-baselines_in job scan (IsOfScan (scan_plan job rate channels scan))
-        (λ k d less i b within order. record { order = order; first = parts-there job rate channels scan k d less; second = parts-there job rate channels scan i b within })
+    (λ k d less i b within order. record { order = order; first = parts-there job rate channels scan k d less; second = parts-there job rate channels scan i b within })

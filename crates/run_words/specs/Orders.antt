@@ -36,9 +36,9 @@ run_of rows =
     piece_in piece_text >>= λ piece.
     Ok (Run job (first_of (codes "vex") rows) workers piece)
 
--- an order of the two names of a job
-unfoldable pub job_order_of : (Text → Option Text → Order) → List Row → Result Order WordsFault
-job_order_of order rows = needed (codes "job") rows >>= λ job. Ok (order job (first_of (codes "vex") rows))
+-- the names of a job's file and of its schedule's
+unfoldable pub job_names_of : List Row → Result (Text × Option Text) WordsFault
+job_names_of rows = needed (codes "job") rows >>= λ job. Ok (job, first_of (codes "vex") rows)
 
 unfoldable pub dump_of : List Row → Result Order WordsFault
 dump_of rows = needed (codes "file") rows >>= λ file. Ok (Dump file)
@@ -56,17 +56,21 @@ gen_of rows =
     piece_in piece_text >>= λ piece.
     Ok (Gen seed seconds workers piece)
 
--- the order of words that a command takes
-unfoldable pub taken_by : App → (List Row → Result Order WordsFault) → List Text → Result Order WordsFault
-taken_by app order words = option_map_or order (rows_in app words) (Err OptionFault)
+-- what is read of the words that a command takes
+unfoldable pub taken_by : {A : Type 0} → App → (List Row → Result A WordsFault) → List Text → Result A WordsFault
+taken_by app read words = option_map_or read (rows_in app words) (Err OptionFault)
+
+-- an order of the two names of a job
+abbrev pub job_order : (Text → Option Text → Order) → Text → List Text → Result Order WordsFault
+job_order order command words = taken_by (job_app command) job_names_of words >>= λ names. Ok (order names.0 names.1)
 
 -- the order of a command and the words behind it
 unfoldable pub order_after : Text → List Text → Result Order WordsFault
 order_after command words =
     if bytes_eq command (codes "run") then taken_by run_app run_of words
-    else if bytes_eq command (codes "plain") then taken_by (job_app (codes "plain")) (job_order_of Plain) words
-    else if bytes_eq command (codes "check") then taken_by (job_app (codes "check")) (job_order_of Check) words
-    else if bytes_eq command (codes "status") then taken_by (job_app (codes "status")) (job_order_of Status) words
+    else if bytes_eq command (codes "plain") then job_order Plain (codes "plain") words
+    else if bytes_eq command (codes "check") then job_order Check (codes "check") words
+    else if bytes_eq command (codes "status") then job_order Status (codes "status") words
     else if bytes_eq command (codes "dump") then taken_by dump_app dump_of words
     else if bytes_eq command (codes "gen") then taken_by gen_app gen_of words
     else Err UnknownCommand

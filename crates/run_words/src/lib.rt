@@ -8,8 +8,8 @@ mod fault;
 mod numbers;
 mod order;
 mod orders;
-
+mod words;
 
 pub use fault::WordsFault;
 pub use order::Order;
-
+pub use words::read_words;

@@ -87,6 +87,7 @@ fn dump_of(alloc: Global, matches: &ArgMatches) -> Result<Order, WordsFault>
 #[tactic(auto, unfolding(crate::specs::Orders::gen_of))]
 fn gen_of(matches: &ArgMatches) -> Result<Order, WordsFault>
     ensures order { result ≡ gen_of (rows_of (found_of matches.now)) }
+    ensures texts { IfOk result AreTexts }
 {
     let seed = needed(matches, "seed")?;
     let seconds = needed(matches, "seconds")?;

@@ -1,7 +1,7 @@
 -- What is read of a text of digits.
 use Rattle.std.proofs.Common.{◌≡◌, ◌∙◌, ap, sym, ℕ, ◌<◌, ◌≤◌, ◌^◌, true, false, cond, List, length, Result, Ok, Err, arith, rules, refl}
 use Rattle.std.specs.Str.Parse.{digits_value, ParsesUnsigned}
-use Rattle.std.proofs.lemmas.Bool.{and_parts, leb-true, le-ltb, and_right, lt-leb}
+use Rattle.std.proofs.lemmas.Bool.{and_parts, leb-true, and_right, lt-leb}
 use Rattle.std.proofs.lemmas.Str.Parse.{IsNumeralModel, numerals_by_value, parse_digits}
 use Rattle.num_time.specs.Numerals.{are_digits}
 use Rattle.run_words.specs.declared.fault.WordsFault.{WordsFault}

@@ -1,12 +1,11 @@
 -- What a parse of a simple command gives.
-use Rattle.std.proofs.Common.{◌≡◌, ◌∙◌, ap, sym, refl, true, List, [], ◌∷◌, ◌&&◌, Option, Some, None, Result, Ok, Err, inl, inr, ◌⊎◌}
-use Rattle.clap.specs.Words.{App, Row, Text, Kinds, fault_of, matches_of, rows_of, found_of, FailsBy, IsAmong}
+use Rattle.std.proofs.Common.{◌≡◌, ◌∙◌, ap, sym, refl, List, [], ◌∷◌, Some, None, inl, inr, ◌⊎◌}
+use Rattle.clap.specs.Words.{App, Row, Text, Kinds, fault_of, matches_of, IsAmong}
 use Rattle.clap.specs.declared.error.kind.ErrorKind.{ErrorKind}
 use Rattle.clap.specs.declared.error.kind.ErrorKind.TheVariants.{OutOfMemory}
-use Rattle.clap.specs.declared.parser.matches.ArgMatches.{ArgMatches}
 use Rattle.run_words.specs.declared.fault.WordsFault.{WordsFault}
 use Rattle.run_words.specs.declared.fault.WordsFault.TheVariants.{Option as OptionFault, Memory}
-use Rattle.run_words.specs.Options.{rows_in, unless_refused, kind_fault, Parses}
+use Rattle.run_words.specs.Options.{rows_in, unless_refused, kind_fault}
 
 -- without a fault the rows are the matches
 pub rows_in-matches : (app : App) (words : List Text) (rows : List Row) → fault_of app words ≡ [] → rows ≡ matches_of app words → rows_in app words ≡ Some rows

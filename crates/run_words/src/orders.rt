@@ -4,7 +4,7 @@ ghost use Rattle.std.specs.Str.{IsUtf8};
 ghost use Rattle.clap.specs.Words.{rows_of, found_of, first_of};
 ghost use Rattle.run_words.specs.declared.order.Order.TheVariants.{Plain, Check, Status};
 ghost use Rattle.run_words.specs.Options.{job_app, run_app, gen_app, dump_app};
-ghost use Rattle.run_words.specs.Orders.{needed, run_of, job_names_of, dump_of, gen_of, taken_by, Gives, AreTexts};
+ghost use Rattle.run_words.specs.Orders.{needed, workers_in, piece_in, run_of, job_names_of, dump_of, gen_of, taken_by, Gives, AreTexts};
 
 use crate::commands::{dump_command, gen_command, job_command, parsed, run_command};
 use crate::fault::WordsFault;
@@ -52,6 +52,21 @@ fn name_given(alloc: Global, matches: &ArgMatches, name: &str) -> Result<Option<
     }
 }
 
+// The number of workers that a text writes.
+fn workers_in(text: &str) -> Result<u32, WordsFault>
+    ensures { result ≡ workers_in text.now }
+{
+    let workers = number_in(text, 1, 64)?;
+    Ok(workers as u32)
+}
+
+// The samples of a piece that a text writes.
+fn piece_in(text: &str) -> Result<u64, WordsFault>
+    ensures { result ≡ piece_in text.now }
+{
+    number_in(text, 64, 4_194_304)
+}
+
 // The order of the command `run`.
 #[tactic(auto, unfolding(crate::specs::Orders::run_of))]
 fn run_of(alloc: Global, matches: &ArgMatches) -> Result<Order, WordsFault>
@@ -61,12 +76,12 @@ fn run_of(alloc: Global, matches: &ArgMatches) -> Result<Order, WordsFault>
     let job = needed(matches, "job")?;
     let workers = needed(matches, "workers")?;
     let piece = needed(matches, "piece")?;
-    let workers = number_in(workers, 1, 64)?;
-    let piece = number_in(piece, 64, 4_194_304)?;
+    let workers = workers_in(workers)?;
+    let piece = piece_in(piece)?;
     Ok(Order::Run {
         job: name_of(alloc, job)?,
         vex: name_given(alloc, matches, "vex")?,
-        workers: workers as u32,
+        workers,
         piece,
     })
 }
@@ -95,12 +110,12 @@ fn gen_of(matches: &ArgMatches) -> Result<Order, WordsFault>
     let piece = needed(matches, "piece")?;
     let seed = number_in(seed, 0, u64::MAX)?;
     let seconds = number_in(seconds, 1, 60)?;
-    let workers = number_in(workers, 1, 64)?;
-    let piece = number_in(piece, 64, 4_194_304)?;
+    let workers = workers_in(workers)?;
+    let piece = piece_in(piece)?;
     Ok(Order::Gen {
         seed,
         seconds: seconds as u32,
-        workers: workers as u32,
+        workers,
         piece,
     })
 }

@@ -1,0 +1,4 @@
+pub mod HeadLemmas
+pub mod StepLemmas
+pub mod SecondLemmas
+pub mod PassedLemmas

@@ -1,6 +1,5 @@
 -- The header of a slot, read from the slot's first 32 bytes.
-use Rattle.std.specs.Prelude.{if◌then◌else◌}
-use Rattle.std.proofs.Common.{◌≡◌, ◌∙◌, refl, sym, ap, ℕ, ◌+◌, ◌*◌, ◌≤◌, ◌<◌, min, Bool, true, false, List, length, get_or, take, drop, replicate, Some, arith}
+use Rattle.std.proofs.Common.{◌≡◌, ◌∙◌, refl, sym, ap, ℕ, ◌+◌, ◌*◌, ◌≤◌, ◌<◌, min, Bool, true, false, List, length, get_or, take, drop, Some, arith}
 use Rattle.std.proofs.lemmas.List.{get_or-take, drop-take, take_all, length-take}
 use Rattle.byteorder.specs.Endian.{little_number}
 use Rattle.vdif_frame.specs.Header.{HeaderFields, HasHeader, fields_of, word, legacy_bit}

@@ -13,7 +13,7 @@ use Rattle.vdif_frame.specs.Agreement.{first_field}
 use Rattle.vdif_frame.specs.declared.shape.Field.{Field}
 use Rattle.corr_model.specs.Slots.{Slot}
 use Rattle.corr_model.specs.Sample.{agrees_with}
-use Rattle.corr_model.specs.Frames.{second_in, holds_frame, frame_slot}
+use Rattle.corr_model.specs.Frames.{holds_frame}
 use Rattle.frame_index.specs.declared.counts.Counts.{Counts}
 use Rattle.frame_index.specs.declared.frame.Frame.{Frame}
 use Rattle.frame_index.specs.declared.frame.SlotAt.{SlotAt}
@@ -158,10 +158,10 @@ with_kinds doubled invalid foreign late c = record {
 }
 
 no_more : (c : Counts) → with_foreign c ≡ with_kinds false false true false c
-no_more c = rw (add-zero, add-zero, add-zero) refl
+no_more c = simp add-zero
 
 none_foreign : (doubled invalid late : Bool) (c : Counts) → with_agreeing doubled invalid late c ≡ with_kinds doubled invalid false late c
-none_foreign doubled invalid late c = rw add-zero refl
+none_foreign doubled invalid late c = rw (add-zero c.foreign) refl
 
 -- one more slot that does not agree
 pub Holds-foreign : (shape : ShapeFields) (done : List Slot) (old new : Builder) (slot : Slot) (field : Field) → Holds shape done old

@@ -1,5 +1,5 @@
 -- The causes of an index fault.
-use Rattle.std.specs.Prelude.{◌≡◌, ℕ, ◌≤◌, Option, Some, None, Result, OnOk, IfErr}
+use Rattle.std.specs.Prelude.{◌≡◌, ℕ, ◌≤◌, Option, Some, Result, OnOk, IfErr}
 use Rattle.dev_traits.specs.Fault.{HasRisen}
 use Rattle.vdif_frame.specs.declared.shape.Field.{Field}
 use Rattle.frame_index.specs.declared.fault.IndexFault.{IndexFault}

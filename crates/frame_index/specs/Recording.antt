@@ -27,6 +27,9 @@ bytes_on shelf files = map (λ (file : FileRef). bytes_of (shelf file.name)) fil
 abbrev pub slots_on : Shelved → ShapeFields → List FileRef → List Slot
 slots_on shelf shape files = station_slots shape.frame_bytes (bytes_on shelf files)
 
--- the number of slots by the files' sizes
+-- the number of slots of a length, by the files' sizes
+abbrev pub slots_by_size : ℕ → List FileRef → ℕ
+slots_by_size size files = sum_by (λ (file : FileRef). file.size / size) files
+
 abbrev pub slot_total : ShapeFields → List FileRef → ℕ
-slot_total shape files = sum_by (λ (file : FileRef). file.size / shape.frame_bytes) files
+slot_total shape files = slots_by_size shape.frame_bytes files

@@ -13,7 +13,7 @@ use crate::builder::Builder;
 use crate::fault::IndexFault;
 use crate::heads::meet_file;
 use crate::index::Index;
-use crate::recording::{FileRef, Layout, PIECE};
+use crate::recording::{FileRef, Layout, PIECE, exceed};
 use dev_traits::Shelf;
 use std::alloc::Global;
 use vdif_frame::Shape;
@@ -26,9 +26,11 @@ fn meet_files<F: Shelf>(
     shelf: &mut F,
     builder: &mut Builder,
     shape: &Shape,
+    layout: &Layout,
     files: &[FileRef],
     buf: &mut [u8],
 ) -> Result<(), IndexFault>
+    requires layout { IsLayoutOf shape.now layout.now }
     requires few { length files.now < 2 ^ 32 }
     requires room { builder.old.counts.slots + slot_total shape.now files.now ≤ 2 ^ 26 }
     requires long { length buf.old ≡ PIECE }
@@ -39,10 +41,18 @@ fn meet_files<F: Shelf>(
     ensures counts { CountsReads (F.faults shelf.old) (F.faults shelf.new) result }
     ensures stage { IfErr result IsReadOrMemory }
 {
-    let layout = Layout::of(shape);
     for (i, file) in files.iter().enumerate() {
         let count = file.size / layout.size as u64;
-        meet_file(shelf, builder, shape, &layout, i as u32, file.name.bytes(), count, buf)?;
+        meet_file(
+            shelf,
+            builder,
+            shape,
+            layout,
+            i as u32,
+            file.name.bytes(),
+            count,
+            buf,
+        )?;
     }
     Ok(())
 }
@@ -51,7 +61,12 @@ impl Index {
     /// The index of a station's files, in this order, for frames of a shape. No read is made where the files'
     /// sizes say that there are more than 2^26 slots. A shelf that gives fewer bytes than a file's size says is
     /// taken to have zeros in their place.
-    pub fn build<F: Shelf>(alloc: Global, shelf: &mut F, files: &[FileRef], shape: &Shape) -> Result<Index, IndexFault>
+    pub fn build<F: Shelf>(
+        alloc: Global,
+        shelf: &mut F,
+        files: &[FileRef],
+        shape: &Shape,
+    ) -> Result<Index, IndexFault>
         requires few { length files.now < 2 ^ 32 }
         requires sizes { WhereTold (F.told shelf.old) (AreOnShelf files.now) }
 
@@ -68,12 +83,15 @@ impl Index {
         ensures unread { result ≡ Err IndexFault.TooManySlots → shelf.new ≡ shelf.old }
         ensures counts { CountsReads (F.faults shelf.old) (F.faults shelf.new) result }
     {
-        if FileRef::are_more(files, shape, MOST_SLOTS) {
+        let layout = Layout::of(shape);
+        if exceed(files, layout.size as u64, MOST_SLOTS) {
             return Err(IndexFault::TooManySlots);
         }
         let mut builder = Builder::new(alloc)?;
         let mut buf = vec![in alloc; 0u8; PIECE]?;
-        meet_files(shelf, &mut builder, shape, files, &mut buf)?;
-        Index::finish(builder)
+        match meet_files(shelf, &mut builder, shape, &layout, files, &mut buf) {
+            Ok(()) => Index::finish(builder),
+            Err(fault) => Err(fault),
+        }
     }
 }

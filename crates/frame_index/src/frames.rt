@@ -38,7 +38,12 @@ impl FramePlaces {
     }
 
     /// The same, where the frame's slot is not marked invalid; one that is changes nothing.
-    pub fn keep_valid(&mut self, invalid: bool, frame: Frame, place: SlotAt) -> Result<bool, AllocError>
+    pub fn keep_valid(
+        &mut self,
+        invalid: bool,
+        frame: Frame,
+        place: SlotAt,
+    ) -> Result<bool, AllocError>
         ensures there { IfOk result (λ there. there ≡ (not invalid && is_some (place_under self.old.map frame))) }
         ensures kept { OnOk result ((other : Frame) → place_under self.new.map other
             ≡ option_or (place_under self.old.map other) (if not invalid && same_frame frame other then Some place else None)) }

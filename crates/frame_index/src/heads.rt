@@ -8,7 +8,7 @@ ghost use Rattle.corr_model.specs.Slots.{slot_at, placed_slot, placed_in};
 ghost use Rattle.frame_index.specs.Layouts.{IsLayoutOf};
 ghost use Rattle.frame_index.specs.Faults.{CountsReads, IsReadOrMemory};
 ghost use Rattle.frame_index.specs.Building.{Extends};
-ghost use Rattle.frame_index.specs.Pieces.{ReadsFront, placed_run, IsPieceOf};
+ghost use Rattle.frame_index.specs.Pieces.{ReadsOn, ReadsFront, placed_run, IsPieceOf};
 
 use crate::builder::Builder;
 use crate::fault::IndexFault;
@@ -68,6 +68,26 @@ fn meet_heads(
     Ok(())
 }
 
+// Reads a file's bytes from byte `at + done` on into `buf` from place `done` on, where it has those from byte `at`
+// on before that place.
+fn read_on<F: Shelf>(
+    shelf: &mut F,
+    name: &str,
+    at: u64,
+    done: usize,
+    buf: &mut [u8],
+) -> Result<usize, Failed>
+    requires inside { done ≤ length buf.old }
+    requires fits { at + length buf.old < 2 ^ 64 }
+    ensures same { F.told shelf.new ≡ F.told shelf.old }
+    ensures within { IfOk result (λ n. done + n ≤ length buf.old) }
+    ensures read { IfOk result (λ n. WhereTold (F.told shelf.old)
+        (λ files. ReadsOn (drop at (bytes_of (files name.now))) done buf.old n buf.new)) }
+    ensures counts { Counts (F.faults shelf.old) (F.faults shelf.new) result }
+{
+    shelf.read_at(name, at + done as u64, &mut buf[done..])
+}
+
 // Reads a file's bytes from byte `at` on into the front of `buf`, and answers how many: less than fit only
 // where the shelf gives no more.
 fn read_front<F: Shelf>(shelf: &mut F, name: &str, at: u64, buf: &mut [u8]) -> Result<usize, Failed>
@@ -75,12 +95,12 @@ fn read_front<F: Shelf>(shelf: &mut F, name: &str, at: u64, buf: &mut [u8]) -> R
     ensures same { F.told shelf.new ≡ F.told shelf.old }
     ensures within { IfOk result (λ n. n ≤ length buf.old) }
     ensures read { IfOk result (λ n. WhereTold (F.told shelf.old)
-        (λ files. ReadsFront (bytes_of (files name.now)) at (length buf.old) n buf.new)) }
+        (λ files. ReadsFront (drop at (bytes_of (files name.now))) (length buf.old) n buf.new)) }
     ensures counts { Counts (F.faults shelf.old) (F.faults shelf.new) result }
 {
     let mut done = 0;
     while done < buf.len() {
-        let n = shelf.read_at(name, at + done as u64, &mut buf[done..])?;
+        let n = read_on(shelf, name, at, done, buf)?;
         if n == 0 {
             return Ok(done);
         }
@@ -94,7 +114,7 @@ fn fill<F: Shelf>(shelf: &mut F, name: &[u8], at: u64, buf: &mut [u8]) -> Result
     requires { at + length buf.old < 2 ^ 64 }
     ensures same { F.told shelf.new ≡ F.told shelf.old }
     ensures filled { OnOk result (IsUtf8 name.now → WhereTold (F.told shelf.old)
-        (λ files. at + length buf.old ≤ length (bytes_of (files name.now))
+        (λ files. length buf.old ≤ length (drop at (bytes_of (files name.now)))
         → buf.new ≡ take (length buf.old) (drop at (bytes_of (files name.now))))) }
     ensures counts { Counts (F.faults shelf.old) (F.faults shelf.new) result }
 {

@@ -2,6 +2,7 @@
 ghost use Rattle.std.specs.Prelude.{◌≡◌, ◌≤◌, ◌<◌, ◌+◌, ◌-◌, ◌*◌, ◌/◌, ◌↔◌, ◌^◌, IsTrue, length};
 ghost use Rattle.vdif_frame.specs.Shape.{IsShape};
 ghost use Rattle.frame_index.specs.Layouts.{IsLayoutOf};
+ghost use Rattle.frame_index.specs.Recording.{slots_by_size};
 
 use num_time::Name;
 use vdif_frame::Shape;
@@ -68,22 +69,18 @@ fn most_at_once(size: usize) -> u64
     }
 }
 
-impl FileRef {
-    ghost use Rattle.frame_index.specs.Recording.{slot_total};
-
-    /// Whether the slots of these files are more than `most`.
-    pub fn are_more(files: &[FileRef], shape: &Shape, most: u64) -> bool
-        ensures { IsTrue result ↔ (most < slot_total shape.now files.now) }
-    {
-        let _bounds = shape.head_bytes();
-        let mut left = most;
-        for file in files {
-            let slots = file.size / u64::from(shape.frame_bytes);
-            if slots > left {
-                return true;
-            }
-            left -= slots;
+/// Whether the files have more than `most` slots of a length.
+pub fn exceed(files: &[FileRef], size: u64, most: u64) -> bool
+    requires { 0 < size }
+    ensures { IsTrue result ↔ (most < slots_by_size size files.now) }
+{
+    let mut left = most;
+    for file in files {
+        let slots = file.size / size;
+        if slots > left {
+            return true;
         }
-        false
+        left -= slots;
     }
+    false
 }

@@ -1,4 +1,4 @@
-use Rattle.std.proofs.Common.{◌≡◌, ◌∙◌, refl, ap}
+use Rattle.std.proofs.Common.{refl, ap}
 use Rattle.vdif_frame.specs.Header.{HeaderFields}
 use Rattle.frame_index.proofs.StepLemmas.{agreeing-step}
 use Rattle.frame_index.proofs.builder.Builder.meet_agreeing.Goals as goal

@@ -1,4 +1,4 @@
-use Rattle.std.proofs.Common.{◌≡◌, ◌∙◌, ap, sym, ◌<◌, ◌^◌, ◌*◌, ◌≤◌, ℤ, pos, ◌+ℤ◌, to_z, of_z, FitsSigned, w64, unsigned_abs, arith, rules}
+use Rattle.std.proofs.Common.{◌≡◌, ◌∙◌, ap, ◌^◌, ◌*◌, ◌≤◌, ℤ, pos, ◌+ℤ◌, to_z, of_z, w64, unsigned_abs, arith}
 use Rattle.std.proofs.lemmas.Int.{ints}
 use Rattle.num_time.specs.Numbers.{epoch_second_of}
 use Rattle.vdif_frame.specs.Header.{HeaderFields}

@@ -1,4 +1,4 @@
-use Rattle.std.proofs.Common.{◌≡◌, ◌∙◌, ◌<◌, sym, None, Some, length, arith}
+use Rattle.std.proofs.Common.{◌∙◌, ◌<◌, sym, None, Some, length, arith}
 use Rattle.frame_index.proofs.PassedLemmas.{is_passed-at}
 use Rattle.frame_index.proofs.latest.LatestFrames.is_passed.Goals as goal
 

@@ -1,4 +1,4 @@
-use Rattle.std.proofs.Common.{◌≡◌, ◌∙◌, ◌<◌, sym, ap, ℕ, Some, true, false, length, arith}
+use Rattle.std.proofs.Common.{◌≡◌, ◌∙◌, ◌<◌, ap, ℕ, Some, true, false, length, arith}
 use Rattle.std.specs.List.{slice_set}
 use Rattle.frame_index.specs.Passed.{is_passed}
 use Rattle.frame_index.proofs.PassedLemmas.{met-set, met-late}

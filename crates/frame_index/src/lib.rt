@@ -19,8 +19,6 @@ mod index;
 mod latest;
 mod recording;
 mod slot;
-#[cfg(test)]
-mod tests;
 
 pub use counts::Counts;
 pub use fault::IndexFault;

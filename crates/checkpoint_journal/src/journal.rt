@@ -1,0 +1,78 @@
+//! The journal.
+ghost use Rattle.std.specs.Prelude.{◌≡◌, ℕ, List, ◌+◌, ◌*◌, ◌≤◌, ◌<◌, ◌^◌, length, OnOk, OnErr, IfOk, IfErr, Some, true, false};
+ghost use Rattle.dev_traits.specs.Fault.{Counts};
+ghost use Rattle.dev_traits.specs.Told.{WhereTold};
+ghost use Rattle.piece_plan.specs.Epochs.{epochs_of};
+ghost use Rattle.checkpoint_journal.specs.Runs.{Looks, Changes, StepTold, KeepsBodies, AddsBody, OneMore, ReadsBody};
+ghost use Rattle.checkpoint_journal.specs.Image.{reading, body_sizes, cells_of_epoch};
+ghost use Rattle.checkpoint_journal.specs.Cells.{body_text};
+ghost use Rattle.checkpoint_journal.specs.Finding.{ReadsMany};
+ghost use Rattle.checkpoint_journal.specs.Faults.{CountsFault, IsRefused, IsUnread};
+ghost use Rattle.checkpoint_journal.specs.Standing.{JournalState, journal_state, Stands, StandsOn};
+
+use crate::finding::Finding;
+use crate::reader::find;
+use crate::{Identity, OpenFault};
+use dev_traits::{Disk, Failed};
+use piece_plan::JobPlan;
+use std::alloc::{AllocError, Global};
+use std::marker::Model;
+
+// Bodies are written and read in parts of so many cells.
+const PART: usize = 40_000;
+
+/// The journal of a job on a disk, which each call is handed. It knows how many epochs are kept, where the next one
+/// goes, and whether a call has failed; then it is opened anew.
+#[derive(Drop)]
+pub struct Journal {
+    head: u64,
+    kept: u64,
+    gate: u64,
+    next: u64,
+    place: u64,
+    failed: bool,
+    buffer: Vec<u8>,
+}
+
+impl Model for Journal {
+    ghost Value = { JournalState };
+
+    ghost view = { λ j. journal_state j.head j.kept j.gate j.next j.place j.failed };
+
+    ghost invariant = { λ j. (length j.buffer.items ≡ 960000) × (j.gate < 2 ^ 63) };
+}
+
+impl Journal {
+    /// The number of epochs that the journal of this job on the disk keeps, 0 where the file is blank. It writes
+    /// nothing.
+    pub fn look<D: Disk>(
+        alloc: Global,
+        disk: &mut D,
+        id: &Identity,
+        plan: &JobPlan,
+    ) -> Result<u64, OpenFault>
+        requires short { length id.now < 2 ^ 62 }
+        ensures kept { IfOk result
+            (λ kept. WhereTold (D.seen disk.old) (ReadsMany id.now (body_sizes plan.now) kept)) }
+        ensures within { IfOk result (λ kept. kept ≤ length (body_sizes plan.now)) }
+        ensures refused { IfErr result (IsRefused id.now (body_sizes plan.now) (D.seen disk.old)) }
+        ensures looks { Looks D.seen D.moment D.may_leave disk.old disk.new }
+        ensures no_fault { OnOk result (D.faults disk.new ≡ D.faults disk.old) }
+        ensures fault { IfErr result (CountsFault (D.faults disk.old) (D.faults disk.new)) }
+    {
+        let mut buffer = make_buffer(alloc)?;
+        match find(disk, id, plan, &mut buffer) {
+            Ok(Finding::Blank) => Ok(0),
+            Ok(Finding::Ours(kept, _)) => Ok(kept),
+            Ok(Finding::Other(d)) => Err(OpenFault::Other(d)),
+            Err(Failed) => Err(OpenFault::Disk),
+        }
+    }
+}
+
+// The buffer through which bodies go.
+fn make_buffer(alloc: Global) -> Result<Vec<u8>, AllocError>
+    ensures { IfOk result (λ buffer. length buffer.items ≡ 960000) }
+{
+    vec![in alloc; 0; 24 * PART]
+}

@@ -1,5 +1,6 @@
 -- What is found in a file.
 use Rattle.std.specs.Prelude.{◌≡◌, ◌≢◌, ℕ, ◌+◌, ◌-◌, ◌≤◌, ◌<◌, ◌^◌, true, List, length, slice_index, Option, Some, None}
+use Rattle.dev_traits.specs.Told.{WhereTold}
 use Rattle.checkpoint_journal.specs.declared.finding.Finding.{Finding}
 use Rattle.checkpoint_journal.specs.declared.finding.Finding.TheVariants.{Blank, Ours, Other}
 use Rattle.checkpoint_journal.specs.declared.fault.Differs.{Differs}
@@ -65,3 +66,10 @@ FindsRow sizes bytes (Some row) = (bodies : List (List ℕ)) × (row_of sizes by
 -- an image that reads with so many bodies
 abbrev pub ReadsMany : List ℕ → List ℕ → ℕ → List ℕ → Type 0
 ReadsMany id sizes kept image = (bodies : List (List ℕ)) × (reading id sizes image ≡ Some bodies) × (length bodies ≡ kept)
+
+-- What an opening gives, from what was read before it and what is read after. Of a blank file it makes this job's
+-- journal with no epoch, and any other it leaves.
+abbrev pub Opens : List ℕ → List ℕ → Option (List ℕ) → Option (List ℕ) → Finding → Type 0
+Opens id sizes old new Blank = WhereTold new (Keeps id sizes 0)
+Opens id sizes old new (Ours kept gate) = WhereTold new (Keeps id sizes kept)
+Opens id sizes old new (Other d) = (new ≡ old) × WhereTold old (λ image. IsOther id sizes image d)

@@ -6,12 +6,14 @@ ghost use Rattle.piece_plan.specs.Epochs.{epochs_of};
 ghost use Rattle.checkpoint_journal.specs.Runs.{Looks, Changes, StepTold, KeepsBodies, AddsBody, OneMore, ReadsBody};
 ghost use Rattle.checkpoint_journal.specs.Image.{reading, body_sizes, cells_of_epoch};
 ghost use Rattle.checkpoint_journal.specs.Cells.{body_text};
-ghost use Rattle.checkpoint_journal.specs.Finding.{ReadsMany};
+ghost use Rattle.dev_traits.specs.Moments.{IsDurable};
+ghost use Rattle.checkpoint_journal.specs.Finding.{ReadsMany, HasPlace, Opens};
 ghost use Rattle.checkpoint_journal.specs.Faults.{CountsFault, IsRefused, IsUnread};
 ghost use Rattle.checkpoint_journal.specs.Standing.{JournalState, journal_state, Stands, StandsOn};
 
 use crate::finding::Finding;
 use crate::reader::find;
+use crate::writer::begin;
 use crate::{Identity, OpenFault};
 use dev_traits::{Disk, Failed};
 use piece_plan::JobPlan;
@@ -43,6 +45,48 @@ impl Model for Journal {
 }
 
 impl Journal {
+    /// Opens the journal of this job on the disk: after a sync, a blank file becomes one with no epoch, one of this job
+    /// stays as it is, and another is refused. At each moment every image keeps the epochs that it kept. The identity
+    /// has fewer than 2^62 bytes.
+    pub fn open_on<D: Disk>(
+        alloc: Global,
+        disk: &mut D,
+        id: &Identity,
+        plan: &JobPlan,
+    ) -> Result<Journal, OpenFault>
+        requires short { length id.now < 2 ^ 62 }
+        ensures stands { IfOk result
+            (λ j. Stands id.now plan.now j (D.seen disk.new) (D.may_leave disk.new (D.moment disk.new))) }
+        ensures changes { Changes D.seen D.moment D.may_leave
+            (KeepsBodies id.now (body_sizes plan.now)) disk.old disk.new }
+        ensures refused { IfErr result (IsRefused id.now (body_sizes plan.now) (D.seen disk.old)) }
+        ensures unread { IfErr result (IsUnread (D.seen disk.old) (D.seen disk.new)) }
+        ensures no_fault { OnOk result (D.faults disk.new ≡ D.faults disk.old) }
+        ensures fault { IfErr result (CountsFault (D.faults disk.old) (D.faults disk.new)) }
+    {
+        let mut buffer = make_buffer(alloc)?;
+        match open(disk, id, plan, &mut buffer) {
+            Ok(Finding::Blank) => Ok(opened(id, 0, 1 + id.bytes().len() as u64, buffer)),
+            Ok(Finding::Ours(kept, gate)) => Ok(opened(id, kept, gate, buffer)),
+            Ok(Finding::Other(d)) => Err(OpenFault::Other(d)),
+            Err(Failed) => Err(OpenFault::Disk),
+        }
+    }
+
+    /// The number of kept epochs.
+    pub fn kept(&self) -> u64
+        ensures { result ≡ self.now.kept }
+    {
+        self.kept
+    }
+
+    /// Whether a call has failed, so that the journal has to be opened anew.
+    pub fn has_failed(&self) -> bool
+        ensures { result ≡ self.now.failed }
+    {
+        self.failed
+    }
+
     /// The number of epochs that the journal of this job on the disk keeps, 0 where the file is blank. It writes
     /// nothing.
     pub fn look<D: Disk>(
@@ -67,6 +111,52 @@ impl Journal {
             Ok(Finding::Other(d)) => Err(OpenFault::Other(d)),
             Err(Failed) => Err(OpenFault::Disk),
         }
+    }
+}
+
+// Finds what the file is, and makes a blank one the journal of this job.
+fn open<D: Disk>(
+    disk: &mut D,
+    id: &Identity,
+    plan: &JobPlan,
+    buffer: &mut [u8],
+) -> Result<Finding, Failed>
+    requires short { length id.now < 2 ^ 62 }
+    requires buffer { 0 < length buffer.old }
+    ensures opens { IfOk result
+        (λ found. Opens id.now (body_sizes plan.now) (D.seen disk.old) (D.seen disk.new) found) }
+    ensures place { IfOk result (HasPlace (1 + length id.now) (body_sizes plan.now)) }
+    ensures durable { OnOk result (IsDurable (D.seen disk.new) (D.may_leave disk.new (D.moment disk.new))) }
+    ensures changes { Changes D.seen D.moment D.may_leave
+        (KeepsBodies id.now (body_sizes plan.now)) disk.old disk.new }
+    ensures counts { Counts (D.faults disk.old) (D.faults disk.new) result }
+{
+    disk.sync()?;
+    match find(disk, id, plan, buffer)? {
+        Finding::Blank => {
+            begin(disk, id)?;
+            Ok(Finding::Blank)
+        }
+        found => Ok(found),
+    }
+}
+
+// A journal of this job that was just opened.
+fn opened(id: &Identity, kept: u64, gate: u64, buffer: Vec<u8>) -> Journal
+    requires short { length id.now < 2 ^ 62 }
+    requires buffer { length buffer.items ≡ 960000 }
+    requires gate { gate < 2 ^ 63 }
+    ensures { let head = 1 + length id.now in result ≡ journal_state head kept gate 0 head false }
+{
+    let head = 1 + id.bytes().len() as u64;
+    Journal {
+        head,
+        kept,
+        gate,
+        next: 0,
+        place: head,
+        failed: false,
+        buffer,
     }
 }
 

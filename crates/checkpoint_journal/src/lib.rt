@@ -12,6 +12,7 @@ mod finding;
 mod identity;
 mod journal;
 mod reader;
+mod writer;
 
 pub use fault::{AppendFault, Differs, OpenFault, ReadFault};
 pub use identity::{Identity, job_identity};

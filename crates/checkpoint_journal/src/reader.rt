@@ -71,13 +71,13 @@ pub(crate) fn find<D: Disk>(
     if head != 1 {
         return Ok(Finding::Blank);
     }
-    find_begun(disk, id, plan, len, buffer)
+    find_begun(disk, id.bytes(), plan, len, buffer)
 }
 
 // What a file of this length is whose head gate is open.
 fn find_begun<D: Disk>(
     disk: &mut D,
-    id: &Identity,
+    id: &[u8],
     plan: &JobPlan,
     len: u64,
     buffer: &mut [u8],
@@ -94,13 +94,35 @@ fn find_begun<D: Disk>(
     ensures looks { Looks D.seen D.moment D.may_leave disk.old disk.new }
     ensures counts { Counts (D.faults disk.old) (D.faults disk.new) result }
 {
-    let first = first_difference(disk, id.bytes(), len, buffer)?;
-    if let Some(at) = first {
-        let d = difference(disk, id.bytes(), len, at)?;
-        return Ok(Finding::Other(d));
+    match first_difference(disk, id, len, buffer)? {
+        Some(at) => {
+            let d = difference(disk, id, len, at)?;
+            Ok(Finding::Other(d))
+        }
+        None => find_gates(disk, id, plan, len),
     }
-    let row = find_row(disk, plan, 1 + id.bytes().len() as u64, len)?;
-    match row {
+}
+
+// What a file of this length is that begins with the open head gate and the identity.
+fn find_gates<D: Disk>(
+    disk: &mut D,
+    id: &[u8],
+    plan: &JobPlan,
+    len: u64,
+) -> Result<Finding, Failed>
+    requires short { length id.now < 2 ^ 62 }
+    requires len { (1 < len) × (len < 2 ^ 63) }
+    requires length { WhereTold (D.seen disk.old) (λ image. len ≡ length image) }
+    requires begun { WhereTold (D.seen disk.old) (λ image. slice_index image 0 ≡ 1) }
+    requires same { WhereTold (D.seen disk.old) (λ image. SameTo id.now image (length id.now)) }
+    ensures finds { IfOk result
+        (λ found. WhereTold (D.seen disk.old)
+        (λ image. Finds id.now (body_sizes plan.now) image found)) }
+    ensures place { IfOk result (HasPlace (1 + length id.now) (body_sizes plan.now)) }
+    ensures looks { Looks D.seen D.moment D.may_leave disk.old disk.new }
+    ensures counts { Counts (D.faults disk.old) (D.faults disk.new) result }
+{
+    match find_row(disk, plan, 1 + id.len() as u64, len)? {
         Some((kept, gate)) => Ok(Finding::Ours(kept, gate)),
         None => Ok(Finding::Other(Differs {
             at: len,
@@ -181,6 +203,7 @@ fn difference<D: Disk>(disk: &mut D, id: &[u8], len: u64, at: u64) -> Result<Dif
     requires length { WhereTold (D.seen disk.old) (λ image. len ≡ length image) }
     requires first { WhereTold (D.seen disk.old) (λ image. SameUpTo id.now image at) }
     requires begun { WhereTold (D.seen disk.old) (λ image. slice_index image 0 ≡ 1) }
+    ensures at { IfOk result (λ d. d.at ≡ at) }
     ensures difference { IfOk result
         (λ d. WhereTold (D.seen disk.old) (λ image. IsDifference id.now image d)) }
     ensures looks { Looks D.seen D.moment D.may_leave disk.old disk.new }

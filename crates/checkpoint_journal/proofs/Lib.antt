@@ -1,3 +1,4 @@
+pub mod BeginLemmas
 pub mod WriteLemmas
 pub mod FindLemmas
 pub mod CellLemmas

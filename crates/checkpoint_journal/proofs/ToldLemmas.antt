@@ -1,4 +1,5 @@
 -- Facts about content that is told.
+use Rattle.std.specs.Prelude.{option_map}
 use Rattle.std.proofs.Common.{◌≡◌, Option, Some, None, sym, subst}
 use Rattle.dev_traits.specs.Told.{WhereTold}
 
@@ -13,3 +14,8 @@ told_three (Some a) P Q R S follows p q r = follows a p q r
 -- the same content, told again
 pub told_again : {A : Type 0} (new old : Option A) (P : A → Type 0) → new ≡ old → WhereTold old P → WhereTold new P
 told_again {A = A} new old P same p = let Q : Option A → Type 0 = λ o. WhereTold o P in subst Q (sym same) p
+
+-- content that was changed
+pub told_mapped : {A : Type 0} (old new : Option A) (f : A → A) (P Q : A → Type 0) → new ≡ option_map f old → ((a : A) → P a → Q (f a)) → WhereTold old P → WhereTold new Q
+told_mapped {A = A} None new f P Q is follows p = let W : Option A → Type 0 = λ o. WhereTold o Q in subst W (sym is) tt
+told_mapped {A = A} (Some a) new f P Q is follows p = let W : Option A → Type 0 = λ o. WhereTold o Q in subst W (sym is) (follows a p)

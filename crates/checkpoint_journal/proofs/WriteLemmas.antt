@@ -138,3 +138,10 @@ pub torn_head : (id sizes u v : List ℕ) (b : ℕ) → u ≡ b ∷ (id ++ 0 ∷
 torn_head id sizes u v b is torn =
     let some : 0 < length u = omega (arith, ap length is) in
     reading-new id sizes v (get_or v 0 0) (torn_byte 0 u v some torn ∙ ap (λ (l : List ℕ). get_or v 0 0 ∷ drop 1 l) is)
+
+-- images that come from a closed head gate by writes behind it
+pub blank_closed_front : (u v image : List ℕ) → IsClosedHead u → KeepsFront 1 u v → KeepsFront 1 v image → (is_blank v ≡ true) × (is_blank image ≡ true)
+blank_closed_front u v image closed first second =
+    let a = closed_front u v (omega (arith, closed.alone)) closed.closed first in
+    let b = closed_front v image a.0 a.1 second in
+    (blank_closed v a.1, blank_closed image b.1)

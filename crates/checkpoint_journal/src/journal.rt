@@ -132,12 +132,14 @@ fn open<D: Disk>(
     ensures counts { Counts (D.faults disk.old) (D.faults disk.new) result }
 {
     disk.sync()?;
-    match find(disk, id, plan, buffer)? {
+    let found = find(disk, id, plan, buffer)?;
+    match found {
         Finding::Blank => {
             begin(disk, id)?;
             Ok(Finding::Blank)
         }
-        found => Ok(found),
+        Finding::Ours(kept, gate) => Ok(Finding::Ours(kept, gate)),
+        Finding::Other(d) => Ok(Finding::Other(d)),
     }
 }
 

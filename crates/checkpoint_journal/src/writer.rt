@@ -53,8 +53,9 @@ pub(crate) fn begin<D: Disk>(disk: &mut D, id: &Identity) -> Result<(), Failed>
     ensures counts { Counts (D.faults disk.old) (D.faults disk.new) result }
 {
     close_head(disk)?;
-    write_identity(disk, id.bytes())?;
-    write_synced(disk, 0, &[1])
+    write_identity(disk, id)?;
+    write_synced(disk, 0, &[1])?;
+    Ok(())
 }
 
 // Leaves of a blank file a closed head gate alone.
@@ -76,7 +77,7 @@ fn close_head<D: Disk>(disk: &mut D) -> Result<(), Failed>
 }
 
 // Writes the identity and the first gate, closed, behind the head gate.
-fn write_identity<D: Disk>(disk: &mut D, id: &[u8]) -> Result<(), Failed>
+fn write_identity<D: Disk>(disk: &mut D, id: &Identity) -> Result<(), Failed>
     requires { length id.now < 2 ^ 62 }
     ensures written { OnOk result
         (D.seen disk.new ≡ option_map (put_at (1 + length id.now) (0 ∷ [])) (option_map (put_at 1 id.now) (D.seen disk.old))) }
@@ -85,6 +86,7 @@ fn write_identity<D: Disk>(disk: &mut D, id: &[u8]) -> Result<(), Failed>
     ensures runs { Runs D.moment D.may_leave (KeepsFront 1) disk.old disk.new }
     ensures counts { Counts (D.faults disk.old) (D.faults disk.new) result }
 {
-    disk.write_at(1, id)?;
-    write_synced(disk, 1 + id.len() as u64, &[0])
+    let bytes = id.bytes();
+    disk.write_at(1, bytes)?;
+    write_synced(disk, 1 + bytes.len() as u64, &[0])
 }

@@ -21,7 +21,7 @@ unfolding behind
 behind-append [] rest = refl
 behind-append (x ∷ front) rest = same_byte x (behind front (front ++ rest)) None ∙ behind-append front rest
 
-eq_or_ne : (p q : ℕ) → (p ≡ q) ⊎ (p ≢ q)
+pub eq_or_ne : (p q : ℕ) → (p ≡ q) ⊎ (p ≢ q)
 eq_or_ne p q = grind arith
 
 split : {A : Type 0} (x b : ℕ) (o : Option A) → (x ≡ b) ⊎ (x ≢ b) → o ≡ None → (if x == b then o else None) ≡ None

@@ -1,3 +1,5 @@
+pub mod AppendLemmas
+pub mod PartLemmas
 pub mod BeginLemmas
 pub mod WriteLemmas
 pub mod FindLemmas

@@ -1,9 +1,10 @@
 -- What a run of calls on a disk does to a journal's file.
-use Rattle.std.specs.Prelude.{◌≡◌, ◌≢◌, ◌⊎◌, ℕ, ◌+◌, ◌≤◌, true, List, [], ◌∷◌, ◌++◌, length, take, slice_index, slice_get, Option, Some, None}
+use Rattle.std.specs.Prelude.{◌≡◌, ◌≢◌, ◌⊎◌, ℕ, ◌+◌, ◌<◌, ◌≤◌, true, List, [], ◌∷◌, ◌++◌, length, take, drop, slice_index, slice_get, Option, Some, None}
 use Rattle.dev_traits.specs.Images.{Same}
 use Rattle.dev_traits.specs.Moments.{Runs}
 use Rattle.corr_model.specs.declared.cell.Cell.{Cell}
-use Rattle.checkpoint_journal.specs.Image.{is_blank, reading}
+use Rattle.checkpoint_journal.specs.Image.{is_blank, reading, gate_at}
+use Rattle.checkpoint_journal.specs.Standing.{Keeps}
 use Rattle.checkpoint_journal.specs.Cells.{body_cells}
 
 -- Nothing is written: a read gives what it gave, and no image comes anew.
@@ -58,3 +59,14 @@ pub record ReadsBody (id sizes image : List ℕ) (i : ℕ) (cells : List Cell) :
   pub body : List ℕ
   pub at : slice_get bodies i ≡ Some body
   pub cells_are : cells ≡ body_cells body
+
+-- these bytes from a place on, in place of those that stood there
+abbrev pub put_over : ℕ → List ℕ → List ℕ → List ℕ
+put_over at bytes v = take at v ++ (bytes ++ drop (at + length bytes) v)
+
+-- The image that an append begins on: k bodies are kept, and here stands the gate of the next one, which has this size.
+pub record IsDue (id sizes : List ℕ) (k gate size : ℕ) (image : List ℕ) : Type 0 where
+  pub keeps : Keeps id sizes k image
+  pub place : gate ≡ gate_at (1 + length id) sizes k
+  pub more : k < length sizes
+  pub sized : slice_index sizes k ≡ size

@@ -13,8 +13,9 @@ ghost use Rattle.checkpoint_journal.specs.Standing.{JournalState, journal_state,
 
 use crate::finding::Finding;
 use crate::reader::find;
-use crate::writer::begin;
-use crate::{Identity, OpenFault};
+use crate::writer::{begin, keep};
+use crate::{AppendFault, Identity, OpenFault};
+use atomic_sums::EpochSums;
 use dev_traits::{Disk, Failed};
 use piece_plan::JobPlan;
 use std::alloc::{AllocError, Global};
@@ -85,6 +86,48 @@ impl Journal {
         ensures { result ≡ self.now.failed }
     {
         self.failed
+    }
+
+    /// Appends the cells of the next epoch. After it every crash keeps the epoch; at each moment of it every image keeps
+    /// the epochs from before, or these and the new one. Where the disk fails, the journal has failed, and what it
+    /// keeps is found by opening it anew. It takes no memory.
+    pub fn append<D: Disk>(
+        &mut self,
+        disk: &mut D,
+        plan: &JobPlan,
+        sums: &EpochSums,
+    ) -> Result<(), AppendFault>
+        requires stands { StandsOn plan.now self.old
+            (D.seen disk.old) (D.may_leave disk.old (D.moment disk.old)) }
+        requires cells { cells_of_epoch plan.now self.old.kept ≡ Some (length sums.now.cells) }
+        requires room { self.old.gate + 24 * length sums.now.cells + 2 < 2 ^ 63 }
+        ensures one_more { OnOk result (self.new.kept ≡ self.old.kept + 1) }
+        ensures stands { OnOk result ((id : List ℕ)
+            → Stands id plan.now self.old (D.seen disk.old) (D.may_leave disk.old (D.moment disk.old))
+            → Stands id plan.now self.new (D.seen disk.new) (D.may_leave disk.new (D.moment disk.new))) }
+        ensures added { OnOk result ((id : List ℕ)
+            → Stands id plan.now self.old (D.seen disk.old) (D.may_leave disk.old (D.moment disk.old))
+            → StepTold (OneMore id (body_sizes plan.now) self.old.kept (body_text sums.now.cells))
+            (D.seen disk.old) (D.seen disk.new)) }
+        ensures failed { OnErr result (self.new ≡ record self.old { failed = true }) }
+        ensures changes { (id : List ℕ)
+            → Stands id plan.now self.old (D.seen disk.old) (D.may_leave disk.old (D.moment disk.old))
+            → Changes D.seen D.moment D.may_leave
+            (AddsBody id (body_sizes plan.now) self.old.kept (body_text sums.now.cells)) disk.old disk.new }
+        ensures counts { Counts (D.faults disk.old) (D.faults disk.new) result }
+    {
+        let cells = u64::from(plan.epoch(self.kept).cells());
+        match keep(disk, self.gate, sums, cells, &mut self.buffer) {
+            Ok(()) => {
+                self.kept += 1;
+                self.gate += 1 + 24 * cells;
+                Ok(())
+            }
+            Err(Failed) => {
+                self.failed = true;
+                Err(AppendFault::Disk)
+            }
+        }
     }
 
     /// The number of epochs that the journal of this job on the disk keeps, 0 where the file is blank. It writes

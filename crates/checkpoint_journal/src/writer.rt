@@ -5,13 +5,16 @@ ghost use Rattle.dev_traits.specs.Fault.{Counts};
 ghost use Rattle.dev_traits.specs.Told.{WhereTold};
 ghost use Rattle.dev_traits.specs.Images.{put_at, Torn, Shorn};
 ghost use Rattle.dev_traits.specs.Moments.{Goes, Runs, IsDurable};
-ghost use Rattle.checkpoint_journal.specs.Runs.{Changes, KeepsBodies, KeepsFront, KeepsBlank, IsClosedHead};
+ghost use Rattle.checkpoint_journal.specs.Runs.{Changes, StepTold, KeepsBodies, KeepsFront, KeepsBlank, IsClosedHead, AddsBody, OneMore, IsDue, put_over};
+ghost use Rattle.checkpoint_journal.specs.Standing.{Keeps};
+ghost use Rattle.corr_model.specs.Records.{cell_text};
 ghost use Rattle.checkpoint_journal.specs.Image.{is_blank};
 ghost use Rattle.checkpoint_journal.specs.Cells.{body_text};
 
 use crate::Identity;
-use crate::cells::{CELL, cell_bytes};
+use crate::cells::cell_bytes;
 use atomic_sums::EpochSums;
+use corr_model::Cell;
 use dev_traits::{Disk, Failed};
 
 // Writes bytes, and then they are in their place.
@@ -89,4 +92,106 @@ fn write_identity<D: Disk>(disk: &mut D, id: &Identity) -> Result<(), Failed>
     let bytes = id.bytes();
     disk.write_at(1, bytes)?;
     write_synced(disk, 1 + bytes.len() as u64, &[0])
+}
+
+// Writes a body behind a closed gate and a closed gate behind the body, and then opens the first of the two.
+pub(crate) fn keep<D: Disk>(
+    disk: &mut D,
+    gate: u64,
+    sums: &EpochSums,
+    cells: u64,
+    buffer: &mut [u8],
+) -> Result<(), Failed>
+    requires cells { cells ≡ length sums.now.cells }
+    requires room { gate + 24 * length sums.now.cells + 2 < 2 ^ 63 }
+    requires buffer { length buffer.old ≡ 960000 }
+    requires within { WhereTold (D.seen disk.old) (λ image. gate < length image) }
+    requires durable { IsDurable (D.seen disk.old) (D.may_leave disk.old (D.moment disk.old)) }
+    ensures durable { OnOk result (IsDurable (D.seen disk.new) (D.may_leave disk.new (D.moment disk.new))) }
+    ensures kept { (id sizes : List ℕ) (k : ℕ)
+        → WhereTold (D.seen disk.old) (IsDue id sizes k gate (24 * length sums.now.cells))
+        → OnOk result (StepTold (OneMore id sizes k (body_text sums.now.cells)) (D.seen disk.old) (D.seen disk.new)) }
+    ensures form { (id sizes : List ℕ) (k : ℕ)
+        → WhereTold (D.seen disk.old) (IsDue id sizes k gate (24 * length sums.now.cells))
+        → OnOk result (WhereTold (D.seen disk.new) (Keeps id sizes (k + 1))) }
+    ensures changes { (id sizes : List ℕ) (k : ℕ)
+        → WhereTold (D.seen disk.old) (IsDue id sizes k gate (24 * length sums.now.cells))
+        → Changes D.seen D.moment D.may_leave (AddsBody id sizes k (body_text sums.now.cells)) disk.old disk.new }
+    ensures counts { Counts (D.faults disk.old) (D.faults disk.new) result }
+{
+    stage(disk, gate + 1, sums, cells, buffer)?;
+    write_synced(disk, gate, &[1])?;
+    Ok(())
+}
+
+// Writes a body from a place on and a closed gate behind it, and then they are in their place.
+fn stage<D: Disk>(
+    disk: &mut D,
+    at: u64,
+    sums: &EpochSums,
+    cells: u64,
+    buffer: &mut [u8],
+) -> Result<(), Failed>
+    requires cells { cells ≡ length sums.now.cells }
+    requires room { at + 24 * length sums.now.cells + 1 < 2 ^ 63 }
+    requires buffer { length buffer.old ≡ 960000 }
+    requires within { WhereTold (D.seen disk.old) (λ image. at ≤ length image) }
+    ensures written { OnOk result
+        (D.seen disk.new ≡ option_map (put_over at (body_text sums.now.cells ++ 0 ∷ [])) (D.seen disk.old)) }
+    ensures durable { OnOk result (IsDurable (D.seen disk.new) (D.may_leave disk.new (D.moment disk.new))) }
+    ensures tells { is_some (D.seen disk.new) ≡ is_some (D.seen disk.old) }
+    ensures runs { Runs D.moment D.may_leave (KeepsFront at) disk.old disk.new }
+    ensures counts { Counts (D.faults disk.old) (D.faults disk.new) result }
+{
+    write_body(disk, at, sums, cells, buffer)?;
+    write_synced(disk, at + 24 * cells, &[0])?;
+    Ok(())
+}
+
+// Writes a body from a place on, in parts through the buffer.
+fn write_body<D: Disk>(
+    disk: &mut D,
+    at: u64,
+    sums: &EpochSums,
+    cells: u64,
+    buffer: &mut [u8],
+) -> Result<(), Failed>
+    requires cells { cells ≡ length sums.now.cells }
+    requires room { at + 24 * length sums.now.cells + 1 < 2 ^ 63 }
+    requires buffer { length buffer.old ≡ 960000 }
+    requires within { WhereTold (D.seen disk.old) (λ image. at ≤ length image) }
+    ensures written { OnOk result
+        (D.seen disk.new ≡ option_map (put_over at (body_text sums.now.cells)) (D.seen disk.old)) }
+    ensures tells { is_some (D.seen disk.new) ≡ is_some (D.seen disk.old) }
+    ensures runs { Runs D.moment D.may_leave (KeepsFront at) disk.old disk.new }
+    ensures counts { Counts (D.faults disk.old) (D.faults disk.new) result }
+{
+    let mut done = 0;
+    while done < cells {
+        let part = (cells - done).min(40_000);
+        fill(buffer, sums, done, part as usize);
+        disk.write_at(at + 24 * done, &buffer[..24 * part as usize])?;
+        done += part;
+    }
+    Ok(())
+}
+
+// Fills the front of the buffer with cells from one on.
+fn fill(buffer: &mut [u8], sums: &EpochSums, first: u64, count: usize)
+    requires cells { first + count ≤ length sums.now.cells }
+    requires room { 24 * count ≤ length buffer.old }
+    ensures { take (24 * count) buffer.new ≡ body_text (take count (drop first sums.now.cells)) }
+{
+    for k in 0..count {
+        put_cell(buffer, k, sums.cell(first + k as u64));
+    }
+}
+
+// Writes a cell behind the first k.
+fn put_cell(buffer: &mut [u8], k: usize, cell: Cell)
+    requires { 24 * k + 24 ≤ length buffer.old }
+    ensures { take (24 * k + 24) buffer.new ≡ take (24 * k) buffer.old ++ cell_text cell }
+{
+    let at = 24 * k;
+    buffer[at..at + 24].copy_from_slice(&cell_bytes(cell));
 }

@@ -1,3 +1,5 @@
+pub mod KeepLemmas
+pub mod TextLemmas
 pub mod AppendLemmas
 pub mod PartLemmas
 pub mod BeginLemmas

@@ -179,6 +179,7 @@ fn write_body<D: Disk>(
 // Fills the front of the buffer with cells from one on.
 fn fill(buffer: &mut [u8], sums: &EpochSums, first: u64, count: usize)
     requires cells { first + count ≤ length sums.now.cells }
+    requires short { first + count < 2 ^ 63 }
     requires room { 24 * count ≤ length buffer.old }
     ensures { take (24 * count) buffer.new ≡ body_text (take count (drop first sums.now.cells)) }
 {

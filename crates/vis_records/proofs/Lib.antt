@@ -1,1 +1,4 @@
 pub mod HeadPieces
+pub mod PartLemmas
+pub mod FieldLemmas
+pub mod HeadReading

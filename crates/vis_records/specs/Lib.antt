@@ -1,1 +1,4 @@
 pub mod Heads
+pub mod Parts
+pub mod Content
+pub mod Reading

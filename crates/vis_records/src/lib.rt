@@ -4,10 +4,14 @@
 //! first part of it where the sink fails, and takes no memory.
 #![tactic(auto)]
 
+mod fault;
 mod head;
 mod numbers;
+mod read_head;
+mod rest;
 mod writer;
 
+pub use fault::{VisFault, VisKind};
 pub use head::{VisBaseline, VisHead, VisProduct, VisScan};
 pub use writer::{SinkFault, write_end, write_head, write_record};
 

@@ -1,5 +1,5 @@
 -- A record file, read from the front: what each part of it is, and which rule a text breaks first.
-use Rattle.std.specs.Prelude.{◌≡◌, ℕ, ◌+◌, ◌-◌, ◌%◌, ◌^◌, ◌==◌, if◌then◌else◌, List, [], ◌∷◌, ◌++◌, length, drop, codes, slice_get, Option, Some, None}
+use Rattle.std.specs.Prelude.{◌≡◌, ℕ, ℤ, ◌+◌, ◌-◌, ◌%◌, ◌^◌, ◌==◌, if◌then◌else◌, List, [], ◌∷◌, ◌++◌, length, codes, slice_get, Option, Some, None}
 use Rattle.std.specs.Str.{bytes_eq}
 use Rattle.std.specs.Int.{w64, cast_signed}
 use Rattle.std.specs.List.{range_with_len}
@@ -86,16 +86,19 @@ place at text =
     chain (due 4 at.product rest) (λ _ rest.
     due 4 at.baseline rest))))
 
--- a cell, by its 24 bytes
-abbrev pub cell_of : List ℕ → Cell
-cell_of bytes = record {
-  re = cast_signed w64 (number_of 8 bytes);
-  im = cast_signed w64 (number_of 8 (drop 8 bytes));
-  count = number_of 8 (drop 16 bytes);
-}
+-- a number of 64 bits, and one in two's complement
+abbrev pub word : List ℕ → Part ℕ
+word text = chain (piece 8 text) (λ bytes rest. Took (number_of 8 bytes) rest)
 
+abbrev pub signed_word : List ℕ → Part ℤ
+signed_word text = chain (piece 8 text) (λ bytes rest. Took (cast_signed w64 (number_of 8 bytes)) rest)
+
+-- a cell
 abbrev pub cell : List ℕ → Part Cell
-cell text = chain (piece 24 text) (λ bytes rest. Took (cell_of bytes) rest)
+cell text =
+    chain (signed_word text) (λ re rest.
+    chain (signed_word rest) (λ im rest.
+    chain (word rest) (λ count rest. Took (record { re = re; im = im; count = count }) rest)))
 
 -- the record that is due, whose cells come behind those before it
 abbrev pub record_due : ℕ → List Cell → RecordAt → List ℕ → Part (List Cell)

@@ -19,7 +19,7 @@ use Rattle.vis_records.proofs.PartLemmas.{took-later, checked-ok}
 use Rattle.vis_records.proofs.PartForms.{IsForm, IsItem, PieceIs, AreBytes-behind, read-parts, peel, checked-parts, piece-reads, piece-parts, field-form, list-form, form-item, All-one}
 
 -- lists put together from the left, and from the right
-assoc-2 : (a b r : List ℕ) → (a ++ b) ++ r ≡ a ++ (b ++ r)
+pub assoc-2 : (a b r : List ℕ) → (a ++ b) ++ r ≡ a ++ (b ++ r)
 assoc-2 a b r = append_assoc a b r
 
 assoc-5 : (a b c d e r : List ℕ) → ((((a ++ b) ++ c) ++ d) ++ e) ++ r ≡ a ++ (b ++ (c ++ (d ++ (e ++ r))))
@@ -31,10 +31,10 @@ assoc-10 : (a b c d e f g h i j r : List ℕ)
 assoc-10 a b c d e f g h i j r = simp append_assoc
 
 -- what was read, and what is behind it
-took-what : {A : Type 0} {a a' : A} {r r' : List ℕ} → Took a r ≡ Took a' r' → a ≡ a'
+pub took-what : {A : Type 0} {a a' : A} {r r' : List ℕ} → Took a r ≡ Took a' r' → a ≡ a'
 took-what e = cc
 
-took-rest : {A : Type 0} {a a' : A} {r r' : List ℕ} → Took a r ≡ Took a' r' → r ≡ r'
+pub took-rest : {A : Type 0} {a a' : A} {r r' : List ℕ} → Took a r ≡ Took a' r' → r ≡ r'
 took-rest e = cc
 
 length_take : (n : ℕ) (t : List ℕ) → n ≤ length t → length (take n t) ≡ n
@@ -44,7 +44,7 @@ bytes_eq-true : (xs ys : List ℕ) → bytes_eq xs ys ≡ true → xs ≡ ys
 bytes_eq-true xs ys e = search rules
 
 -- one more piece in front of what is left
-joined : (t a left all : List ℕ) → t ≡ a ++ left → left ≡ all → t ≡ a ++ all
+pub joined : (t a left all : List ℕ) → t ≡ a ++ left → left ≡ all → t ≡ a ++ all
 joined t a left all first second = first ∙ ap (λ r. a ++ r) second
 
 pub name-form : IsForm name IsName name_text

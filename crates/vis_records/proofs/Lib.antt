@@ -4,3 +4,4 @@ pub mod FieldLemmas
 pub mod HeadReading
 pub mod PartForms
 pub mod HeadForms
+pub mod BaselineForms

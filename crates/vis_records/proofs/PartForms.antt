@@ -322,11 +322,11 @@ list-form one Good text n item none = record {
 }
 
 -- things that have a form by themselves
-All-front : {A : Type 0} (P : A → Type 0) (xs ys : List A) → All P (xs ++ ys) → All P xs
+pub All-front : {A : Type 0} (P : A → Type 0) (xs ys : List A) → All P (xs ++ ys) → All P xs
 All-front P xs ys all k d within =
     subst P (get_or_append_left xs ys d k within) (all k d (omega (arith, length-append xs ys)))
 
-All-last : {A : Type 0} (P : A → Type 0) (xs : List A) (x : A) → All P (xs ++ x ∷ []) → P x
+pub All-last : {A : Type 0} (P : A → Type 0) (xs : List A) (x : A) → All P (xs ++ x ∷ []) → P x
 All-last P xs x all = subst P (get_or-append_seam xs x [] x) (all (length xs) x (omega (arith, length-append xs (x ∷ []))))
 
 pub All-one : {A : Type 0} (P : A → Type 0) (x : A) → P x → All P (x ∷ [])

@@ -9,7 +9,7 @@ use Rattle.vis_records.specs.Heads.{product_of, baseline_of, scan_of, head_from}
 use Rattle.vis_records.specs.Parts.{Took, Stops, StopsBy}
 use Rattle.vis_records.specs.Reading.{baseline, last_of}
 use Rattle.vis_records.proofs.PartLemmas.{took-later, stops-first, stops-later, checked-ok, checked-not, in_turn-none, turns-next, turns-stop, turns-all, one_more-took}
-use Rattle.vis_records.proofs.HeadForms.{lags-form}
+use Rattle.vis_records.proofs.BaselineForms.{baseline-item}
 use Rattle.vis_records.proofs.FieldLemmas.{passed-on}
 use Rattle.vis_records.proofs.read_head.read_head.Goals as goal
 
@@ -132,4 +132,4 @@ returns-clause-took c =
     (ap (λ (h : Head). Took h c.read_scans.new.rest) (head-made _ _ _ _ _ _ _ _ _ _ c.new.ensures c.of.ensures c.of-2.ensures c.of-3.ensures)))))))))))
 
 pub new-requires : goal.new-requires
-new-requires c = let h = lags-form in ?
+new-requires c = let h = baseline-item in ?

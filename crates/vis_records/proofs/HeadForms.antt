@@ -22,10 +22,10 @@ use Rattle.vis_records.proofs.PartForms.{IsForm, IsItem, PieceIs, AreBytes-behin
 pub assoc-2 : (a b r : List ℕ) → (a ++ b) ++ r ≡ a ++ (b ++ r)
 assoc-2 a b r = append_assoc a b r
 
-assoc-5 : (a b c d e r : List ℕ) → ((((a ++ b) ++ c) ++ d) ++ e) ++ r ≡ a ++ (b ++ (c ++ (d ++ (e ++ r))))
+pub assoc-5 : (a b c d e r : List ℕ) → ((((a ++ b) ++ c) ++ d) ++ e) ++ r ≡ a ++ (b ++ (c ++ (d ++ (e ++ r))))
 assoc-5 a b c d e r = simp append_assoc
 
-assoc-10 : (a b c d e f g h i j r : List ℕ)
+pub assoc-10 : (a b c d e f g h i j r : List ℕ)
     → (((((((((a ++ b) ++ c) ++ d) ++ e) ++ f) ++ g) ++ h) ++ i) ++ j) ++ r
     ≡ a ++ (b ++ (c ++ (d ++ (e ++ (f ++ (g ++ (h ++ (i ++ (j ++ r)))))))))
 assoc-10 a b c d e f g h i j r = simp append_assoc

@@ -5,3 +5,5 @@ pub mod HeadReading
 pub mod PartForms
 pub mod HeadForms
 pub mod BaselineForms
+pub mod ScanForms
+pub mod RecordReading

@@ -8,6 +8,7 @@ mod fault;
 mod head;
 mod numbers;
 mod read_head;
+mod read_records;
 mod rest;
 mod writer;
 

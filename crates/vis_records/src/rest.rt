@@ -1,6 +1,8 @@
 //! What is left of a text that is read from the front.
 ghost use Rattle.std.specs.Prelude.{◌≡◌, ◌≤◌, length, IfOk, IfErr};
+ghost use Rattle.std.specs.Int.{w64, cast_signed};
 ghost use Rattle.vis_records.specs.Parts.{piece, number_of, field, Took, StopsBy};
+ghost use Rattle.vis_records.specs.Reading.{word, signed_word};
 
 use crate::fault::{Stop, VisKind};
 use byteorder::{ByteOrder, LittleEndian};
@@ -70,6 +72,32 @@ impl<'a> Rest<'a> {
             Err(Stop { kind, left })
         }
     }
+
+    // The next number of 64 bits.
+    pub fn word(&mut self) -> Result<u64, Stop>
+        ensures took { IfOk result (λ n. word self.old ≡ Took n self.new) }
+        ensures stops { IfErr result (StopsBy (word self.old)) }
+    {
+        let bytes = self.piece(8)?;
+        Ok(number(bytes, 8))
+    }
+
+    // The next number of 64 bits in two's complement.
+    pub fn signed_word(&mut self) -> Result<i64, Stop>
+        ensures took { IfOk result (λ z. signed_word self.old ≡ Took z self.new) }
+        ensures stops { IfErr result (StopsBy (signed_word self.old)) }
+    {
+        let bytes = self.piece(8)?;
+        Ok(signed_number(bytes))
+    }
+}
+
+// The number in eight bytes in two's complement, the lowest first.
+fn signed_number(bytes: &[u8]) -> i64
+    requires { 8 ≤ length bytes.now }
+    ensures { result ≡ cast_signed w64 (number_of 8 bytes.now) }
+{
+    LittleEndian::read_i64(bytes)
 }
 
 // The number in some bytes, the lowest first.

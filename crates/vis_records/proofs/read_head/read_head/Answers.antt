@@ -9,7 +9,7 @@ use Rattle.vis_records.specs.Heads.{product_of, baseline_of, scan_of, head_from}
 use Rattle.vis_records.specs.Parts.{Took, Stops, StopsBy}
 use Rattle.vis_records.specs.Reading.{baseline, last_of}
 use Rattle.vis_records.proofs.PartLemmas.{took-later, stops-first, stops-later, checked-ok, checked-not, in_turn-none, turns-next, turns-stop, turns-all, one_more-took}
-use Rattle.vis_records.proofs.BaselineForms.{baseline-item}
+use Rattle.vis_records.proofs.ScanForms.{head-is}
 use Rattle.vis_records.proofs.FieldLemmas.{passed-on}
 use Rattle.vis_records.proofs.read_head.read_head.Goals as goal
 
@@ -132,4 +132,16 @@ returns-clause-took c =
     (ap (λ (h : Head). Took h c.read_scans.new.rest) (head-made _ _ _ _ _ _ _ _ _ _ c.new.ensures c.of.ensures c.of-2.ensures c.of-3.ensures)))))))))))
 
 pub new-requires : goal.new-requires
-new-requires c = let h = baseline-item in ?
+new-requires c =
+    (head-is c.args.rest.now _ c.read_scans.new.rest c.requires
+    (took-later _ c.in_ok-read_magic.ensures.took
+    (took-later _ c.in_ok-lags.ensures.took
+    (took-later _ c.in_ok-integration.ensures.took
+    (took-later _ c.in_ok-rate.ensures.took
+    (took-later _ c.in_ok-count.ensures.took
+    (took-later _ c.in_ok-stations.ensures.took
+    (took-later _ c.in_ok-many.ensures.took
+    (took-later _ c.in_ok-products.ensures.took
+    (took-later _ c.in_ok-length.ensures.took
+    (took-later _ c.in_ok-scans.ensures.took
+    (ap (λ (h : Head). Took h c.read_scans.new.rest) (head-made _ _ _ _ _ _ _ _ _ _ refl c.of.ensures c.of-2.ensures c.of-3.ensures))))))))))))).good

@@ -7,3 +7,5 @@ pub mod HeadForms
 pub mod BaselineForms
 pub mod ScanForms
 pub mod RecordReading
+pub mod RecordForms
+pub mod FileForms

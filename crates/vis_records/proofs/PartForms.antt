@@ -215,32 +215,48 @@ signed_word-form = record {
     signed-fits n small = sfits_to_z (Fits-of_lt small)
 
 -- a field says a number of its range
+pub record FieldSaid (size low high : ℕ) (t : List ℕ) (n : ℕ) (rest : List ℕ) : Type 0 where
+  pub above : low ≤ n
+  pub below : n ≤ high
+  pub fits : n < 256 ^ size
+  pub is : t ≡ little_bytes size n ++ rest
+
+and-parts : (a b : Bool) → (a && b) ≡ true → (a ≡ true) × (b ≡ true)
+and-parts true b e = (refl, e)
+and-parts false b e = let no : ⊥ = cc in absurd no
+
+pub field-said : (size low high : ℕ) (kind : VisKind) (t : List ℕ) (n : ℕ) (rest : List ℕ) → AreBytes t
+    → field size low high kind t ≡ Took n rest
+    → FieldSaid size low high t n rest
+unfolding field
+field-said size low high kind t n rest bytes e =
+    let r = read-parts (piece size t) _ n rest e in
+    let x : ℕ = number_of size r.what in
+    let k = checked-parts (nat_le low x && nat_le x high) x n r.rest rest kind (length t) r.second in
+    let both = and-parts (nat_le low x) (nat_le x high) k.passed in
+    let p = piece-parts size t r.what r.rest r.first in
+    let w = word_bytes size t r.what r.rest bytes p in
+    record {
+      above = subst (λ y. low ≤ y) k.what (leb-true low x both.0);
+      below = subst (λ y. y ≤ high) k.what (leb-true x high both.1);
+      fits = subst (λ y. y < 256 ^ size) k.what (number_of-lt size r.what w.0);
+      is = p.is ∙ ap (λ a. a ++ r.rest) (sym w.1) ∙ rw (k.what, k.behind) refl;
+    }
+
+pub field-reads : (size low high : ℕ) (kind : VisKind) (n : ℕ) (rest : List ℕ) → low ≤ n → n ≤ high → n < 256 ^ size
+    → field size low high kind (little_bytes size n ++ rest) ≡ Took n rest
+field-reads size low high kind n rest above below small =
+    field-took size low high kind (little_bytes size n ++ rest) n
+    (piece-reads size (little_bytes size n) rest (length-bytes_low_first 0 size n))
+    (sym (number_of-bytes size n small)) above below
+
 pub field-form : (size low high : ℕ) (kind : VisKind) → high < 256 ^ size
     → IsForm (field size low high kind) (λ n. (low ≤ n) × (n ≤ high)) (little_bytes size)
-unfolding field
 field-form size low high kind small = record {
-  reads = λ n rest range.
-      field-took size low high kind (little_bytes size n ++ rest) n
-      (piece-reads size (little_bytes size n) rest (length-bytes_low_first 0 size n))
-      (sym (number_of-bytes size n (omega (arith, range.1, small)))) range.0 range.1;
-  good = λ t n rest bytes e.
-      let r = read-parts (piece size t) _ n rest e in
-      let x : ℕ = number_of size r.what in
-      let k = checked-parts (nat_le low x && nat_le x high) x n r.rest rest kind (length t) r.second in
-      let both = and-parts (nat_le low x) (nat_le x high) k.passed in
-      subst (λ y. (low ≤ y) × (y ≤ high)) k.what (leb-true low x both.0, leb-true x high both.1);
-  is = λ t n rest bytes e.
-      let r = read-parts (piece size t) _ n rest e in
-      let x : ℕ = number_of size r.what in
-      let k = checked-parts (nat_le low x && nat_le x high) x n r.rest rest kind (length t) r.second in
-      let p = piece-parts size t r.what r.rest r.first in
-      let w = word_bytes size t r.what r.rest bytes p in
-      p.is ∙ ap (λ a. a ++ r.rest) (sym w.1) ∙ rw (k.what, k.behind) refl;
+  reads = λ n rest range. field-reads size low high kind n rest range.0 range.1 (omega (arith, range.1, small));
+  good = λ t n rest bytes e. let s = field-said size low high kind t n rest bytes e in (s.above, s.below);
+  is = λ t n rest bytes e. (field-said size low high kind t n rest bytes e).is;
 }
-  where
-    and-parts : (a b : Bool) → (a && b) ≡ true → (a ≡ true) × (b ≡ true)
-    and-parts true b e = (refl, e)
-    and-parts false b e = let no : ⊥ = cc in absurd no
 
 -- a list, where each thing has a form beside those before it
 pub record IsItem {A : Type 0} (one : List A → List ℕ → Part A) (Good : List A → Type 0) (text : A → List ℕ) : Type 0 where

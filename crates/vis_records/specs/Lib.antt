@@ -2,3 +2,4 @@ pub mod Heads
 pub mod Parts
 pub mod Content
 pub mod Reading
+pub mod Laws

@@ -10,11 +10,12 @@ use Rattle.corr_model.specs.declared.cell.Cell.{Cell}
 use Rattle.corr_model.specs.declared.records.RecordAt.{RecordAt}
 use Rattle.corr_model.specs.Records.{Head, HeadScan, IsHead, IsHeadScan, IsCell, IsVis, head_text, records_text, end_text, vis_text, baseline_places, product_places, scan_places, places_of}
 use Rattle.corr_model.proofs.RecordLemmas.{places_of-scans, vis_text-parts}
-use Rattle.vis_records.specs.Parts.{Part, Took, chain, in_turn, AreBytes}
+use Rattle.vis_records.specs.declared.fault.Stop.{Stop}
+use Rattle.vis_records.specs.Parts.{Part, Took, chain, in_turn, StopsBy, AreBytes}
 use Rattle.vis_records.specs.Content.{Content, IsRecordFile}
 use Rattle.vis_records.specs.Reading.{head, record_due, end_due, record_file}
 use Rattle.vis_records.specs.Laws.{ReadsWhatIsWritten, ReadsBack, HasOneContent}
-use Rattle.vis_records.proofs.PartLemmas.{took-later}
+use Rattle.vis_records.proofs.PartLemmas.{took-later, stops-first, stops-later}
 use Rattle.vis_records.proofs.PartForms.{Read, read-parts, AreBytes-behind}
 use Rattle.vis_records.proofs.HeadForms.{took-what, took-rest, joined}
 use Rattle.vis_records.proofs.ScanForms.{HeadIs, head-is, head-reads}
@@ -156,3 +157,34 @@ reads_back text content small file =
 pub one_content : (text : List ℕ) → HasOneContent text
 one_content text content other small first second =
     took-what (sym (reads_back text content small first) ∙ reads_back text other small second)
+
+-- a whole file that was read
+pub file-took : (t : List ℕ) (h : Head) (cells : List Cell) (n : ℕ) (t₁ t₂ rest : List ℕ) → AreBytes t
+    → head t ≡ Took h t₁
+    → in_turn (record_due h.lags) [] (places_of h) t₁ ≡ Took cells t₂
+    → end_due (length (places_of h)) t₂ ≡ Took n rest
+    → record_file t ≡ Took (record { head = h; cells = cells }) []
+unfolding record_file
+file-took t h cells n t₁ t₂ rest bytes first second third =
+    took-later _ first (took-later _ second (took-later _ third
+    (ap (λ r. Took (record { head = h; cells = cells }) r) (file-is t h cells n t₁ t₂ rest bytes first second third).none)))
+
+-- a file that breaks a rule in its head, in a record or at its end
+pub stops-in_head : {stop : Stop} (t : List ℕ) → StopsBy (head t) stop → StopsBy (record_file t) stop
+unfolding record_file
+stops-in_head t fact = stops-first _ fact
+
+pub stops-in_records : {stop : Stop} (t : List ℕ) (h : Head) (t₁ : List ℕ)
+    → head t ≡ Took h t₁
+    → StopsBy (in_turn (record_due h.lags) [] (places_of h) t₁) stop
+    → StopsBy (record_file t) stop
+unfolding record_file
+stops-in_records t h t₁ first fact = stops-later _ first (stops-first _ fact)
+
+pub stops-at_end : {stop : Stop} (t : List ℕ) (h : Head) (cells : List Cell) (t₁ t₂ : List ℕ)
+    → head t ≡ Took h t₁
+    → in_turn (record_due h.lags) [] (places_of h) t₁ ≡ Took cells t₂
+    → StopsBy (end_due (length (places_of h)) t₂) stop
+    → StopsBy (record_file t) stop
+unfolding record_file
+stops-at_end t h cells t₁ t₂ first second fact = stops-later _ first (stops-later _ second (stops-first _ fact))

@@ -4,11 +4,21 @@
 //! first part of it where the sink fails, and takes no memory.
 #![tactic(auto)]
 
+mod fault;
 mod head;
+pub mod laws;
 mod numbers;
+mod read;
+mod read_head;
+mod read_records;
+mod rest;
+mod vis;
 mod writer;
 
+pub use fault::{VisFault, VisKind};
 pub use head::{VisBaseline, VisHead, VisProduct, VisScan};
+pub use read::read_all;
+pub use vis::Vis;
 pub use writer::{SinkFault, write_end, write_head, write_record};
 
 #[cfg(test)]

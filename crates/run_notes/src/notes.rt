@@ -2,6 +2,7 @@
 ghost use Rattle.std.specs.Prelude.{◌≡◌};
 ghost use Rattle.sink_text.specs.Appends.{Appends};
 ghost use Rattle.run_notes.specs.Refusals.{answer_of, due_answer};
+ghost use Rattle.run_notes.specs.Answers.{byte_answer};
 
 use crate::refusal::{Due, Refusal};
 use dev_traits::{Failed, Sink};
@@ -58,26 +59,8 @@ fn write_due<N: Sink>(due: &Due, notes: &mut N) -> Result<(), Failed>
             ],
             notes,
         ),
-        Due::Vex(fault) => append_pieces(
-            &[
-                Piece::Text("vlbi: schedule: "),
-                Piece::Text(fault.kind.name()),
-                Piece::Text(" at byte "),
-                Piece::Number(fault.at),
-                Piece::Text("\n"),
-            ],
-            notes,
-        ),
-        Due::Schedule(fault) => append_pieces(
-            &[
-                Piece::Text("vlbi: schedule: "),
-                Piece::Text(fault.kind.name()),
-                Piece::Text(" at byte "),
-                Piece::Number(fault.at),
-                Piece::Text("\n"),
-            ],
-            notes,
-        ),
+        Due::Vex(fault) => write_at_byte(fault.kind.name(), fault.at, notes),
+        Due::Schedule(fault) => write_at_byte(fault.kind.name(), fault.at, notes),
         Due::Job(fault) => append_pieces(
             &[
                 Piece::Text("vlbi: job: "),
@@ -127,4 +110,20 @@ fn write_due<N: Sink>(due: &Due, notes: &mut N) -> Result<(), Failed>
             notes,
         ),
     }
+}
+
+// Writes the line of a fault at a byte of the schedule.
+fn write_at_byte<N: Sink>(name: &str, at: u64, notes: &mut N) -> Result<(), Failed>
+    ensures { Appends (N.told notes.old) (N.told notes.new) (byte_answer name.now at).note (N.faults notes.old) (N.faults notes.new) result }
+{
+    append_pieces(
+        &[
+            Piece::Text("vlbi: schedule: "),
+            Piece::Text(name),
+            Piece::Text(" at byte "),
+            Piece::Number(at),
+            Piece::Text("\n"),
+        ],
+        notes,
+    )
 }

@@ -57,7 +57,7 @@ fn print_order(rt: &impl Print, order: &Order) -> Result<()> {
             print_names(rt, "status", job, vex)?;
             println!(rt; "")?;
         }
-        Order::Dump { file } => println!(rt; "dump file {}", text_of(file)?)?,
+        Order::Dump { file } => println!(rt; "dump file \"{}\"", text_of(file)?)?,
         Order::Gen { seed, seconds, workers, piece } => {
             println!(rt; "gen seed {seed} seconds {seconds} workers {workers} piece {piece}")?;
         }
@@ -67,9 +67,9 @@ fn print_order(rt: &impl Print, order: &Order) -> Result<()> {
 
 // A command with the names of a job's file and of its schedule's.
 fn print_names(rt: &impl Print, command: &str, job: &Name, vex: &Option<Name>) -> Result<()> {
-    print!(rt; "{command} job {}", text_of(job)?)?;
+    print!(rt; "{command} job \"{}\"", text_of(job)?)?;
     if let Some(vex) = vex {
-        print!(rt; " vex {}", text_of(vex)?)?;
+        print!(rt; " vex \"{}\"", text_of(vex)?)?;
     }
     Ok(())
 }

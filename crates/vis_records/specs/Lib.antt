@@ -3,3 +3,4 @@ pub mod Parts
 pub mod Content
 pub mod Reading
 pub mod Laws
+pub mod KindName

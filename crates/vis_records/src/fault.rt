@@ -20,8 +20,28 @@ pub enum VisKind {
     /// A number of the head is outside its range or order.
     #[error("Head")]
     Head,
-    #[error("out of memory")]
+    /// There is no memory for what stands in the text.
+    #[error("Memory")]
     Memory,
+}
+
+impl VisKind {
+    ghost use Rattle.std.specs.Prelude.{◌≡◌};
+    ghost use Rattle.vis_records.specs.KindName.{kind_name};
+
+    /// The rule's name, as it is written above.
+    pub fn name(self) -> &'static str
+        ensures { result.now ≡ kind_name self }
+    {
+        match self {
+            VisKind::Magic => "Magic",
+            VisKind::Short => "Short",
+            VisKind::Order => "Order",
+            VisKind::AfterEnd => "AfterEnd",
+            VisKind::Head => "Head",
+            VisKind::Memory => "Memory",
+        }
+    }
 }
 
 /// The rule that a text breaks first, and where: the byte at which the field begins that breaks it; for

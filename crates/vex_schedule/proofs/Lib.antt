@@ -3,3 +3,4 @@ pub mod Names
 pub mod Setups
 pub mod Reading
 pub mod Turns
+pub mod Coverings

@@ -6,3 +6,4 @@ pub mod Statements
 pub mod Schedule
 pub mod Sound
 pub mod Setups
+pub mod Covering

@@ -8,6 +8,7 @@
 #![tactic(auto)]
 
 mod chans;
+mod covering;
 mod fault;
 mod list;
 mod part;

@@ -11,6 +11,7 @@ use Rattle.std.proofs.lemmas.Slice.Eq.{bytes_eq-Decides}
 use Rattle.vex_reader.specs.declared.file.Item.{Item}
 use Rattle.vex_reader.specs.declared.file.Statement.{Statement}
 use Rattle.vex_reader.specs.File.{named, put}
+use Rattle.vex_reader.proofs.NamedLemmas.{named-put_at}
 use Rattle.vex_schedule.specs.declared.covering.Found.{Found}
 use Rattle.vex_schedule.specs.declared.covering.Found.TheVariants.{Nowhere, Once, Often}
 use Rattle.vex_schedule.specs.declared.covering.Covering.{Covering}
@@ -19,25 +20,6 @@ use Rattle.vex_schedule.specs.Covering.{is_to_freq, covers_each, covers_by, note
 
 bytes_same : (x y : List ℕ) → bytes_eq x y ≡ true → x ≡ y
 bytes_same x y e = (bytes_eq-Decides x y).0 e
-
--- what stands under a name once another or the same was put
-pub named-put_at : {A : Type 0} (xs : List (List ℕ × A)) (name : List ℕ) (thing : A) (other : List ℕ) → named (put xs name thing) other ≡ cond (bytes_eq name other) (Some thing) (named xs other)
-named-put_at [] name thing other = refl
-named-put_at {A} (x ∷ xs) name thing other = by (bytes_eq x.0 name) refl (named-put_at xs name thing other)
-  where
-    first : (b c : Bool) → bytes_eq x.0 other ≡ b → bytes_eq name other ≡ c → bytes_eq x.0 name ≡ false → cond b (Some x.1) (cond c (Some thing) (named xs other)) ≡ cond c (Some thing) (cond b (Some x.1) (named xs other))
-    first true true e f differ = absurd (let same : x.0 ≡ name = bytes_same x.0 other e ∙ sym (bytes_same name other f) in false≢true (sym differ ∙ (bytes_eq-Decides x.0 name).1 same))
-    first true false e f differ = refl
-    first false c e f differ = refl
-
-    by : (b : Bool) → bytes_eq x.0 name ≡ b → named (put xs name thing) other ≡ cond (bytes_eq name other) (Some thing) (named xs other)
-        → named (cond b ((x.0, thing) ∷ xs) (x ∷ put xs name thing)) other ≡ cond (bytes_eq name other) (Some thing) (named (x ∷ xs) other)
-    by true e rest = rw (bytes_same x.0 name e) (again (bytes_eq name other))
-      where
-        again : (c : Bool) → cond c (Some thing) (named xs other) ≡ cond c (Some thing) (cond c (Some x.1) (named xs other))
-        again true = refl
-        again false = refl
-    by false e rest = ap (λ o. cond (bytes_eq x.0 other) (Some x.1) o) rest ∙ first (bytes_eq x.0 other) (bytes_eq name other) refl refl e
 
 pub found_in-put : (xs : List (List ℕ × Found)) (name : List ℕ) (found : Found) (key : List ℕ) → found_in (put xs name found) key ≡ cond (bytes_eq name key) found (found_in xs key)
 found_in-put xs name found key = ap (λ o. unwrap_or o Nowhere) (named-put_at xs name found key) ∙ by (bytes_eq name key)

@@ -1,6 +1,8 @@
 //! What is asked of a text.
 
-use crate::files::{put_file, put_places};
+ghost use Rattle.std.specs.Prelude.{◌+◌, ◌≤◌, length, All};
+
+use crate::files::{put_file, put_places, put_text};
 use crate::pieces::Marked;
 use crate::scans::put_scans;
 use anyhow::{Result, bail};
@@ -13,6 +15,7 @@ use vex_schedule::schedule;
 pub fn answer(alloc: Global, word: &str, text: &Marked) -> Result<String> {
     match word {
         "tokens" => told_tokens(alloc, text),
+        "texts" => told_texts(alloc, text),
         "read" => told_file(alloc, text),
         "places" => told_places(alloc, text),
         "schedule" => told_schedule(alloc, text),
@@ -48,6 +51,30 @@ fn told_tokens(alloc: Global, text: &Marked) -> Result<String> {
             told_fault(alloc, format!(in alloc; "{:?}", fault.kind)?, fault.at, text)
         }
     }
+}
+
+// The texts of some tokens, each in brackets.
+fn put_texts(
+    alloc: Global,
+    out: &mut String,
+    text: &[u8],
+    tokens: &[Token],
+) -> Result<(), AllocError>
+    requires { All (λ token. token.at + token.len ≤ length text.now) tokens.now }
+{
+    for token in tokens {
+        out.push('[')?;
+        put_text(alloc, out, token.text(text))?;
+        out.push(']')?;
+    }
+    Ok(())
+}
+
+fn told_texts(alloc: Global, text: &Marked) -> Result<String> {
+    let tokens = tokens(alloc, &text.bytes)?;
+    let mut out = String::new(alloc);
+    put_texts(alloc, &mut out, &text.bytes, &tokens)?;
+    Ok(out)
 }
 
 fn told_file(alloc: Global, text: &Marked) -> Result<String> {

@@ -25,6 +25,3 @@ pub use fault::{SchedFault, SchedKind};
 pub use list::ScanList;
 pub use scan::{Chan, Pass, Scan};
 pub use scans::schedule;
-
-#[cfg(test)]
-mod tests;

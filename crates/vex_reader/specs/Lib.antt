@@ -6,3 +6,4 @@ pub mod ReadingState
 pub mod Grammar
 pub mod Laws
 pub mod Counts
+pub mod KindName

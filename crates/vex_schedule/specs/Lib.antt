@@ -7,3 +7,4 @@ pub mod Schedule
 pub mod Sound
 pub mod Setups
 pub mod Covering
+pub mod KindName

@@ -4,3 +4,4 @@ pub mod Setups
 pub mod Reading
 pub mod Turns
 pub mod Coverings
+pub mod LawLemmas

@@ -8,3 +8,4 @@ pub mod Sound
 pub mod Setups
 pub mod Covering
 pub mod KindName
+pub mod Laws

@@ -10,6 +10,7 @@
 mod chans;
 mod covering;
 mod fault;
+pub mod laws;
 mod list;
 mod part;
 mod quantities;

@@ -5,3 +5,4 @@ pub mod SecondLemmas
 pub mod PassedLemmas
 pub mod PieceLemmas
 pub mod BuildLemmas
+pub mod FrameLaw

@@ -4,6 +4,7 @@ pub mod Counted
 pub mod Foreign
 pub mod FrameOrder
 pub mod Passed
+pub mod Placed
 pub mod Indexed
 pub mod Layouts
 pub mod Recording

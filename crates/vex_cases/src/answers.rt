@@ -48,7 +48,12 @@ fn told_tokens(alloc: Global, text: &Marked) -> Result<String> {
             Ok(out)
         }
         Err(fault) => {
-            told_fault(alloc, format!(in alloc; "{:?}", fault.kind)?, fault.at, text)
+            told_fault(
+                alloc,
+                format!(in alloc; "{:?}", fault.kind)?,
+                fault.at,
+                text,
+            )
         }
     }
 }
@@ -85,7 +90,12 @@ fn told_file(alloc: Global, text: &Marked) -> Result<String> {
             Ok(out)
         }
         Err(fault) => {
-            told_fault(alloc, format!(in alloc; "{:?}", fault.kind)?, fault.at, text)
+            told_fault(
+                alloc,
+                format!(in alloc; "{:?}", fault.kind)?,
+                fault.at,
+                text,
+            )
         }
     }
 }
@@ -106,7 +116,12 @@ fn told_schedule(alloc: Global, text: &Marked) -> Result<String> {
             Ok(out)
         }
         Err(fault) => {
-            told_fault(alloc, format!(in alloc; "{:?}", fault.kind)?, fault.at, text)
+            told_fault(
+                alloc,
+                format!(in alloc; "{:?}", fault.kind)?,
+                fault.at,
+                text,
+            )
         }
     }
 }

@@ -6,10 +6,8 @@ mod answers;
 mod files;
 mod pieces;
 mod scans;
-
 #[cfg(test)]
 mod tests;
-
 
 use crate::answers::answer;
 use crate::pieces::Pieces;
@@ -35,6 +33,9 @@ fn read_line(rt: &impl Print, alloc: Global, line: &str, pieces: &mut Pieces) ->
         return Ok(());
     }
     let (word, rest) = line.split_once(' ').unwrap_or((line, ""));
-    println!(rt; "{line}: {}", answer(alloc, word, &pieces.text(alloc, rest)?)?)?;
+    println!(rt;
+        "{line}: {}",
+        answer(alloc, word, &pieces.text(alloc, rest)?)?
+    )?;
     Ok(())
 }

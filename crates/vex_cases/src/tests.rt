@@ -11,8 +11,7 @@ use vex_schedule::{SchedFault, SchedKind, schedule};
 const MOST: usize = 8_388_608;
 
 // The revision, a mode whose one ref is for all stations, and the front of the def that it names.
-const SETUP: &[u8] =
-    b"VEX_rev=1.5;$MODE;def M;ref $FREQ=F;enddef;$FREQ;def F;sample_rate=1Ms/sec;";
+const SETUP: &[u8] = b"VEX_rev=1.5;$MODE;def M;ref $FREQ=F;enddef;$FREQ;def F;sample_rate=1Ms/sec;";
 
 // The end of that def, and the front of a scan.
 const SCAN: &[u8] = b"enddef;$SCHED;scan S;start=2010y001d00h00m00s;mode=M;";

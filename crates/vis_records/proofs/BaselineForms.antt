@@ -47,6 +47,7 @@ in_order (Some l) a b ordered first second =
   where
     same : l.0 ≡ a → l.1 + 1 ≤ b → (a ≤ b) × IsBefore l (a, b)
     same e low = (omega arith, inr (e, omega arith))
+
     other : l.0 ≢ a → a ≤ b → (a ≤ b) × IsBefore l (a, b)
     other e low = (low, inl (omega arith))
 
@@ -58,6 +59,7 @@ first-low (Some l) x behind =
   where
     below : l.0 < x.0 → l.0 ≤ x.0
     below t = omega arith
+
     equal : l.0 ≡ x.0 → l.0 ≤ x.0
     equal t = omega arith
 
@@ -70,10 +72,11 @@ second-low (Some l) x ordered behind =
   where
     same : l.0 ≡ x.0 → l.1 + 1 ≤ x.1
     same e =
-      ⊎_elim (λ (t : l.0 < x.0). absurd (never t)) (λ (t : (l.0 ≡ x.0) × (l.1 < x.1)). rises t.1) behind
+        ⊎_elim (λ (t : l.0 < x.0). absurd (never t)) (λ (t : (l.0 ≡ x.0) × (l.1 < x.1)). rises t.1) behind
       where
         never : l.0 < x.0 → ⊥
         never t = omega arith
+
         rises : l.1 < x.1 → l.1 + 1 ≤ x.1
         rises t = omega arith
 
@@ -101,10 +104,13 @@ baseline-form stations before some few ordered = record {
   where
     form : (low : ℕ) → IsForm (field 4 low (stations - 1) OfHead) (λ n. (low ≤ n) × (n ≤ stations - 1)) (little_bytes 4)
     form low = field-form 4 low (stations - 1) OfHead (omega arith)
+
     below : (n : ℕ) → n ≤ stations - 1 → n < stations
     below n high = omega arith
+
     first-high : (x : Pair) → IsBaseline stations x → x.0 ≤ stations - 1
     first-high x is = omega (arith, is.0, is.1)
+
     second-high : (x : Pair) → IsBaseline stations x → x.1 ≤ stations - 1
     second-high x is = omega (arith, is.1)
 
@@ -142,16 +148,18 @@ AllPairs-snoc bs x pairs below i j d less within =
   where
     inside : suc j ≤ length bs → IsBefore (get_or (bs ++ x ∷ []) i d) (get_or (bs ++ x ∷ []) j d)
     inside t =
-      let a : get_or (bs ++ x ∷ []) i d ≡ get_or bs i d = get_or_append_left bs (x ∷ []) d i (omega arith) in
-      let b : get_or (bs ++ x ∷ []) j d ≡ get_or bs j d = get_or_append_left bs (x ∷ []) d j (omega arith) in
-      subst (λ y. IsBefore (get_or (bs ++ x ∷ []) i d) y) (sym b) (subst (λ y. IsBefore y (get_or bs j d)) (sym a) (pairs i j d less (omega arith)))
+        let a : get_or (bs ++ x ∷ []) i d ≡ get_or bs i d = get_or_append_left bs (x ∷ []) d i (omega arith) in
+        let b : get_or (bs ++ x ∷ []) j d ≡ get_or bs j d = get_or_append_left bs (x ∷ []) d j (omega arith) in
+        subst (λ y. IsBefore (get_or (bs ++ x ∷ []) i d) y) (sym b) (subst (λ y. IsBefore y (get_or bs j d)) (sym a) (pairs i j d less (omega arith)))
+
     at_end : length bs < suc j → j ≡ length bs
     at_end t = omega (arith, length-append bs (x ∷ []))
+
     last : j ≡ length bs → IsBefore (get_or (bs ++ x ∷ []) i d) (get_or (bs ++ x ∷ []) j d)
     last e =
-      let a : get_or (bs ++ x ∷ []) i d ≡ get_or bs i d = get_or_append_left bs (x ∷ []) d i (omega arith) in
-      let b : get_or (bs ++ x ∷ []) j d ≡ x = ap (λ k. get_or (bs ++ x ∷ []) k d) e ∙ get_or-append_seam bs x [] d in
-      subst (λ y. IsBefore (get_or (bs ++ x ∷ []) i d) y) (sym b) (subst (λ y. IsBefore y x) (sym a) (below i d (omega arith)))
+        let a : get_or (bs ++ x ∷ []) i d ≡ get_or bs i d = get_or_append_left bs (x ∷ []) d i (omega arith) in
+        let b : get_or (bs ++ x ∷ []) j d ≡ x = ap (λ k. get_or (bs ++ x ∷ []) k d) e ∙ get_or-append_seam bs x [] d in
+        subst (λ y. IsBefore (get_or (bs ++ x ∷ []) i d) y) (sym b) (subst (λ y. IsBefore y x) (sym a) (below i d (omega arith)))
 
 -- all are before what is behind the last of them
 behind-all : (bs : List Pair) (x : Pair) → AllPairs IsBefore bs → Behind (last_of bs) x → All (λ b. IsBefore b x) bs
@@ -160,14 +168,15 @@ behind-all bs x pairs behind k d within =
   where
     never : bs ≡ [] → ⊥
     never e = omega (arith, ap length e)
+
     from_last : last_of bs ≡ Some (get_or bs (length bs - 1) d) → IsBefore (get_or bs k d) x
     from_last e =
-      let last : IsBefore (get_or bs (length bs - 1) d) x = subst (λ l. Behind l x) e behind in
-      ⊎_elim (λ (t : (leb (k + 2) (length bs) ≡ true) × (k + 2 ≤ length bs)).
-      before-trans (get_or bs k d) (get_or bs (length bs - 1) d) x (pairs k (length bs - 1) d (omega (arith, t.1)) (omega arith)) last)
-      (λ (t : (leb (k + 2) (length bs) ≡ false) × (length bs < k + 2)).
-      let same : length bs - 1 ≡ k = omega (arith, t.1) in subst (λ n. IsBefore (get_or bs n d) x) same last)
-      (leb_tells (k + 2) (length bs))
+        let last : IsBefore (get_or bs (length bs - 1) d) x = subst (λ l. Behind l x) e behind in
+        ⊎_elim (λ (t : (leb (k + 2) (length bs) ≡ true) × (k + 2 ≤ length bs)).
+        before-trans (get_or bs k d) (get_or bs (length bs - 1) d) x (pairs k (length bs - 1) d (omega (arith, t.1)) (omega arith)) last)
+        (λ (t : (leb (k + 2) (length bs) ≡ false) × (length bs < k + 2)).
+        let same : length bs - 1 ≡ k = omega (arith, t.1) in subst (λ n. IsBefore (get_or bs n d) x) same last)
+        (leb_tells (k + 2) (length bs))
 
 ordered-last : (stations : ℕ) (bs : List Pair) → All (IsBaseline stations) bs → Ordered (last_of bs)
 ordered-last stations bs all =
@@ -185,11 +194,11 @@ last-behind bs x pairs =
   where
     pair : 0 < length bs → IsBefore (get_or bs (length bs - 1) x) x
     pair some =
-      let a : get_or (bs ++ x ∷ []) (length bs - 1) x ≡ get_or bs (length bs - 1) x = get_or_append_left bs (x ∷ []) x (length bs - 1) (omega arith) in
-      let b : get_or (bs ++ x ∷ []) (length bs) x ≡ x = get_or-append_seam bs x [] x in
-      let fact : IsBefore (get_or (bs ++ x ∷ []) (length bs - 1) x) (get_or (bs ++ x ∷ []) (length bs) x) =
-      pairs (length bs - 1) (length bs) x (omega arith) (omega (arith, length-append bs (x ∷ []))) in
-      subst (λ y. IsBefore (get_or bs (length bs - 1) x) y) b (subst (λ y. IsBefore y (get_or (bs ++ x ∷ []) (length bs) x)) a fact)
+        let a : get_or (bs ++ x ∷ []) (length bs - 1) x ≡ get_or bs (length bs - 1) x = get_or_append_left bs (x ∷ []) x (length bs - 1) (omega arith) in
+        let b : get_or (bs ++ x ∷ []) (length bs) x ≡ x = get_or-append_seam bs x [] x in
+        let fact : IsBefore (get_or (bs ++ x ∷ []) (length bs - 1) x) (get_or (bs ++ x ∷ []) (length bs) x) =
+        pairs (length bs - 1) (length bs) x (omega arith) (omega (arith, length-append bs (x ∷ []))) in
+        subst (λ y. IsBefore (get_or bs (length bs - 1) x) y) b (subst (λ y. IsBefore y (get_or (bs ++ x ∷ []) (length bs) x)) a fact)
 
 pub baseline-item : (stations : ℕ) → 1 ≤ stations → stations ≤ 32
     → IsItem (λ bs. baseline stations (last_of bs)) (Rising stations) baseline_text
@@ -199,9 +208,10 @@ baseline-item stations some few = record {
       (baseline-form stations (last_of bs) some few (ordered-last stations bs (All-front (IsBaseline stations) bs (x ∷ []) good.0))).reads x rest
       (All-last (IsBaseline stations) bs x good.0, last-behind bs x good.1);
   good = λ bs t x rest good bytes e.
-      let g = (baseline-form stations (last_of bs) some few (ordered-last stations bs good.0)).good t x rest bytes e in
-      (All-append (IsBaseline stations) bs (x ∷ []) good.0 (All-one (IsBaseline stations) x g.0),
-       AllPairs-snoc bs x good.1 (behind-all bs x good.1 g.1));
+      let g = (baseline-form stations (last_of bs) some few (ordered-last stations bs good.0)).good t x rest bytes e in (
+        All-append (IsBaseline stations) bs (x ∷ []) good.0 (All-one (IsBaseline stations) x g.0),
+        AllPairs-snoc bs x good.1 (behind-all bs x good.1 g.1),
+      );
   is = λ bs t x rest good bytes e.
       (baseline-form stations (last_of bs) some few (ordered-last stations bs good.0)).is t x rest bytes e;
 }

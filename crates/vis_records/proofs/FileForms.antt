@@ -62,8 +62,10 @@ scan-places-fit h number s products low samples baselines =
   where
     lt-m : (m : ℕ) → m < div_ceil s.samples h.integration → m < 2 ^ 64
     lt-m m inside = omega (arith, few-integrations s.samples h.integration samples, inside)
+
     lt-p : (p : ℕ) → p < length h.products → p < 2 ^ 32
     lt-p p within = omega (arith, within, products)
+
     lt-b : (b : ℕ) → b < length s.baselines → b < 2 ^ 32
     lt-b b below = omega (arith, below, baselines)
 
@@ -85,9 +87,14 @@ vis_text-right h cells =
 -- a file is longer than it has records
 few-records : (h : Head) (cells : List Cell) → length (vis_text h cells) < 2 ^ 64 → length (places_of h) < 2 ^ 64
 few-records h cells small =
-    omega (arith, small, records_text-long h.lags (places_of h) cells, ap length (vis_text-parts h cells),
-    length-append (head_text h ++ records_text h.lags (places_of h) cells) (end_text (length (places_of h))),
-    length-append (head_text h) (records_text h.lags (places_of h) cells))
+    omega (
+      arith,
+      small,
+      records_text-long h.lags (places_of h) cells,
+      ap length (vis_text-parts h cells),
+      length-append (head_text h ++ records_text h.lags (places_of h) cells) (end_text (length (places_of h))),
+      length-append (head_text h) (records_text h.lags (places_of h) cells),
+    )
 
 pub file-reads : (h : Head) (cells : List Cell) → IsVis h cells → length (vis_text h cells) < 2 ^ 64
     → record_file (vis_text h cells) ≡ Took (record { head = h; cells = cells }) []
@@ -118,9 +125,9 @@ file-is t h cells n t₁ t₂ rest bytes first second third =
     record {
       vis = record { head_is = p.good; count = ap length r.whole ∙ r.count; cells_are = r.good };
       is =
-        joined t (head_text h) t₁ _ p.is (joined t₁ (records_text h.lags (places_of h) r.cells) t₂ _ r.is e.is)
-        ∙ sym (vis_text-right h r.cells)
-        ∙ ap (vis_text h) (sym r.whole);
+          joined t (head_text h) t₁ _ p.is (joined t₁ (records_text h.lags (places_of h) r.cells) t₂ _ r.is e.is)
+          ∙ sym (vis_text-right h r.cells)
+          ∙ ap (vis_text h) (sym r.whole);
       none = e.none;
     })))
 

@@ -66,6 +66,7 @@ name-form = record {
   where
     form : IsForm (field 2 1 255 OfHead) (λ n. (1 ≤ n) × (n ≤ 255)) (little_bytes 2)
     form = field-form 2 1 255 OfHead (lit< tt)
+
     counted : (k : ℕ) (t n rest : List ℕ) → PieceIs k t n rest → k ≡ length n
     counted k t n rest q = sym (ap length (sym q.front) ∙ length_take k t q.enough)
 
@@ -119,5 +120,6 @@ lags-form = record {
   where
     form : IsForm (field 4 2 1024 OfHead) (λ n. (2 ≤ n) × (n ≤ 1024)) (little_bytes 4)
     form = field-form 4 2 1024 OfHead (lit< tt)
+
     is_zero : (n : ℕ) → (n == 0) ≡ true → n ≡ 0
     is_zero n e = grind (arith, nat_tests)

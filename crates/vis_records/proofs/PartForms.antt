@@ -211,6 +211,7 @@ signed_word-form = record {
   where
     unsigned-fits : (z : ℤ) → FitsSigned w64 z → cast_unsigned w64 z < 2 ^ 64
     unsigned-fits z fits = omega (arith, Fits-of_z fits)
+
     signed-fits : (n : ℕ) → n < 2 ^ 64 → FitsSigned w64 (cast_signed w64 n)
     signed-fits n small = sfits_to_z (Fits-of_lt small)
 

@@ -160,18 +160,18 @@ next-recorded lags at places before t t₁ t₂ after things all rest a b grown 
   count = omega (arith, length-append things r.cells, long, r.count, mul-suc lags (length places));
   good = r.good;
   is =
-    joined t (record_front at) t₁ _ a (joined t₁ (flat_map cell_text things) t₂ _ b r.is)
-    ∙ sym (append_assoc (record_front at) (flat_map cell_text things) (records_text lags places r.cells ++ rest))
-    ∙ ap (λ t. t ++ (records_text lags places r.cells ++ rest)) (sym (record_text-front at things))
-    ∙ sym (append_assoc (record_text at things) (records_text lags places r.cells) rest)
-    ∙ ap (λ t. t ++ rest) (sym text);
+      joined t (record_front at) t₁ _ a (joined t₁ (flat_map cell_text things) t₂ _ b r.is)
+      ∙ sym (append_assoc (record_front at) (flat_map cell_text things) (records_text lags places r.cells ++ rest))
+      ∙ ap (λ t. t ++ (records_text lags places r.cells ++ rest)) (sym (record_text-front at things))
+      ∙ sym (append_assoc (record_text at things) (records_text lags places r.cells) rest)
+      ∙ ap (λ t. t ++ rest) (sym text);
 }
   where
     text : records_text lags (at ∷ places) (things ++ r.cells) ≡ record_text at things ++ records_text lags places r.cells
     text =
-      records_text-next lags at places (things ++ r.cells)
-      ∙ ap (λ cs. record_text at cs ++ records_text lags places (drop lags (things ++ r.cells))) (take_at things r.cells lags long)
-      ∙ ap (λ cs. record_text at things ++ records_text lags places cs) (drop_at things r.cells lags long)
+        records_text-next lags at places (things ++ r.cells)
+        ∙ ap (λ cs. record_text at cs ++ records_text lags places (drop lags (things ++ r.cells))) (take_at things r.cells lags long)
+        ∙ ap (λ cs. record_text at things ++ records_text lags places cs) (drop_at things r.cells lags long)
 
 pub records-is : (lags : ℕ) (places : List RecordAt) (before : List Cell) (t : List ℕ) (all : List Cell) (rest : List ℕ)
     → AreBytes t
@@ -233,7 +233,7 @@ end-is count t n rest bytes e =
     let both = nothing-is q.rest n rest q.second in
     record {
       is =
-        joined t (255 ∷ []) p.rest _ s.is (joined p.rest (little_bytes 8 count) q.rest [] u.is both.0)
-        ∙ sym (append_assoc (255 ∷ []) (little_bytes 8 count) []);
+          joined t (255 ∷ []) p.rest _ s.is (joined p.rest (little_bytes 8 count) q.rest [] u.is both.0)
+          ∙ sym (append_assoc (255 ∷ []) (little_bytes 8 count) []);
       none = both.1;
     }))))

@@ -77,6 +77,7 @@ scan-form stations some few = record {
       each = e.0.0;
       rising = e.0.1;
     }
+
     written : (t n t₁ : List ℕ) (second : ℕ) (t₂ : List ℕ) (samples : ℕ) (t₃ : List ℕ) (count : ℕ) (t₄ : List ℕ) (bs : List (ℕ × ℕ)) (t₅ rest : List ℕ)
         → t ≡ name_text n ++ t₁
         → t₁ ≡ little_bytes 8 second ++ t₂
@@ -87,10 +88,10 @@ scan-form stations some few = record {
         → t₅ ≡ rest
         → t ≡ scan_text (record { name = n; second = second; samples = samples; baselines = bs }) ++ rest
     written t n t₁ second t₂ samples t₃ count t₄ bs t₅ rest a b c d e counted last =
-      joined t (name_text n) t₁ _ a (joined t₁ (little_bytes 8 second) t₂ _ b (joined t₂ (little_bytes 8 samples) t₃ _ c
-      (joined t₃ (little_bytes 4 count) t₄ _ d (joined t₄ (flat_map baseline_text bs) t₅ _ e last))))
-      ∙ ap (λ k. name_text n ++ (little_bytes 8 second ++ (little_bytes 8 samples ++ (little_bytes 4 k ++ (flat_map baseline_text bs ++ rest))))) (sym counted)
-      ∙ sym (assoc-5 (name_text n) (little_bytes 8 second) (little_bytes 8 samples) (little_bytes 4 (length bs)) (flat_map baseline_text bs) rest)
+        joined t (name_text n) t₁ _ a (joined t₁ (little_bytes 8 second) t₂ _ b (joined t₂ (little_bytes 8 samples) t₃ _ c
+        (joined t₃ (little_bytes 4 count) t₄ _ d (joined t₄ (flat_map baseline_text bs) t₅ _ e last))))
+        ∙ ap (λ k. name_text n ++ (little_bytes 8 second ++ (little_bytes 8 samples ++ (little_bytes 4 k ++ (flat_map baseline_text bs ++ rest))))) (sym counted)
+        ∙ sym (assoc-5 (name_text n) (little_bytes 8 second) (little_bytes 8 samples) (little_bytes 4 (length bs)) (flat_map baseline_text bs) rest)
 
 -- the lists of a head
 names-form : (n : ℕ) → IsForm (list_of (λ _. name) n) (λ ns. All IsName ns × (length ns ≡ n)) (flat_map name_text)
@@ -200,10 +201,10 @@ head-made t mark t₁ lags t₂ integration t₃ rate t₄ n t₅ keys t₆ m t�
         scans = subst (λ x. All (IsHeadScan x) scans) (sym g₆.1) g₁₀.0;
       };
       is =
-        joined t mark t₁ _ e₁ (joined t₁ (little_bytes 4 lags) t₂ _ e₂ (joined t₂ (little_bytes 8 integration) t₃ _ e₃
-        (joined t₃ (little_bytes 8 rate) t₄ _ e₄ (joined t₄ (little_bytes 4 n) t₅ _ e₅ (joined t₅ (flat_map name_text keys) t₆ _ e₆
-        (joined t₆ (little_bytes 4 m) t₇ _ e₇ (joined t₇ (flat_map product_text products) t₈ _ e₈ (joined t₈ (little_bytes 4 k) t₉ _ e₉ e₁₀))))))))
-        ∙ rw (g₁, ← g₆.1, ← g₈.1, ← g₁₀.1) (sym (head_text-right h rest));
+          joined t mark t₁ _ e₁ (joined t₁ (little_bytes 4 lags) t₂ _ e₂ (joined t₂ (little_bytes 8 integration) t₃ _ e₃
+          (joined t₃ (little_bytes 8 rate) t₄ _ e₄ (joined t₄ (little_bytes 4 n) t₅ _ e₅ (joined t₅ (flat_map name_text keys) t₆ _ e₆
+          (joined t₆ (little_bytes 4 m) t₇ _ e₇ (joined t₇ (flat_map product_text products) t₈ _ e₈ (joined t₈ (little_bytes 4 k) t₉ _ e₉ e₁₀))))))))
+          ∙ rw (g₁, ← g₆.1, ← g₈.1, ← g₁₀.1) (sym (head_text-right h rest));
     }
 
 -- a fact that is held by a name

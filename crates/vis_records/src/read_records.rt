@@ -12,7 +12,11 @@ use crate::rest::Rest;
 use corr_model::{Cell, RecordAt};
 
 // All records that a head asks for, behind the cells that are there.
-pub(crate) fn read_records(rest: &mut Rest<'_>, head: &VisHead, cells: &mut Vec<Cell>) -> Result<(), Stop>
+pub(crate) fn read_records(
+    rest: &mut Rest<'_>,
+    head: &VisHead,
+    cells: &mut Vec<Cell>,
+) -> Result<(), Stop>
     ensures took { OnOk result (in_turn (record_due head.now.lags) cells.old.items (places_of head.now) rest.old ≡ Took cells.new.items rest.new) }
     ensures stops { IfErr result (StopsBy (in_turn (record_due head.now.lags) cells.old.items (places_of head.now) rest.old)) }
 {

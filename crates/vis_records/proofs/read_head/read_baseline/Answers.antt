@@ -11,7 +11,6 @@ use Rattle.vis_records.proofs.PartLemmas.{took-later, stops-first, stops-later, 
 use Rattle.vis_records.proofs.FieldLemmas.{passed-on}
 use Rattle.vis_records.proofs.read_head.read_baseline.Goals as goal
 
-
 -- one number in place of another
 field-for : {n : ℕ} {rest : List ℕ} (low low' high : ℕ) (text : List ℕ)
     → low ≡ low'

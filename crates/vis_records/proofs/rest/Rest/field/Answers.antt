@@ -24,8 +24,8 @@ returns-then-n-high-clause-took c =
 pub returns-else-low-n-clause-stops : goal.returns-else-low-n-clause-stops
 returns-else-low-n-clause-stops c =
     elim c.else-low-n.branch [
-      else-low-n-via-then-low-n+else-n-high w ↦
-        stopped _ _ c.len-left.ensures (field-above _ _ _ _ _ c.number-n.result c.in_ok-bytes.ensures.took c.number-n.ensures w.if-n-high.false)
-    | else-low-n-via-else-low-n w ↦
-        stopped _ _ c.len-left.ensures (field-below _ _ _ _ _ c.number-n.result c.in_ok-bytes.ensures.took c.number-n.ensures w.if-low-n.false)
+      | else-low-n-via-then-low-n+else-n-high w ↦
+          stopped _ _ c.len-left.ensures (field-above _ _ _ _ _ c.number-n.result c.in_ok-bytes.ensures.took c.number-n.ensures w.if-n-high.false)
+      | else-low-n-via-else-low-n w ↦
+          stopped _ _ c.len-left.ensures (field-below _ _ _ _ _ c.number-n.result c.in_ok-bytes.ensures.took c.number-n.ensures w.if-low-n.false)
     ]

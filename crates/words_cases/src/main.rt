@@ -41,7 +41,12 @@ fn words_of(alloc: Global, line: &str) -> Result<Vec<String>> {
 
 fn print_order(rt: &impl Print, order: &Order) -> Result<()> {
     match order {
-        Order::Run { job, vex, workers, piece } => {
+        Order::Run {
+            job,
+            vex,
+            workers,
+            piece,
+        } => {
             print_names(rt, "run", job, vex)?;
             println!(rt; " workers {workers} piece {piece}")?;
         }
@@ -58,7 +63,12 @@ fn print_order(rt: &impl Print, order: &Order) -> Result<()> {
             println!(rt; "")?;
         }
         Order::Dump { file } => println!(rt; "dump file \"{}\"", text_of(file)?)?,
-        Order::Gen { seed, seconds, workers, piece } => {
+        Order::Gen {
+            seed,
+            seconds,
+            workers,
+            piece,
+        } => {
             println!(rt; "gen seed {seed} seconds {seconds} workers {workers} piece {piece}")?;
         }
     }

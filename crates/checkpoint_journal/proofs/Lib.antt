@@ -1,3 +1,4 @@
+pub mod RowBodies
 pub mod StandLemmas
 pub mod KeepLemmas
 pub mod TextLemmas

@@ -31,14 +31,14 @@ joined : (front : List (List ℕ)) (body : List ℕ) (o : Option (List (List ℕ
 joined front body None = refl
 joined front body (Some more) = refl
 
-option_map_some : (body : List ℕ) (o : Option (List (List ℕ))) (bodies : List (List ℕ)) → option_map (λ (more : List (List ℕ)). body ∷ more) o ≡ Some bodies → (more : List (List ℕ)) × (o ≡ Some more) × (bodies ≡ body ∷ more)
+pub option_map_some : (body : List ℕ) (o : Option (List (List ℕ))) (bodies : List (List ℕ)) → option_map (λ (more : List (List ℕ)). body ∷ more) o ≡ Some bodies → (more : List (List ℕ)) × (o ≡ Some more) × (bodies ≡ body ∷ more)
 option_map_some body None bodies e = cc
 option_map_some body (Some more) bodies e = (more, refl, some_same _ _ (sym e))
   where
     some_same : (a b : List (List ℕ)) → Some a ≡ Some b → a ≡ b
     some_same a b q = cc
 
-some_lists : (a b : List (List ℕ)) → Some a ≡ Some b → a ≡ b
+pub some_lists : (a b : List (List ℕ)) → Some a ≡ Some b → a ≡ b
 some_lists a b e = cc
 
 -- a row that ends at its first gate
@@ -50,7 +50,7 @@ parts_none sizes gate rest shut = record {
   again = λ other inside same. same_option (row_of sizes other);
 }
 
-row_len-more : (size : ℕ) (sizes : List ℕ) (k : ℕ) → row_len (size ∷ sizes) (suc k) ≡ 1 + size + row_len sizes k
+pub row_len-more : (size : ℕ) (sizes : List ℕ) (k : ℕ) → row_len (size ∷ sizes) (suc k) ≡ 1 + size + row_len sizes k
 row_len-more size sizes k = sum_by-cons (λ (s : ℕ). 1 + s) size (take k sizes)
 
 -- one open gate and its body before a row

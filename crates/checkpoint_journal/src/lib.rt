@@ -12,6 +12,8 @@ mod finding;
 mod identity;
 mod journal;
 mod reader;
+#[cfg(test)]
+mod tests;
 mod writer;
 
 pub use fault::{AppendFault, Differs, OpenFault, ReadFault};

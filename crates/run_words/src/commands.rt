@@ -1,5 +1,5 @@
 //! The commands as `clap` knows them, each for the words behind its name.
-ghost use Rattle.std.specs.Prelude.{◌≡◌, IfOk, Some, map, string_bytes, true, false, codes};
+ghost use Rattle.std.specs.Prelude.{◌≡◌, IfOk, map, string_bytes, true, false};
 ghost use Rattle.clap.specs.Words.{app_of, rule_of, with_rule, is_simple_and_free};
 ghost use Rattle.run_words.specs.Options.{option_rule, needed_option, needed_word, bare_app, job_app, work_app, run_app, gen_app, dump_app, rows_in, kind_fault, Parses};
 

@@ -1,8 +1,7 @@
 //! Orders from the matches of a command.
-ghost use Rattle.std.specs.Prelude.{◌≡◌, IfOk, IfErr, IfSome, Ok, Err, option_map, map, string_bytes, codes};
+ghost use Rattle.std.specs.Prelude.{◌≡◌, IfOk, IfErr, IfSome, Ok, Err, option_map, map, string_bytes};
 ghost use Rattle.std.specs.Str.{IsUtf8};
 ghost use Rattle.clap.specs.Words.{rows_of, found_of, first_of};
-ghost use Rattle.run_words.specs.declared.order.Order.TheVariants.{Plain, Check, Status};
 ghost use Rattle.run_words.specs.Options.{job_app, run_app, gen_app, dump_app};
 ghost use Rattle.run_words.specs.Orders.{needed, workers_in, piece_in, run_of, job_names_of, dump_of, gen_of, taken_by, Gives, AreTexts};
 

@@ -1,8 +1,8 @@
 -- Baselines that rise, each read behind the one before it.
-use Rattle.std.proofs.Common.{◌≡◌, ◌≢◌, ◌≤◌, ◌<◌, ◌+◌, ◌-◌, ◌*◌, ◌^◌, ◌==◌, ℕ, Bool, true, false, List, [], ◌∷◌, ◌++◌, suc, length, get_or, subst, ap, sym, refl, ◌∙◌, arith, append_assoc, length-append, lit<, inl, inr, ⊎_elim, Some, None, Option}
+use Rattle.std.proofs.Common.{◌≡◌, ◌≢◌, ◌≤◌, ◌<◌, ◌+◌, ◌-◌, ℕ, true, false, List, [], ◌∷◌, ◌++◌, suc, length, get_or, subst, ap, sym, refl, ◌∙◌, arith, length-append, inl, inr, ⊎_elim, Some, None, Option}
 use Rattle.std.specs.Prelude.{◌⊎◌, AllPairs}
-use Rattle.std.specs.List.{flat_map, All}
-use Rattle.std.proofs.lemmas.List.{get_or_append_left, get_or_default}
+use Rattle.std.specs.List.{All}
+use Rattle.std.proofs.lemmas.List.{get_or_append_left}
 use Rattle.std.proofs.lemmas.List.Elements.{All-append, All-nil}
 use Rattle.std.proofs.lemmas.Option.{slice_get-get_or}
 use Rattle.std.proofs.lemmas.Bool.Decides.{eqb_tells, leb_tells}
@@ -11,7 +11,7 @@ use Rattle.std.proofs.Math.Seq.{get_or-append_seam}
 use Rattle.byteorder.specs.Endian.{little_bytes}
 use Rattle.corr_model.specs.Records.{IsBaseline, IsBefore, baseline_text}
 use Rattle.vis_records.specs.declared.fault.VisKind.TheVariants.{Head as OfHead}
-use Rattle.vis_records.specs.Parts.{Part, Took, chain, field, AreBytes}
+use Rattle.vis_records.specs.Parts.{field}
 use Rattle.vis_records.specs.Reading.{least_first, least_second, last_of, baseline}
 use Rattle.vis_records.proofs.PartLemmas.{took-later}
 use Rattle.vis_records.proofs.PartForms.{IsForm, IsItem, peel, field-form, All-one, All-front, All-last}

@@ -1,5 +1,5 @@
 -- Pieces of a text and numbers in them.
-use Rattle.std.proofs.Common.{◌≡◌, ◌≤◌, ◌<◌, ℕ, Bool, true, false, ◌&&◌, List, length, take, drop, ap, sym, refl, ◌∙◌, arith}
+use Rattle.std.proofs.Common.{◌≡◌, ◌≤◌, ◌<◌, ℕ, Bool, true, false, ◌&&◌, List, length, take, drop, sym, refl, arith}
 use Rattle.std.specs.Prelude.{nat_le, Result, IfErr, IsErrAnd}
 use Rattle.std.proofs.lemmas.Result.{err_from_is_err_and}
 use Rattle.std.proofs.lemmas.Bool.{le-leb}
@@ -7,7 +7,7 @@ use Rattle.std.proofs.lemmas.Bool.Decides.{nat_tests}
 use Rattle.vis_records.specs.declared.fault.VisKind.{VisKind}
 use Rattle.vis_records.specs.declared.fault.VisKind.TheVariants.{Short, Memory}
 use Rattle.vis_records.specs.declared.fault.Stop.{Stop}
-use Rattle.vis_records.specs.Parts.{Part, Took, Stops, StopsBy, chain, checked, piece, number_of, field}
+use Rattle.vis_records.specs.Parts.{Part, Took, Stops, StopsBy, piece, number_of, field}
 use Rattle.vis_records.proofs.PartLemmas.{took-later, checked-ok, checked-not, stops-never}
 
 lt-nat_le : (a b : ℕ) → b < a → nat_le a b ≡ false

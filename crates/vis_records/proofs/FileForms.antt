@@ -1,22 +1,20 @@
 -- A whole record file, as it is written.
-use Rattle.std.proofs.Common.{◌≡◌, ◌≤◌, ◌<◌, ◌+◌, ◌*◌, ◌^◌, ◌/◌, ◌%◌, ℕ, min, suc, List, [], ◌∷◌, ◌++◌, length, map, get_or, subst, ap, sym, refl, ◌∙◌, arith, append_assoc, append-nil, length-append, zero-add}
+use Rattle.std.proofs.Common.{◌≡◌, ◌≤◌, ◌<◌, ◌+◌, ◌^◌, ◌/◌, ℕ, suc, List, [], ◌∷◌, ◌++◌, length, get_or, subst, ap, sym, refl, ◌∙◌, arith, append_assoc, append-nil, length-append, zero-add}
 use Rattle.std.specs.Int.{div_ceil}
 use Rattle.std.specs.List.{flat_map, range_with_len, enumerate_from, All}
 use Rattle.std.proofs.Math.Nat.{div-le_self, mul-div_cancel_left}
-use Rattle.std.proofs.lemmas.List.{length-map}
 use Rattle.std.proofs.lemmas.List.FromFn.{length-range_with_len, get_or-range_with_len, length-enumerate_from, get_or-enumerate_from}
 use Rattle.std.proofs.lemmas.List.Elements.{All-append, All-map, All-nil}
 use Rattle.corr_model.specs.declared.cell.Cell.{Cell}
-use Rattle.corr_model.specs.declared.records.RecordAt.{RecordAt}
 use Rattle.corr_model.specs.Records.{Head, HeadScan, IsHead, IsHeadScan, IsCell, IsVis, head_text, records_text, end_text, vis_text, baseline_places, product_places, scan_places, places_of}
 use Rattle.corr_model.proofs.RecordLemmas.{places_of-scans, vis_text-parts}
 use Rattle.vis_records.specs.declared.fault.Stop.{Stop}
-use Rattle.vis_records.specs.Parts.{Part, Took, chain, in_turn, StopsBy, AreBytes}
+use Rattle.vis_records.specs.Parts.{Took, in_turn, StopsBy, AreBytes}
 use Rattle.vis_records.specs.Content.{Content, IsRecordFile}
 use Rattle.vis_records.specs.Reading.{head, record_due, end_due, record_file}
 use Rattle.vis_records.specs.Laws.{ReadsWhatIsWritten, ReadsBack, HasOneContent}
 use Rattle.vis_records.proofs.PartLemmas.{took-later, stops-first, stops-later}
-use Rattle.vis_records.proofs.PartForms.{Read, read-parts, AreBytes-behind}
+use Rattle.vis_records.proofs.PartForms.{read-parts, AreBytes-behind}
 use Rattle.vis_records.proofs.HeadForms.{took-what, took-rest, joined}
 use Rattle.vis_records.proofs.ScanForms.{HeadIs, head-is, head-reads}
 use Rattle.vis_records.proofs.RecordForms.{holding, IsPlace, Recorded, EndSaid, records-is, records-read, records_text-long, end-is, end-reads}

@@ -1,22 +1,16 @@
 -- The parts of a head, each with what it may say and how that is written.
-use Rattle.std.proofs.Common.{◌≡◌, ◌≤◌, ◌<◌, ◌+◌, ◌-◌, ◌*◌, ◌^◌, ◌%◌, ◌==◌, ℕ, Bool, true, false, suc, zero, List, [], ◌∷◌, ◌++◌, length, take, rules, get_or, subst, ap, sym, refl, ◌∙◌, arith, append_assoc, length-append, lit<, inl, inr, ⊎_elim, Some, None, Option}
-use Rattle.std.specs.Prelude.{codes, ◌⊎◌, AllPairs, slice_get}
+use Rattle.std.proofs.Common.{◌≡◌, ◌≤◌, ◌%◌, ◌==◌, ℕ, true, List, ◌++◌, length, take, rules, subst, ap, sym, refl, ◌∙◌, arith, append_assoc, lit<}
+use Rattle.std.specs.Prelude.{codes}
 use Rattle.std.specs.Str.{bytes_eq}
-use Rattle.std.specs.List.{flat_map, All}
-use Rattle.std.proofs.lemmas.List.{get_or_append_left}
-use Rattle.std.proofs.lemmas.List.Elements.{All-append, All-nil}
-use Rattle.std.proofs.lemmas.Option.{slice_get-get_or, slice_get_past}
 use Rattle.std.proofs.lemmas.Bool.Decides.{nat_tests}
 use Rattle.std.proofs.lemmas.Grind.{common_steps}
-use Rattle.std.proofs.Math.Seq.{get_or-append_seam}
 use Rattle.byteorder.specs.Endian.{little_bytes}
-use Rattle.corr_model.specs.Records.{Head, HeadScan, IsHead, IsHeadScan, IsName, IsBaseline, IsBefore, name_text, product_text, baseline_text, scan_text, head_text}
-use Rattle.corr_model.proofs.RecordLemmas.{head_text-parts}
-use Rattle.vis_records.specs.declared.fault.VisKind.TheVariants.{Head as OfHead, Magic}
-use Rattle.vis_records.specs.Parts.{Part, Took, chain, checked, piece, field, list_of, AreBytes}
-use Rattle.vis_records.specs.Reading.{magic, lags, name, product, least_first, least_second, last_of, baseline, baselines, scan, head}
+use Rattle.corr_model.specs.Records.{IsName, name_text, product_text}
+use Rattle.vis_records.specs.declared.fault.VisKind.TheVariants.{Head as OfHead}
+use Rattle.vis_records.specs.Parts.{Took, piece, field}
+use Rattle.vis_records.specs.Reading.{magic, lags, name, product}
 use Rattle.vis_records.proofs.PartLemmas.{took-later, checked-ok}
-use Rattle.vis_records.proofs.PartForms.{IsForm, IsItem, PieceIs, AreBytes-behind, read-parts, peel, checked-parts, piece-reads, piece-parts, field-form, list-form, form-item, All-one}
+use Rattle.vis_records.proofs.PartForms.{IsForm, PieceIs, read-parts, peel, checked-parts, piece-reads, piece-parts, field-form}
 
 -- lists put together from the left, and from the right
 pub assoc-2 : (a b r : List ℕ) → (a ++ b) ++ r ≡ a ++ (b ++ r)

@@ -1,5 +1,5 @@
 -- What a head in memory says, as it is read.
-use Rattle.std.proofs.Common.{◌≡◌, ℕ, ◌-◌, List, Option, length, map, ap, sym, ◌∙◌}
+use Rattle.std.proofs.Common.{◌≡◌, ◌-◌, List, Option, length, map, ap, sym, ◌∙◌}
 use Rattle.std.specs.Prelude.{slice_get, option_map}
 use Rattle.std.proofs.lemmas.List.{length-map}
 use Rattle.std.proofs.lemmas.Option.{slice_get-map}

@@ -1,13 +1,13 @@
 -- Parts of a text, each with what it may say and how that is written.
-use Rattle.std.proofs.Common.{◌≡◌, ◌≤◌, ◌<◌, ◌+◌, ◌*◌, ◌^◌, ◌/◌, ◌%◌, ℕ, Bool, true, false, ◌&&◌, zero, suc, List, [], ◌∷◌, ◌++◌, length, take, drop, get_or, subst, ap, sym, refl, ◌∙◌, arith, append_assoc, append-nil, length-append, lit<, FitsSigned, w64}
-use Rattle.std.specs.Prelude.{nat_le, slice_index, ℤ}
+use Rattle.std.proofs.Common.{◌≡◌, ◌≤◌, ◌<◌, ◌+◌, ◌*◌, ◌^◌, ℕ, Bool, true, false, ◌&&◌, zero, suc, List, [], ◌∷◌, ◌++◌, length, take, drop, subst, ap, sym, refl, ◌∙◌, arith, append_assoc, append-nil, length-append, lit<, FitsSigned, w64}
+use Rattle.std.specs.Prelude.{nat_le, ℤ}
 use Rattle.std.specs.Int.{cast_signed, cast_unsigned, bytes_low_first, byte_at}
 use Rattle.std.specs.List.{flat_map, range_with_len, All}
 use Rattle.std.proofs.lemmas.List.FromFn.{length-range_with_len}
 use Rattle.std.proofs.lemmas.List.Elements.{All-append}
 use Rattle.std.proofs.Math.Seq.{get_or-append_seam}
-use Rattle.std.proofs.lemmas.List.{take-append-drop, take_at, drop_at, get_or-append-add, get_or_append_left, get_or_past}
-use Rattle.std.proofs.lemmas.Bool.{le-leb, leb-true}
+use Rattle.std.proofs.lemmas.List.{take-append-drop, take_at, drop_at, get_or-append-add, get_or_append_left}
+use Rattle.std.proofs.lemmas.Bool.{leb-true}
 use Rattle.std.proofs.lemmas.Grind.{common_steps}
 use Rattle.std.proofs.lemmas.Int.{of_z-to_z, to_z-of_z}
 use Rattle.std.proofs.Math.Facts.{Fits-of_z, Fits-of_lt, sfits_to_z}

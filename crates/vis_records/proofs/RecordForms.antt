@@ -1,20 +1,20 @@
 -- The records and the end of a record file, as they are written.
-use Rattle.std.proofs.Common.{◌≡◌, ◌≤◌, ◌<◌, ◌+◌, ◌*◌, ◌^◌, ℕ, ℤ, suc, List, [], ◌∷◌, ◌++◌, length, take, drop, subst, ap, sym, refl, ◌∙◌, arith, append_assoc, append-nil, length-append, lit<, lit≤, FitsSigned, w64}
+use Rattle.std.proofs.Common.{◌≡◌, ◌≤◌, ◌<◌, ◌+◌, ◌*◌, ◌^◌, ℕ, suc, List, [], ◌∷◌, ◌++◌, length, take, drop, subst, ap, sym, refl, ◌∙◌, arith, append_assoc, append-nil, length-append, lit<, lit≤, w64}
 use Rattle.std.specs.Int.{cast_unsigned}
 use Rattle.std.specs.List.{flat_map, range_with_len, All}
 use Rattle.std.proofs.Math.Nat.{mul-suc}
 use Rattle.std.proofs.lemmas.List.{take-append-drop, take_at, drop_at, nil_from_length, length-drop}
 use Rattle.std.proofs.lemmas.List.FromFn.{length-range_with_len}
-use Rattle.std.proofs.lemmas.List.Elements.{All-append, All-take, All-drop, All-nil}
-use Rattle.std.proofs.lemmas.Grind.{common_steps, flat_map-append}
+use Rattle.std.proofs.lemmas.List.Elements.{All-append, All-take, All-drop}
+use Rattle.std.proofs.lemmas.Grind.{common_steps}
 use Rattle.byteorder.specs.Endian.{little_bytes}
 use Rattle.corr_model.specs.declared.cell.Cell.{Cell}
 use Rattle.corr_model.specs.declared.records.RecordAt.{RecordAt}
 use Rattle.corr_model.specs.Records.{IsCell, cell_text, record_text, records_text, end_text}
 use Rattle.corr_model.proofs.RecordLemmas.{record_front, record_text-front, records_text-none, records_text-next}
 use Rattle.vis_records.specs.declared.fault.VisKind.TheVariants.{Order}
-use Rattle.vis_records.specs.Parts.{Part, Took, chain, field, in_turn, one_more, AreBytes}
-use Rattle.vis_records.specs.Reading.{word, signed_word, cell, place, record_due, nothing, due, end_due}
+use Rattle.vis_records.specs.Parts.{Took, in_turn, one_more, AreBytes}
+use Rattle.vis_records.specs.Reading.{cell, place, record_due, nothing, due, end_due}
 use Rattle.vis_records.proofs.PartLemmas.{took-later, in_turn-none, in_turn-cons}
 use Rattle.vis_records.proofs.PartForms.{IsForm, Read, read-parts, peel, AreBytes-behind, FieldSaid, field-said, field-reads, word-form, signed_word-form, Listed, more-reads, more-is, form-item}
 use Rattle.vis_records.proofs.HeadForms.{took-what, took-rest, joined, assoc-5}

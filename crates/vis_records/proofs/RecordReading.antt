@@ -1,7 +1,7 @@
 -- The records of a head, read place by place.
-use Rattle.std.proofs.Common.{◌≡◌, ◌≤◌, ◌<◌, ◌+◌, ℕ, zero-add, List, [], ◌∷◌, length, map, get_or, subst, ap, sym, refl, ◌∙◌, arith}
+use Rattle.std.proofs.Common.{◌≡◌, ◌≤◌, ◌<◌, ℕ, zero-add, List, [], ◌∷◌, length, map, get_or, subst, ap, sym, refl, ◌∙◌, arith}
 use Rattle.std.specs.Int.{div_ceil}
-use Rattle.std.specs.List.{flat_map, range_with_len, enumerate_from, All}
+use Rattle.std.specs.List.{range_with_len, enumerate_from}
 use Rattle.std.proofs.lemmas.List.{length-map, get_or-map}
 use Rattle.std.proofs.lemmas.List.FromFn.{length-enumerate_from, get_or-enumerate_from}
 use Rattle.corr_model.specs.declared.cell.Cell.{Cell}
@@ -12,7 +12,7 @@ use Rattle.vis_records.specs.declared.head.VisScan.{VisScan}
 use Rattle.vis_records.specs.declared.fault.VisKind.TheVariants.{AfterEnd}
 use Rattle.vis_records.specs.Heads.{scan_of, baseline_of, product_of}
 use Rattle.vis_records.specs.declared.head.VisProduct.{VisProduct}
-use Rattle.vis_records.specs.Parts.{Part, Took, Stops, in_turn}
+use Rattle.vis_records.specs.Parts.{Took, Stops, in_turn}
 use Rattle.vis_records.specs.Reading.{record_due, nothing}
 use Rattle.vis_records.proofs.PartLemmas.{in_turn-map, in_turn-flat_map}
 use Rattle.vis_records.proofs.HeadPieces.{scans-short}

@@ -1,14 +1,14 @@
 -- A scan and a whole head, each with what it may say and how that is written.
-use Rattle.std.proofs.Common.{◌≡◌, ◌≤◌, ◌<◌, ◌-◌, ◌^◌, ◌%◌, ℕ, List, [], ◌∷◌, ◌++◌, length, subst, ap, sym, refl, ◌∙◌, arith, lit<}
-use Rattle.std.specs.Prelude.{codes, AllPairs}
+use Rattle.std.proofs.Common.{◌≡◌, ◌≤◌, ◌<◌, ◌-◌, ◌^◌, ◌%◌, ℕ, List, ◌++◌, length, subst, ap, sym, refl, ◌∙◌, arith, lit<}
+use Rattle.std.specs.Prelude.{codes}
 use Rattle.std.specs.List.{flat_map, All}
 use Rattle.std.proofs.lemmas.List.Elements.{All-nil}
 use Rattle.byteorder.specs.Endian.{little_bytes}
-use Rattle.corr_model.specs.Records.{Head, HeadScan, IsHead, IsHeadScan, IsName, IsBaseline, IsBefore, name_text, product_text, baseline_text, scan_text, head_text}
+use Rattle.corr_model.specs.Records.{Head, HeadScan, IsHead, IsHeadScan, IsName, name_text, product_text, baseline_text, scan_text, head_text}
 use Rattle.corr_model.proofs.RecordLemmas.{head_text-parts}
 use Rattle.vis_records.specs.declared.fault.VisKind.TheVariants.{Head as OfHead}
-use Rattle.vis_records.specs.Parts.{Part, Took, chain, field, list_of, AreBytes}
-use Rattle.vis_records.specs.Reading.{magic, lags, name, product, last_of, baseline, baselines, scan, head}
+use Rattle.vis_records.specs.Parts.{Took, field, list_of, AreBytes}
+use Rattle.vis_records.specs.Reading.{lags, name, product, last_of, baseline, baselines, scan, head}
 use Rattle.vis_records.proofs.PartLemmas.{took-later}
 use Rattle.vis_records.proofs.PartForms.{IsForm, peel, field-form, list-form, form-item}
 use Rattle.vis_records.proofs.HeadForms.{took-what, took-rest, joined, assoc-5, assoc-10, name-form, product-form, magic-form, lags-form}

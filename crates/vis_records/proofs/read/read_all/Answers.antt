@@ -1,5 +1,4 @@
-use Rattle.std.proofs.Common.{◌≡◌, ◌≢◌, ◌<◌, ◌^◌, length, rules, arith, sym, ◌∙◌}
-use Rattle.vis_records.specs.declared.fault.VisKind.TheVariants.{Memory}
+use Rattle.std.proofs.Common.{◌<◌, ◌^◌, length, rules, ◌∙◌}
 use Rattle.vis_records.proofs.FileForms.{reads_back}
 use Rattle.vis_records.proofs.read.read_all.Goals as goal
 

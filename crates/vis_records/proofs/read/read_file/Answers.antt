@@ -1,11 +1,11 @@
-use Rattle.std.proofs.Common.{◌≡◌, ◌<◌, ◌/◌, ◌%◌, ℕ, List, [], length, rules, arith, refl, ap, sym, subst, ◌∙◌}
+use Rattle.std.proofs.Common.{◌≡◌, ◌/◌, ℕ, List, [], length, rules, ap, sym, subst, ◌∙◌}
 use Rattle.corr_model.specs.declared.cell.Cell.{Cell}
 use Rattle.corr_model.specs.Records.{Head, IsVis, places_of}
-use Rattle.vis_records.specs.Content.{Content, IsRecordFile}
+use Rattle.vis_records.specs.Content.{IsRecordFile}
 use Rattle.vis_records.specs.Parts.{Took, StopsBy, in_turn, AreBytes}
 use Rattle.vis_records.specs.Reading.{head, record_due, end_due}
 use Rattle.vis_records.proofs.FieldLemmas.{passed-on}
-use Rattle.vis_records.proofs.FileForms.{FileSaid, file-is, file-took, count-is, stops-in_head, stops-in_records, stops-at_end}
+use Rattle.vis_records.proofs.FileForms.{file-is, file-took, count-is, stops-in_head, stops-in_records, stops-at_end}
 use Rattle.vis_records.proofs.read.read_file.Goals as goal
 
 -- what was read of the text itself, from no cells, and to an end of so many records

@@ -1,12 +1,6 @@
-use Rattle.std.proofs.Common.{◌≡◌, ℕ, true, false, List, [], ◌∷◌, ◌++◌, length, take, map, ◌%◌, ◌==◌, rules, refl, ap, sym, subst, ◌∙◌}
-use Rattle.std.specs.Prelude.{codes, option_map}
-use Rattle.std.specs.Str.{bytes_eq}
-use Rattle.std.proofs.lemmas.List.{map-append}
-use Rattle.vis_records.specs.declared.fault.VisKind.TheVariants.{Magic, Head}
-use Rattle.vis_records.specs.Heads.{product_of, baseline_of, scan_of, head_from}
-use Rattle.vis_records.specs.Parts.{Took, Stops, StopsBy}
-use Rattle.vis_records.specs.Reading.{baseline, last_of}
-use Rattle.vis_records.proofs.PartLemmas.{took-later, stops-first, stops-later, checked-ok, checked-not, in_turn-none, turns-next, turns-stop, turns-all, one_more-took}
+use Rattle.std.proofs.Common.{ℕ, List, ap, sym, ◌∙◌}
+use Rattle.vis_records.specs.Parts.{Took}
+use Rattle.vis_records.proofs.PartLemmas.{took-later, stops-first, stops-later}
 use Rattle.vis_records.proofs.FieldLemmas.{passed-on}
 use Rattle.vis_records.proofs.read_head.read_name.Goals as goal
 

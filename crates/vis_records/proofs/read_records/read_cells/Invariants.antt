@@ -1,5 +1,5 @@
-use Rattle.std.proofs.Common.{◌≡◌, take, length}
-use Rattle.std.specs.List.{range_with_len, enumerate_from}
+use Rattle.std.proofs.Common.{◌≡◌, take}
+use Rattle.std.specs.List.{range_with_len}
 use Rattle.vis_records.specs.Parts.{Took, in_turn, one_more}
 use Rattle.vis_records.specs.Reading.{cell}
 use Rattle.vis_records.proofs.read_records.read_cells.Given as goal

@@ -1,6 +1,6 @@
-use Rattle.std.proofs.Common.{◌≡◌, take, length}
-use Rattle.std.specs.List.{range_with_len, enumerate_from}
-use Rattle.vis_records.specs.Parts.{Took, in_turn, one_more}
+use Rattle.std.proofs.Common.{◌≡◌, take}
+use Rattle.std.specs.List.{range_with_len}
+use Rattle.vis_records.specs.Parts.{Took, in_turn}
 use Rattle.vis_records.specs.Reading.{record_due}
 use Rattle.vis_records.proofs.read_records.read_product.Given as goal
 

@@ -1,8 +1,7 @@
-use Rattle.std.proofs.Common.{◌≡◌, take, length}
-use Rattle.std.specs.List.{range_with_len, enumerate_from}
-use Rattle.vis_records.specs.Parts.{Took, in_turn, one_more}
+use Rattle.std.proofs.Common.{◌≡◌, take}
+use Rattle.std.specs.List.{enumerate_from}
+use Rattle.vis_records.specs.Parts.{Took, in_turn}
 use Rattle.corr_model.specs.Records.{scan_places}
-use Rattle.vis_records.specs.Heads.{scan_of}
 use Rattle.vis_records.specs.Reading.{record_due}
 use Rattle.vis_records.proofs.read_records.read_records.Given as goal
 

@@ -1,5 +1,5 @@
-use Rattle.std.proofs.Common.{◌≡◌, ◌<◌, ◌≤◌, ℕ, List, length, arith, rules, ap, sym, ◌∙◌}
-use Rattle.vis_records.specs.Parts.{Part, field, piece, Took, Stops, StopsBy}
+use Rattle.std.proofs.Common.{◌≡◌, ℕ, ap, sym, ◌∙◌}
+use Rattle.vis_records.specs.Parts.{Part, field, Stops, StopsBy}
 use Rattle.vis_records.specs.declared.fault.Stop.{Stop}
 use Rattle.vis_records.proofs.PartLemmas.{stops-first}
 use Rattle.vis_records.proofs.FieldLemmas.{passed-on, field-took, field-below, field-above}

@@ -1,0 +1,8 @@
+pub mod Standing
+pub mod Channels
+pub mod Spans
+pub mod Differing
+pub mod Modelled
+pub mod Limits
+pub mod Joined
+pub mod KindName

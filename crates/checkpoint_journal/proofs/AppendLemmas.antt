@@ -55,12 +55,11 @@ same_up_to_gate id sizes k u v bodies p long_v inside same =
     let first : take n (drop head v) ≡ take n (drop head u) = sym (drop-take head n v) ∙ ap (λ (j : ℕ). drop head (take j v)) head_n ∙ ap (drop head) same ∙ ap (λ (j : ℕ). drop head (take j u)) (sym head_n) ∙ drop-take head n u in
     let fits : n ≤ length (drop head v) = omega (arith, length-drop head v) in
     let walked = p.row.again (drop head v) (subst (λ j. j ≤ length (drop head v)) (sym counted) fits) (subst (λ j. take j (drop head v) ≡ take j (drop head u)) (sym counted) first) in
-    let place : drop n (drop head v) ≡ drop (gate_at head sizes k) v = drop-drop n head v ∙ ap (λ (j : ℕ). drop j v) head_n in
-    (
+    let place : drop n (drop head v) ≡ drop (gate_at head sizes k) v = drop-drop n head v ∙ ap (λ (j : ℕ). drop j v) head_n in (
       begun_of v long_v open_v,
       reading-front id sizes v long_v open_v front_v ∙ walked
-      ∙ ap (λ (j : ℕ). option_map (λ (more : List (List ℕ)). bodies ++ more) (row_of (drop j sizes) (drop (row_len sizes j) (drop head v)))) p.many
-      ∙ ap (λ (l : List ℕ). option_map (λ (more : List (List ℕ)). bodies ++ more) (row_of (drop k sizes) l)) place,
+          ∙ ap (λ (j : ℕ). option_map (λ (more : List (List ℕ)). bodies ++ more) (row_of (drop j sizes) (drop (row_len sizes j) (drop head v)))) p.many
+          ∙ ap (λ (l : List ℕ). option_map (λ (more : List (List ℕ)). bodies ++ more) (row_of (drop k sizes) l)) place,
     )
 
 -- The image that an append begins on: it keeps k bodies, and the gate of the next one, of this size, stands here.
@@ -128,8 +127,7 @@ at_gate id sizes k gate size u v due x text rest sized is =
     ∙ ap (λ (l : List ℕ). option_map (λ (more : List (List ℕ)). take size l ∷ more) (row_of (drop (k + 1) sizes) (drop size l))) body_rest
     ∙ ap (λ (l : List ℕ). option_map (λ (more : List (List ℕ)). l ∷ more) (row_of (drop (k + 1) sizes) (drop size (text ++ 0 ∷ rest)))) (take_at text (0 ∷ rest) size sized)
     ∙ ap (λ (l : List ℕ). option_map (λ (more : List (List ℕ)). text ∷ more) (row_of (drop (k + 1) sizes) l)) (drop_at text (0 ∷ rest) size sized)
-    ∙ ap (option_map (λ (more : List (List ℕ)). text ∷ more)) (row_of-closed (drop (k + 1) sizes) 0 rest (omega arith)) in
-    (
+    ∙ ap (option_map (λ (more : List (List ℕ)). text ∷ more)) (row_of-closed (drop (k + 1) sizes) 0 rest (omega arith)) in (
       read.0,
       λ one. read.1
           ∙ ap (λ (l : List ℕ). option_map (λ (more : List (List ℕ)). due.bodies ++ more) (row_of (drop k sizes) l)) (here ∙ ap (λ (g : ℕ). g ∷ ((text ++ 0 ∷ []) ++ rest)) one)

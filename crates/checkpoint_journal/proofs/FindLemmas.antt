@@ -110,6 +110,7 @@ found_other id sizes image d long is_open first difference = record {
   where
     inside : d.at < length (1 ∷ id)
     inside = omega (arith, first.some, first.within)
+
     other : d.at < length image → get_or image d.at 0 ≢ get_or (1 ∷ id) d.at 0
     other there equal =
         let at : suc (d.at - 1) ≡ d.at = omega (arith, first.some) in

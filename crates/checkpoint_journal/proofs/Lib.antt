@@ -1,4 +1,3 @@
-pub mod RowBodies
 pub mod StandLemmas
 pub mod KeepLemmas
 pub mod TextLemmas

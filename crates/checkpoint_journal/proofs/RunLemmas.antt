@@ -31,13 +31,6 @@ module _ {D : Type 0} (seen : D → Option (List ℕ)) (moment : D → ℕ) (may
 same_some : (a b : List ℕ) → Some a ≡ Some b → a ≡ b
 same_some a b e = cc
 
-nothing_told : (v : List ℕ) → None ≡ Some v → ⊥
-nothing_told v e = cc
-
-pub told_none : (told : Option (List ℕ)) → is_some told ≡ false → told ≡ None
-told_none None e = refl
-told_none (Some v) e = cc
-
 -- what is read comes from what was read, where the images do
 pub read_steps : (step : List ℕ → List ℕ → Type 0) (old new : Option (List ℕ)) → is_some new ≡ is_some old
     → ((v image : List ℕ) → old ≡ Some v → new ≡ Some image → step v image) → StepTold step old new

@@ -3,6 +3,7 @@ use Rattle.std.specs.Prelude.{option_map}
 use Rattle.std.proofs.Common.{◌≡◌, ◌∙◌, ℕ, ◌+◌, ◌*◌, ◌<◌, ◌≤◌, min, List, [], ◌∷◌, ◌++◌, length, get_or, take, drop, Option, Some, None, refl, sym, ap, subst, arith, length-append, take-append-drop, append_assoc}
 use Rattle.std.specs.List.{flat_map}
 use Rattle.std.proofs.lemmas.List.{take_at, drop_at, drop-drop, drop-take, take-take, take_all, length-take, length-drop, take_more, get_or-drop, get_or_default, flat_map_more, take-append-le}
+use Rattle.std.proofs.lemmas.List.Concat.{flat_map-append}
 use Rattle.dev_traits.specs.Images.{put_at}
 use Rattle.dev_traits.specs.Told.{WhereTold}
 use Rattle.corr_model.specs.declared.cell.Cell.{Cell}
@@ -14,10 +15,6 @@ use Rattle.checkpoint_journal.proofs.WriteLemmas.{put_at-inside}
 pub length-body_text : (cells : List Cell) → length (body_text cells) ≡ 24 * length cells
 length-body_text [] = refl
 length-body_text (c ∷ cells) = omega (arith, length-append (cell_text c) (body_text cells), length-body_text cells)
-
-pub body_text-append : (a b : List Cell) → body_text (a ++ b) ≡ body_text a ++ body_text b
-body_text-append [] b = refl
-body_text-append (c ∷ a) b = ap (λ (t : List ℕ). cell_text c ++ t) (body_text-append a b) ∙ sym (append_assoc (cell_text c) (body_text a) (body_text b))
 
 -- one cell more
 pub body_text-more : (cells : List Cell) (first k : ℕ) (cell : Cell) → first + k < length cells → ((d : Cell) → get_or cells (first + k) d ≡ cell) → body_text (take (k + 1) (drop first cells)) ≡ body_text (take k (drop first cells)) ++ cell_text cell
@@ -31,7 +28,7 @@ pub body_text-part : (cells : List Cell) (done part : ℕ) → body_text (take (
 body_text-part cells done part =
     let split : take (done + part) cells ≡ take done cells ++ take part (drop done cells) =
     sym (take-append-drop done (take (done + part) cells)) ∙ ap (λ (l : List Cell). l ++ drop done (take (done + part) cells)) (take-take done (done + part) cells (omega arith)) ∙ ap (λ (l : List Cell). take done cells ++ l) (drop-take done part cells) in
-    ap body_text split ∙ body_text-append (take done cells) (take part (drop done cells))
+    ap body_text split ∙ flat_map-append cell_text (take done cells) (take part (drop done cells))
 
 -- what is written behind what was written
 pub put_over-more : (at : ℕ) (a b v : List ℕ) → at ≤ length v → put_at (at + length a) b (put_over at a v) ≡ put_over at (a ++ b) v

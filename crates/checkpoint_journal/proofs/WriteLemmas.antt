@@ -52,8 +52,8 @@ pub front_torn : (n a e : ℕ) → n ≤ a → (v image : List ℕ) → Torn a e
 front_torn n a e below v image torn inside = (
   omega (arith, torn.no_shorter),
   same_number_lists (take n image) (take n v) (omega (arith, length-take n image, length-take n v, torn.no_shorter)) (λ i lt.
-    let in_n : i < n = omega (arith, length-take n image) in
-    get_or-take n image i 0 in_n ∙ torn.before i (omega arith) (omega arith) ∙ sym (get_or-take n v i 0 in_n)),
+      let in_n : i < n = omega (arith, length-take n image) in
+      get_or-take n image i 0 in_n ∙ torn.before i (omega arith) (omega arith) ∙ sym (get_or-take n v i 0 in_n)),
 )
 
 -- what stands in the front

@@ -104,12 +104,7 @@ fn find_begun<D: Disk>(
 }
 
 // What a file of this length is that begins with the open head gate and the identity.
-fn find_gates<D: Disk>(
-    disk: &mut D,
-    id: &[u8],
-    plan: &JobPlan,
-    len: u64,
-) -> Result<Finding, Failed>
+fn find_gates<D: Disk>(disk: &mut D, id: &[u8], plan: &JobPlan, len: u64) -> Result<Finding, Failed>
     requires short { length id.now < 2 ^ 62 }
     requires len { (1 < len) × (len < 2 ^ 63) }
     requires length { WhereTold (D.seen disk.old) (λ image. len ≡ length image) }

@@ -81,7 +81,10 @@ fn a_journal_of_another_job(rt: HostRuntime) -> Result<(), Fail> {
         kept: None,
         ours: None,
     };
-    assert_eq!(rt; opened_by(alloc, &mut disk)?, Err(OpenFault::Other(at_the_gate)));
+    assert_eq!(rt;
+        opened_by(alloc, &mut disk)?,
+        Err(OpenFault::Other(at_the_gate))
+    );
     let mut disk = disk_of(alloc, &NEW[..17], None)?;
     let cut = Differs {
         at: 17,

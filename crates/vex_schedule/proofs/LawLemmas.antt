@@ -1,14 +1,12 @@
 -- The steps of a schedule and the relation between a file and its scans.
 use Rattle.std.proofs.Common.{◌≡◌, ◌≢◌, ◌↔◌, ℕ, ℤ, ◌<◌, Bool, true, false, cond, not, List, [], ◌∷◌, ◌++◌, length, map, take, filter, get_or, Some, None, Ok, Err, Result, AllPairs, bytes_eq, arith, refl, sym, ap, ◌∙◌, append_assoc, length-append, subst}
-use Rattle.std.specs.Prelude.{Option, codes, IsTrue}
+use Rattle.std.specs.Prelude.{Option, codes}
 use Rattle.std.specs.List.{AllZip, list_any}
 use Rattle.std.proofs.lemmas.List.{append-nil, get_or-map, get_or_append_left, length-map}
 use Rattle.std.proofs.Math.Seq.{get_or-append_seam}
 use Rattle.std.proofs.lemmas.List.Folds.{Any-from_list_any}
 use Rattle.std.proofs.lemmas.Slice.Eq.{bytes_eq-Decides}
-use Rattle.std.proofs.lemmas.Bool.{false≢true}
 use Rattle.vex_reader.specs.declared.file.Item.{Item}
-use Rattle.vex_reader.specs.declared.file.Block.{Block}
 use Rattle.vex_reader.specs.declared.file.Statement.{Statement}
 use Rattle.vex_reader.specs.declared.file.VexFile.{VexFile}
 use Rattle.vex_reader.specs.File.{named}
@@ -23,7 +21,7 @@ use Rattle.vex_schedule.specs.Answers.{◌>>=◌, fault, given, in_turn}
 use Rattle.vex_schedule.specs.Statements.{has_key, only, is_setup}
 use Rattle.vex_schedule.specs.Values.{is_name, word_at, only_word, offset_at, start_in, rate_in, stay_in, chan_in}
 use Rattle.vex_schedule.specs.Schedule.{is_in_order, def_of, start_of, mode_of, stay_of, stays_of, setup_rate, chan_of, chans_of, Part, setup_in, setup_at, setup_of, pass_of, passes_of, scan_of, scans_of, schedule_of}
-use Rattle.vex_schedule.specs.Laws.{IsTheOne, IsStart, IsMode, IsStayOf, IsSetupOf, IsPassOf, IsScanOf, AreScansOf, LaterValuesDoNotCount}
+use Rattle.vex_schedule.specs.Laws.{IsStart, IsMode, IsStayOf, IsSetupOf, IsPassOf, IsScanOf, AreScansOf, LaterValuesDoNotCount}
 use Rattle.vex_schedule.proofs.Names.{names-push}
 use Rattle.vex_schedule.proofs.Reading.{stay_of-new, chan_of-new}
 

@@ -3,8 +3,9 @@
 //! file, `num_time` for numbers, times and names, and `item_list` for lists.
 //!
 //! `specs/Schedule.antt` says which scans a file has, or which fault is the first, a definition for
-//! each step. `schedule` answers that, or want of memory; statements that no step names are not read. A def of `$FREQ` is read
-//! once, however many stations it sets up, and these share its channels.
+//! each step, and `laws` which scans these are with no order of reading. `schedule` answers that, or want of memory;
+//! statements that no step names are not read. A def of `$FREQ` is read once, however many stations it sets up, and
+//! these share its channels; so are the refs of a mode, and a station's is found by its key.
 #![tactic(auto)]
 
 mod chans;

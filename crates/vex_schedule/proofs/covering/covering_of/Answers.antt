@@ -1,4 +1,4 @@
-use Rattle.std.proofs.Common.{◌≡◌, ◌<◌, List, Some, length, slice_get, arith, refl, rules}
+use Rattle.std.proofs.Common.{◌≡◌, ◌<◌, List, Some, length, slice_get, refl, rules}
 use Rattle.std.proofs.lemmas.Option.{slice_get_read}
 use Rattle.vex_reader.specs.declared.file.Statement.{Statement}
 use Rattle.vex_schedule.specs.Covering.{covers_each, covers_by, found_in}

@@ -1,5 +1,5 @@
-use Rattle.std.proofs.Common.{rules, ◌≡◌, Some, bytes_eq, ap, ◌∙◌, sym}
-use Rattle.vex_schedule.specs.Statements.{is_just, is_some_text}
+use Rattle.std.proofs.Common.{rules, ◌≡◌, Some, ap, ◌∙◌, sym}
+use Rattle.vex_schedule.specs.Statements.{is_some_text}
 use Rattle.vex_schedule.specs.Values.{sole}
 use Rattle.vex_schedule.specs.Covering.{noted_if, found_in}
 use Rattle.vex_schedule.proofs.Coverings.{found_in-noted}

@@ -1,4 +1,4 @@
-use Rattle.std.proofs.Common.{◌≡◌, length, subst, sym, ◌∙◌}
+use Rattle.std.proofs.Common.{length, subst, sym, ◌∙◌}
 use Rattle.vex_schedule.specs.declared.covering.Found.{Found}
 use Rattle.vex_schedule.specs.Covering.{covers_each, covers_by, IsFound}
 use Rattle.vex_schedule.proofs.Coverings.{setup-each, setup-by_key}

@@ -5,5 +5,8 @@
 #![tactic(auto)]
 
 mod fault;
+mod names;
+mod parts;
+mod takes;
 
 pub use fault::{JoinFault, Quantity};

@@ -1,0 +1,3 @@
+pub mod Firsts
+pub mod Sets
+pub mod TakesLemmas

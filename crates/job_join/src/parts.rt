@@ -1,0 +1,65 @@
+//! The parts of a job.
+ghost use Rattle.std.specs.Prelude.{◌≡◌};
+ghost use Rattle.vex_reader.specs.File.{names};
+ghost use Rattle.job_text.specs.Ranges.{IsJob};
+
+use job_text::{Job, Station};
+use num_time::Name;
+use vex_reader::Named;
+
+/// The stations, in the order of their lines.
+pub(crate) fn stations(job: &Job) -> &[Station]
+    ensures { result.now ≡ job.now.stations }
+{
+    &job.stations
+}
+
+/// The names that the job takes.
+pub(crate) fn takes(job: &Job) -> &Named<()>
+    ensures { names result.now ≡ job.now.takes }
+{
+    &job.takes
+}
+
+/// The products, each by its two channels.
+pub(crate) fn products(job: &Job) -> &[(Name, Name)]
+    ensures { result.now ≡ job.now.products }
+{
+    &job.products
+}
+
+/// The numbers of a job are in their ranges.
+pub(crate) fn knot(job: &Job) -> u32
+    ensures value { result ≡ job.now.knot }
+    ensures ranges { IsJob job.now }
+{
+    job.knot
+}
+
+/// The samples in an epoch.
+pub(crate) fn epoch(job: &Job) -> u64
+    ensures { result ≡ job.now.epoch }
+{
+    job.epoch
+}
+
+/// The samples in an integration.
+pub(crate) fn integration(job: &Job) -> u64
+    ensures { result ≡ job.now.integration }
+{
+    job.integration
+}
+
+/// The number of lags.
+pub(crate) fn lags(job: &Job) -> u32
+    ensures { result ≡ job.now.lags }
+{
+    job.lags
+}
+
+/// Whether a station stands with itself.
+pub(crate) fn auto(job: &Job) -> bool
+    ensures { result ≡ job.now.auto }
+{
+    job.auto
+}

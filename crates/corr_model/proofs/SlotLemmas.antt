@@ -1,14 +1,15 @@
 -- The slots of a file one by one, and a search through them in their order.
-use Rattle.std.specs.Prelude.{if◌then◌else◌}
+use Rattle.std.specs.Prelude.{if◌then◌else◌, map}
 use Rattle.std.proofs.Common.{◌≡◌, ℕ, ◌+◌, ◌*◌, ◌/◌, ◌<◌, ◌≤◌, Bool, List, [], ◌∷◌, Some, None, length, get_or, drop, ap, ◌∙◌, arith, add-one, zero-add}
-use Rattle.std.specs.List.{slice_get, find}
+use Rattle.std.specs.List.{slice_get, find, range_with_len}
 use Rattle.std.proofs.Math.ListN.{drop_of_length-le}
 use Rattle.std.proofs.Math.Seq.{drop-cons}
 use Rattle.std.proofs.lemmas.List.{append-nil, length-take-le, length-drop}
 use Rattle.std.proofs.lemmas.List.FromFn.{length-map-range_with_len, get_or-map-range_with_len}
 use Rattle.std.proofs.lemmas.Nat.{div-add-mod', mul-le}
 use Rattle.std.proofs.lemmas.Option.{slice_get-get_or}
-use Rattle.corr_model.specs.Slots.{slot_at, slots_in, slots_of}
+use Rattle.std.proofs.lemmas.Simd.{map-map}
+use Rattle.corr_model.specs.Slots.{Slot, slot_at, slots_in, placed_slot, placed_in, slots_of}
 
 pub length-slots_in : (size : ℕ) (bytes : List ℕ) → length (slots_in size bytes) ≡ length bytes / size
 length-slots_in size bytes = length-map-range_with_len (slot_at size bytes) 0 (length bytes / size)
@@ -38,7 +39,9 @@ length-slot_at size bytes k _ h =
     (omega (arith, slot_within size bytes k h, length-drop (k * size) bytes))
 
 pub slots_of-one : (size : ℕ) (bytes : List ℕ) → slots_of size (bytes ∷ []) ≡ slots_in size bytes
-slots_of-one size bytes = append-nil (slots_in size bytes)
+slots_of-one size bytes =
+    ap (map (λ (slot : Slot). slot.bytes)) (append-nil (placed_in size 0 bytes))
+    ∙ map-map (λ (slot : Slot). slot.bytes) (placed_slot size 0 bytes) (range_with_len 0 (length bytes / size))
 
 -- a search from slot k on looks at slot k first
 pub find-step : (p : List ℕ → Bool) (size : ℕ) (bytes : List ℕ) (k : ℕ) → k < length bytes / size

@@ -1,5 +1,6 @@
 pub mod Slots
 pub mod Sample
+pub mod Frames
 pub mod Delay
 pub mod Cell
 pub mod Plan

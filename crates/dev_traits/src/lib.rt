@@ -12,10 +12,12 @@
 #![tactic(auto)]
 
 mod disk;
+mod gate;
 mod shelf;
 mod sink;
 
 pub use disk::Disk;
+pub use gate::Gate;
 pub use shelf::Shelf;
 pub use sink::{Sink, write_all};
 

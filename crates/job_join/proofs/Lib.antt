@@ -1,3 +1,10 @@
 pub mod Firsts
 pub mod Sets
 pub mod TakesLemmas
+pub mod RangesLists
+pub mod RangesBaselines
+pub mod RangesStands
+pub mod RangesAccepted
+pub mod RangesRates
+pub mod RangesStations
+pub mod RangesChannels

@@ -5,3 +5,4 @@ pub mod Differing
 pub mod Modelled
 pub mod Limits
 pub mod Joined
+pub mod Places

@@ -7,6 +7,7 @@
 mod fault;
 mod names;
 mod parts;
+mod stands;
 mod takes;
 
 pub use fault::{JoinFault, Quantity};

@@ -9,7 +9,8 @@ use vex_reader::Named;
 
 /// The stations, in the order of their lines.
 pub(crate) fn stations(job: &Job) -> &[Station]
-    ensures { result.now ≡ job.now.stations }
+    ensures value { result.now ≡ job.now.stations }
+    ensures ranges { IsJob job.now }
 {
     &job.stations
 }
@@ -28,10 +29,9 @@ pub(crate) fn products(job: &Job) -> &[(Name, Name)]
     &job.products
 }
 
-/// The numbers of a job are in their ranges.
+/// The samples from one knot of a delay to the next.
 pub(crate) fn knot(job: &Job) -> u32
-    ensures value { result ≡ job.now.knot }
-    ensures ranges { IsJob job.now }
+    ensures { result ≡ job.now.knot }
 {
     job.knot
 }

@@ -1,2 +1,3 @@
+mod gates;
 mod shelf;
 mod sink;

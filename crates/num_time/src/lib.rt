@@ -1,8 +1,8 @@
 //! Numbers, times and names: decimal numbers and VEX times in text, seconds of the calendar, whole
 //! quotients, and the names that schedules and jobs give. It stands on `jiff_core` for calendar days.
 //! Each reader gives what the definitions of `specs/` say or the first fault that applies, for every
-//! text; a second is counted from 1970-01-01 00:00 with days of 86,400. No call but `Name::new` takes
-//! memory.
+//! text; a second is counted from 1970-01-01 00:00 with days of 86,400. No call but `Name::new` and
+//! `Name::copy` takes memory.
 #![tactic(auto)]
 
 mod digits;

@@ -1,5 +1,5 @@
 -- Where a frame's header differs from its station's shape.
-use Rattle.std.specs.Prelude.{◌*◌, Bool, true, false, not, ◌==◌, nat_lt, if◌then◌else◌, Option, Some, None}
+use Rattle.std.specs.Prelude.{ℕ, ◌*◌, List, codes, Bool, true, false, not, ◌==◌, nat_lt, if◌then◌else◌, Option, Some, None}
 use Rattle.vdif_frame.specs.Header.{HeaderFields}
 use Rattle.vdif_frame.specs.Shape.{ShapeFields}
 use Rattle.vdif_frame.specs.declared.shape.Field.{Field}
@@ -20,3 +20,13 @@ first_field h s =
     else if not (h.station == s.station) then Some Station
     else if not (nat_lt h.frame s.frames) then Some FrameNumber
     else None
+
+-- a field's name
+abbrev pub field_name : Field → List ℕ
+field_name Legacy = codes "Legacy"
+field_name Length = codes "Length"
+field_name Channels = codes "Channels"
+field_name Complex = codes "Complex"
+field_name Bits = codes "Bits"
+field_name Station = codes "Station"
+field_name FrameNumber = codes "FrameNumber"

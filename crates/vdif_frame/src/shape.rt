@@ -1,7 +1,7 @@
 //! The shape of frames, and agreement with it.
 ghost use Rattle.std.specs.Prelude.{◌≡◌, ◌≤◌, ◌<◌, ◌-◌, ◌*◌, ℕ, IfErr, OnOk, Some, None};
 ghost use Rattle.vdif_frame.specs.Shape.{ShapeFields, IsShape, samples_per_frame, head_bytes, chans_of};
-ghost use Rattle.vdif_frame.specs.Agreement.{first_field};
+ghost use Rattle.vdif_frame.specs.Agreement.{first_field, field_name};
 
 use crate::Header;
 use std::marker::Model;
@@ -60,6 +60,23 @@ pub enum Field {
     Bits,
     Station,
     FrameNumber,
+}
+
+impl Field {
+    /// The field's name, as it is written above.
+    pub fn name(self) -> &'static str
+        ensures { result.now ≡ field_name self }
+    {
+        match self {
+            Field::Legacy => "Legacy",
+            Field::Length => "Length",
+            Field::Channels => "Channels",
+            Field::Complex => "Complex",
+            Field::Bits => "Bits",
+            Field::Station => "Station",
+            Field::FrameNumber => "FrameNumber",
+        }
+    }
 }
 
 /// Whether a header is that of a frame of this shape; else the first field that differs, in the order

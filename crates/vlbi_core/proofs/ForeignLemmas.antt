@@ -1,15 +1,18 @@
 -- A walk over the slots of a recording that looks for one that agrees.
-use Rattle.std.specs.Prelude.{is_none, is_some, not, ◌||◌}
+use Rattle.std.specs.Prelude.{is_none, is_some, not, ◌||◌, option_map}
 use Rattle.std.proofs.Common.{◌≡◌, ℕ, zero, suc, ◌+◌, ◌-◌, ◌*◌, ◌/◌, ◌<◌, ◌≤◌, Bool, true, false, List, [], ◌∷◌, Option, Some, None, length, take, drop, get_or, map, refl, sym, ap, ◌∙◌, arith, add-one}
 use Rattle.std.specs.List.{list_any, range_with_len}
 use Rattle.std.proofs.Math.ListN.{drop_of_length-le}
 use Rattle.std.proofs.Math.Seq.{drop-cons}
 use Rattle.vdif_frame.specs.declared.shape.Field.{Field}
 use Rattle.vdif_frame.specs.Shape.{ShapeFields, IsShape}
-use Rattle.corr_model.specs.Slots.{slot_at, slots_in}
+use Rattle.corr_model.specs.Slots.{slot_at, slots_in, slots_of}
+use Rattle.corr_model.specs.Plan.{Files, StationPlan, bytes_under}
 use Rattle.corr_model.specs.Sample.{agrees_with}
-use Rattle.corr_model.proofs.SlotLemmas.{length-slots_in, get_or-slots_in}
+use Rattle.corr_model.proofs.SlotLemmas.{length-slots_in, get_or-slots_in, slots_of-one}
 use Rattle.vlbi_core.specs.Foreign.{slot_field, foreign_field}
+use Rattle.vlbi_core.specs.Refusal.{recording_answer}
+use Rattle.vlbi_core.specs.Verdict.{foreign}
 use Rattle.vlbi_core.proofs.WalkLemmas.{slot_at-cut, inside}
 
 -- whether a slot from slot k on agrees
@@ -100,6 +103,17 @@ pub foreign_field-first : (shape : ShapeFields) (bytes : List ℕ) → 0 < shape
 foreign_field-first shape bytes size long h =
     let some : 0 < length bytes / shape.frame_bytes = grind arith in
     foreign_field-counted shape bytes (length bytes / shape.frame_bytes) some h
+
+-- what the definition says of a station of one file
+pub foreign-one : (files : Files) (s : StationPlan) (name bytes : List ℕ) (field : Option Field) → s.files ≡ name ∷ [] → files name ≡ Some bytes
+    → field ≡ foreign_field s.shape (slots_in s.shape.frame_bytes bytes)
+    → foreign files s ≡ option_map (recording_answer s.key) field
+foreign-one files s name bytes field one there is =
+    let held : bytes_under files name ≡ bytes = rw there refl in
+    ap (λ (names : List (List ℕ)). option_map (recording_answer s.key) (foreign_field s.shape (slots_of s.shape.frame_bytes (map (bytes_under files) names)))) one
+    ∙ ap (λ (b : List ℕ). option_map (recording_answer s.key) (foreign_field s.shape (slots_of s.shape.frame_bytes (b ∷ [])))) held
+    ∙ ap (λ (slots : List (List ℕ)). option_map (recording_answer s.key) (foreign_field s.shape slots)) (slots_of-one s.shape.frame_bytes bytes)
+    ∙ ap (option_map (recording_answer s.key)) (sym is)
 
 -- a frame has bytes
 pub shape_size : (s : ShapeFields) → IsShape s → 0 < s.frame_bytes

@@ -2,7 +2,7 @@
 use Rattle.std.specs.Prelude.{◌≡◌, ◌⊎◌, ◌==◌, if◌then◌else◌, ℕ, List, [], ◌∷◌, ◌++◌, Option, Some, None, codes, string_bytes, Result, MatchResult, ⊤}
 use Rattle.dev_traits.specs.Fault.{HasRisen}
 use Rattle.vdif_frame.specs.declared.shape.Field.{Field}
-use Rattle.vdif_frame.specs.declared.shape.Field.TheVariants.{Legacy, Length, Channels, Complex, Bits, Station, FrameNumber}
+use Rattle.vdif_frame.specs.Agreement.{field_name}
 use Rattle.job_reader.specs.declared.fault.JobFault.{JobFault}
 use Rattle.job_reader.specs.declared.fault.JobFault.TheVariants.{Form, Memory as MemoryFault}
 use Rattle.vlbi_core.specs.declared.words.WordsFault.{WordsFault}
@@ -35,15 +35,6 @@ no_model_answer key = record { status = 4; note = note_line (codes "job: NoModel
 
 abbrev pub no_clock_answer : List ℕ → Answer
 no_clock_answer key = record { status = 4; note = note_line (codes "job: NoClock for " ++ key) }
-
-abbrev pub field_name : Field → List ℕ
-field_name Legacy = codes "Legacy"
-field_name Length = codes "Length"
-field_name Channels = codes "Channels"
-field_name Complex = codes "Complex"
-field_name Bits = codes "Bits"
-field_name Station = codes "Station"
-field_name FrameNumber = codes "FrameNumber"
 
 -- the station's key, and the field in which its first slot differs
 abbrev pub recording_answer : List ℕ → Field → Answer

@@ -1,7 +1,7 @@
 //! Statuses and notes.
 ghost use Rattle.std.specs.Prelude.{◌≡◌, ◌++◌, List, ℕ, codes};
 ghost use Rattle.sink_text.specs.Appends.{Appends};
-ghost use Rattle.vlbi_core.specs.Refusal.{answer_of, words_fault_name, field_name, recording_answer, note_line};
+ghost use Rattle.vlbi_core.specs.Refusal.{answer_of, words_fault_name, recording_answer, note_line};
 
 use crate::refusal::Refusal;
 use crate::words::WordsFault;
@@ -50,27 +50,13 @@ fn fault_name(fault: WordsFault) -> &'static str
     }
 }
 
-fn field_name(field: Field) -> &'static str
-    ensures { result.now ≡ field_name field }
-{
-    match field {
-        Field::Legacy => "Legacy",
-        Field::Length => "Length",
-        Field::Channels => "Channels",
-        Field::Complex => "Complex",
-        Field::Bits => "Bits",
-        Field::Station => "Station",
-        Field::FrameNumber => "FrameNumber",
-    }
-}
-
 fn write_recording<N: Sink>(notes: &mut N, key: &str, field: Field) -> Result<(), Failed>
     ensures { Appends (N.told notes.old) (N.told notes.new) (recording_answer key.now field).note (N.faults notes.old) (N.faults notes.new) result }
 {
     put(notes, "vlbi: recording: ")?;
     put(notes, key)?;
     put(notes, " ")?;
-    put(notes, field_name(field))?;
+    put(notes, field.name())?;
     put(notes, "\n")
 }
 

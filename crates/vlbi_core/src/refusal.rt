@@ -4,35 +4,29 @@ ghost use Rattle.std.specs.Prelude.{◌≡◌};
 use crate::words::WordsFault;
 use job_reader::JobFault;
 use std::alloc::AllocError;
-use thiserror::Error;
 use vdif_frame::Field;
 
 /// Why a call did not do what it was asked for.
-#[derive(Debug, Drop, Error)]
+#[derive(Debug, Drop)]
 pub enum Refusal {
-    #[error("out of memory")]
+    /// Out of memory.
     Memory,
-    #[error("words: {0}")]
+    /// The words are not a command's.
     Words(WordsFault),
     /// The job's text states no job.
-    #[error("job: Unknown in line 0")]
     JobForm,
     /// A station has no delay model at some sample of the scan: its key.
-    #[error("job: NoModel for {0}")]
     NoModel(String),
     /// A station has no clock at some sample of the scan: its key.
-    #[error("job: NoClock for {0}")]
     NoClock(String),
     /// A station's recording has slots, and none of them agrees with its shape: the station's key, and
     /// the field in which the first one differs.
-    #[error("recording: {0} {1:?}")]
     Recording(String, Field),
     /// A named file is not on the shelf.
-    #[error("no file {0}")]
     NoFile(String),
-    #[error("read fault")]
+    /// A read failed.
     Read,
-    #[error("write fault")]
+    /// A write to the output failed.
     Write,
 }
 

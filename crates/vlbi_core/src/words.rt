@@ -2,19 +2,14 @@
 ghost use Rattle.std.specs.Prelude.{◌≡◌, IfOk, IfErr, Some, None, OnOk};
 ghost use Rattle.vlbi_core.specs.Words.{texts_of, words_fault, job_name};
 
-use thiserror::Error;
-
 /// What is wrong with the words of a call.
-#[derive(Clone, Copy, Debug, PartialEq, Eq, Error)]
+#[derive(Clone, Copy, Debug, PartialEq, Eq)]
 pub enum WordsFault {
     /// There is no word.
-    #[error("NoCommand")]
     NoCommand,
     /// The first word is no command.
-    #[error("UnknownCommand")]
     UnknownCommand,
     /// The words after the command are not its options.
-    #[error("Option")]
     Option,
 }
 

@@ -1,6 +1,6 @@
 use Rattle.std.specs.Prelude.{codes}
 use Rattle.std.proofs.Common.{◌++◌, List, ℕ, [], ◌∷◌, refl, ap, sym}
-use Rattle.vlbi_core.specs.Refusal.{field_name}
+use Rattle.vdif_frame.specs.Agreement.{field_name}
 use Rattle.sink_text.proofs.AppendedText.{Appends-then, Appends-exit, Appends-longer}
 use Rattle.vlbi_core.proofs.notes.write_recording.Goals as goal
 
@@ -24,12 +24,12 @@ pub returns-in_err-put-4 : goal.returns-in_err-put-4
 returns-in_err-put-4 g c =
     let front = Appends-then refl (Appends-then refl c.in_ok-put.ensures c.in_ok-put-2.ensures) c.in_ok-put-3.ensures in
     let four = Appends-then refl front c.in_err-put-4.ensures in
-    Appends-exit (10 ∷ []) (ap (λ (name : List ℕ). (((codes "vlbi: recording: " ++ c.args.key.now) ++ codes " ") ++ name) ++ 10 ∷ []) (sym c.field_name.ensures))
+    Appends-exit (10 ∷ []) (ap (λ (name : List ℕ). (((codes "vlbi: recording: " ++ c.args.key.now) ++ codes " ") ++ name) ++ 10 ∷ []) (sym c.name.ensures))
     c.from_residual-in_err-put-4.ensures.0 four
 
 pub returns : goal.returns
 returns g c =
     let front = Appends-then refl (Appends-then refl c.in_ok-put.ensures c.in_ok-put-2.ensures) c.in_ok-put-3.ensures in
     let four = Appends-then refl front c.in_ok-put-4.ensures in
-    Appends-then (ap (λ (name : List ℕ). (((codes "vlbi: recording: " ++ c.args.key.now) ++ codes " ") ++ name) ++ 10 ∷ []) (sym c.field_name.ensures))
+    Appends-then (ap (λ (name : List ℕ). (((codes "vlbi: recording: " ++ c.args.key.now) ++ codes " ") ++ name) ++ 10 ∷ []) (sym c.name.ensures))
     four c.put-5.ensures

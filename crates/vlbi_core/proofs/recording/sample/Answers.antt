@@ -1,9 +1,16 @@
-use Rattle.std.proofs.Common.{◌≡◌, ◌∙◌, ℤ, to_z, of_z, FitsSigned, w64, sym, ap}
+use Rattle.std.proofs.Common.{◌≡◌, ◌∙◌, List, ℕ, ℤ, to_z, of_z, FitsSigned, w64, sym, ap}
 use Rattle.std.proofs.lemmas.Int.{to_z-of_z}
+use Rattle.corr_model.specs.Sample.{sample_in}
+use Rattle.corr_model.proofs.SlotLemmas.{slots_of-one}
 use Rattle.job_reader.specs.declared.job.Station.{Station}
 use Rattle.vlbi_core.specs.Scan.{recorded_sample}
 use Rattle.vlbi_core.proofs.WalkLemmas.{timing_in, recorded_in, walk_from-found, walk_from-next, walk_from-end}
 use Rattle.vlbi_core.proofs.recording.sample.Goals as goal
+
+pub loop-k-init : goal.loop-k-init
+loop-k-init c =
+    let t = timing_in c.args.job.now c.args.station.now in
+    ap (λ (slots : List (List ℕ)). sample_in t (recorded_in c.args.station.now) slots (to_z w64 (of_z w64 c.args.n))) (slots_of-one t.shape.frame_bytes c.args.bytes.now)
 
 pub returns-then-is_some-clause-value : goal.returns-then-is_some-clause-value
 returns-then-is_some-clause-value c =

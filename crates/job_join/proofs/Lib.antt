@@ -1,6 +1,7 @@
 pub mod Firsts
 pub mod Sets
 pub mod TakesLemmas
+pub mod StandsLemmas
 pub mod RangesLists
 pub mod RangesBaselines
 pub mod RangesStands

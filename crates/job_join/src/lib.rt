@@ -4,9 +4,12 @@
 //! `$FREQ`.)
 #![tactic(auto)]
 
+mod channels;
 mod fault;
 mod names;
 mod parts;
+mod places;
+mod rates;
 mod stands;
 mod takes;
 

@@ -1,5 +1,5 @@
 //! The stations of a job in the scans of a schedule.
-ghost use Rattle.std.specs.Prelude.{◌≡◌, ℕ, List, None, Some, Option, bytes_eq, option_map, filter_map, if◌then◌else◌, IfOk, OnOk};
+ghost use Rattle.std.specs.Prelude.{◌≡◌, ◌++◌, ℕ, List, None, Some, Option, option_to_list, bytes_eq, option_map, filter_map, if◌then◌else◌, IfOk, OnOk};
 ghost use Rattle.std.specs.List.{position};
 ghost use Rattle.std.specs.Option.{option_or};
 ghost use Rattle.vex_reader.specs.File.{named};
@@ -27,9 +27,10 @@ pub(crate) struct Here<'a> {
 fn number(alloc: Global, numbers: &mut Named<usize>, key: &[u8], i: usize) -> Result<(), AllocError>
     ensures { OnOk result ((q : List ℕ) → named numbers.new q ≡ option_or (named numbers.old q) (if bytes_eq key.now q then Some i else None)) }
 {
-    if !numbers.has(key) {
-        numbers.put(alloc, key, i)?;
+    if numbers.has(key) {
+        return Ok(());
     }
+    numbers.put(alloc, key, i)?;
     Ok(())
 }
 
@@ -57,6 +58,16 @@ fn here_of<'a>(numbers: &Named<usize>, stations: &'a [Station], pass: &'a Pass) 
     })
 }
 
+// Adds a station, if there is one.
+fn add<'a>(found: &mut Vec<Here<'a>>, here: Option<Here<'a>>) -> Result<(), AllocError>
+    ensures { OnOk result (stands_of found.new.items ≡ stands_of found.old.items ++ option_to_list (option_map stand_of here.entry)) }
+{
+    if let Some(here) = here {
+        found.push(here)?;
+    }
+    Ok(())
+}
+
 // The stations that have the parts of a scan, in the order of the parts.
 fn found_in<'a>(
     alloc: Global,
@@ -69,9 +80,7 @@ fn found_in<'a>(
 {
     let mut found = Vec::new(alloc);
     for pass in passes {
-        if let Some(here) = here_of(numbers, stations, pass) {
-            found.push(here)?;
-        }
+        add(&mut found, here_of(numbers, stations, pass))?;
     }
     Ok(found)
 }

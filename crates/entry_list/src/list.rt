@@ -93,6 +93,17 @@ impl<E: HasSecond> EntryList<E> {
         Ok(true)
     }
 
+    /// The same entries in a list of their own.
+    pub fn copy(&self, alloc: Global) -> Result<Self, AllocError>
+        ensures { IfOk result (λ list. list ≡ self.now) }
+    {
+        let mut list = EntryList::new(alloc);
+        for e in &self.entries {
+            list.add(*e)?;
+        }
+        Ok(list)
+    }
+
     /// Whether the list has no entries.
     pub fn is_empty(&self) -> bool
         ensures { IsTrue result ↔ (self.now ≡ []) }

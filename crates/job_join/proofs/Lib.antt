@@ -9,3 +9,7 @@ pub mod RangesAccepted
 pub mod RangesRates
 pub mod RangesStations
 pub mod RangesChannels
+pub mod RangesParts
+pub mod RangesModelled
+pub mod RangesScans
+pub mod Ranges

@@ -1,7 +1,7 @@
 -- What holds of a job and a schedule that are not refused.
 use Rattle.std.specs.Int.{div_ceil}
-use Rattle.std.specs.Prelude.{find, filter_map}
-use Rattle.std.proofs.Common.{◌≡◌, ℕ, ◌*◌, ◌^◌, ◌≤◌, false, nat_lt, List, [], ◌∷◌, length, map, slice_get, All, Option, None, Some, refl, arith}
+use Rattle.std.specs.Prelude.{filter_map}
+use Rattle.std.proofs.Common.{◌≡◌, ℕ, ◌*◌, ◌^◌, ◌≤◌, false, nat_lt, List, [], ◌∷◌, length, slice_get, All, Option, None, Some, refl, arith}
 use Rattle.std.proofs.lemmas.Bool.{ltb-false}
 use Rattle.std.proofs.lemmas.List.Elements.{All-nil, All-cons, All-weaker}
 use Rattle.vex_schedule.specs.declared.scan.Scan.{Scan}
@@ -64,7 +64,7 @@ IsHeld m = All (λ value. value ≤ m.most) m.values
 not_past : (m : Measure) → past m ≡ None → IsHeld m
 not_past m none =
     All-weaker (λ value. nat_lt m.most value ≡ false) (λ value. value ≤ m.most) (λ value less. ltb-false m.most value less) m.values
-        (find-None (λ value. nat_lt m.most value) m.values (option_map-none _ _ none))
+    (find-None (λ value. nat_lt m.most value) m.values (option_map-none _ _ none))
 
 held : (ms : List Measure) → slice_get (filter_map past ms) 0 ≡ None → All IsHeld ms
 held ms none =

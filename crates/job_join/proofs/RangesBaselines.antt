@@ -1,6 +1,6 @@
 -- The baselines of stations that stand in rising order.
 use Rattle.std.specs.Prelude.{flat_map}
-use Rattle.std.proofs.Common.{◌≡◌, ◌∙◌, sym, ap, ap₂, ℕ, ◌+◌, ◌*◌, ◌<◌, ◌≤◌, ◌⊎◌, Bool, true, false, cond, not, ◌&&◌, ◌||◌, ◌==◌, nat_lt, List, [], ◌∷◌, ◌++◌, length, get_or, map, filter, All, AllPairs, arith, refl, inl, inr}
+use Rattle.std.proofs.Common.{◌≡◌, ◌∙◌, ap, ℕ, ◌+◌, ◌*◌, ◌<◌, ◌≤◌, ◌⊎◌, Bool, true, false, cond, not, ◌&&◌, ◌||◌, ◌==◌, nat_lt, List, [], ◌∷◌, ◌++◌, length, get_or, map, filter, All, AllPairs, arith, refl, inl, inr}
 use Rattle.std.proofs.lemmas.Bool.{le-ltb, ne_eqb, ltb-true, eqb-true, or_cases, and_parts, and_right, or_from}
 use Rattle.std.proofs.lemmas.List.{length-append, length-map}
 use Rattle.std.proofs.lemmas.List.Elements.{All-nil, All-head, All-tail, All-append, All-map, All-filter, All-weaker, filter_passes}
@@ -85,15 +85,15 @@ module _ (auto : Bool) where
       each : (a : Stand) → All (λ b. a.number ≤ b.number → P (pair a b)) ys → All P (row auto a ys)
       each a its = All-map P (pair a) (filter (pairs_with auto a) ys) (λ k d less.
           All-filter (pairs_with auto a) (λ b. a.number ≤ b.number → P (pair a b)) ys its k d less
-              (pairs_with-order a (get_or (filter (pairs_with auto a) ys) k d) (filter_passes (pairs_with auto a) ys k d less)))
+          (pairs_with-order a (get_or (filter (pairs_with auto a) ys) k d) (filter_passes (pairs_with auto a) ys k d less)))
 
   behind : (n : ℕ) (xs : List Stand) → All (λ s. n < s.number) xs → All (λ b. n < b.a) (pairs auto xs)
   behind n [] all = All-nil (λ b. n < b.a)
   behind n (x ∷ xs) all =
       let first : n < x.number = All-head (λ (s : Stand). n < s.number) x xs all in
       All-append (λ b. n < b.a) (row auto x (x ∷ xs)) (pairs auto xs)
-          (All-map (λ b. n < b.a) (pair x) (filter (pairs_with auto x) (x ∷ xs)) (λ k d less. first))
-          (behind n xs (All-tail (λ (s : Stand). n < s.number) x xs all))
+      (All-map (λ b. n < b.a) (pair x) (filter (pairs_with auto x) (x ∷ xs)) (λ k d less. first))
+      (behind n xs (All-tail (λ (s : Stand). n < s.number) x xs all))
 
   row-rising : (a : Stand) (ys : List Stand) → AreRising ys → AllPairs Comes (row auto a ys)
   row-rising a ys rising = AllPairs-map Comes (pair a) (filter (pairs_with auto a) ys) (λ i j d less within.
@@ -105,8 +105,8 @@ module _ (auto : Bool) where
       let first : All (λ s. x.number < s.number) xs = AllPairs-first (λ (s t : Stand). s.number < t.number) x xs rising in
       let later : All (λ b. x.number < b.a) (pairs auto xs) = behind x.number xs first in
       AllPairs-append Comes (row auto x (x ∷ xs)) (pairs auto xs) (row-rising x (x ∷ xs) rising)
-          (pairs-rising xs (AllPairs-rest (λ (s t : Stand). s.number < t.number) x xs rising))
-          (All-map (λ b. All (Comes b) (pairs auto xs)) (pair x) (filter (pairs_with auto x) (x ∷ xs)) (λ k d less i b within. inl (later i b within)))
+      (pairs-rising xs (AllPairs-rest (λ (s t : Stand). s.number < t.number) x xs rising))
+      (All-map (λ b. All (Comes b) (pairs auto xs)) (pair x) (filter (pairs_with auto x) (x ∷ xs)) (λ k d less i b within. inl (later i b within)))
 
 -- the baselines of a scan whose stations stand in rising order
 module _ (job : JobFields) (scan : Scan) (rising : AreRising (stands_in job scan)) where

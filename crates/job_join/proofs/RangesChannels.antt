@@ -1,6 +1,6 @@
 -- The channels of a job.
 use Rattle.std.specs.Prelude.{flat_map}
-use Rattle.std.proofs.Common.{◌≡◌, ℕ, ◌+◌, ◌<◌, ◌≤◌, Bool, true, false, cond, List, [], ◌∷◌, ◌++◌, length, All, arith}
+use Rattle.std.proofs.Common.{ℕ, ◌<◌, ◌≤◌, Bool, true, false, cond, List, [], ◌∷◌, length, All, arith}
 use Rattle.std.proofs.lemmas.List.Elements.{All-nil, All-cons, All-head, All-tail, All-weaker}
 use Rattle.job_text.specs.Job.{JobFields}
 use Rattle.job_text.specs.Ranges.{IsName}
@@ -21,9 +21,9 @@ pub channels_of-named : (job : JobFields) → All (λ p. IsName p.0 × IsName p.
 unfolding channels_of
 channels_of-named job all =
     first_uses-All IsName [] (product_names job)
-        (All-flat_map IsName (λ p. p.0 ∷ p.1 ∷ []) job.products
-            (All-weaker (λ p. IsName p.0 × IsName p.1) (λ p. All IsName (p.0 ∷ p.1 ∷ []))
-                (λ p both. All-cons IsName p.0 (p.1 ∷ []) both.0 (All-cons IsName p.1 [] both.1 (All-nil IsName))) job.products all))
+    (All-flat_map IsName (λ p. p.0 ∷ p.1 ∷ []) job.products
+    (All-weaker (λ p. IsName p.0 × IsName p.1) (λ p. All IsName (p.0 ∷ p.1 ∷ []))
+    (λ p both. All-cons IsName p.0 (p.1 ∷ []) both.0 (All-cons IsName p.1 [] both.1 (All-nil IsName))) job.products all))
 
 first_uses-some : (products : List (List ℕ × List ℕ)) → 1 ≤ length products → 0 < length (first_uses [] (flat_map (λ p. p.0 ∷ p.1 ∷ []) products))
 first_uses-some [] some = some

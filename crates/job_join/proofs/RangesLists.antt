@@ -1,9 +1,8 @@
 -- What holds of each element, and of each two, in lists made from others.
 use Rattle.std.specs.Prelude.{flat_map, filter_map, find}
-use Rattle.std.specs.List.{cons_option, list_any, enumerate_from, position, position_or_len, prefix_len}
-use Rattle.std.proofs.Common.{◌≡◌, ◌∙◌, sym, ap, ℕ, zero, suc, ◌+◌, ◌<◌, ◌≤◌, max, Bool, true, false, cond, not, nat_lt, ltb-false, List, [], ◌∷◌, ◌++◌, length, get_or, map, filter, fold, slice_get, Option, None, Some, is_some, IfSome, option_map, All, AllPairs, arith, refl, inl, inr}
+use Rattle.std.specs.List.{cons_option, list_any, enumerate_from, position, position_or_len}
+use Rattle.std.proofs.Common.{◌≡◌, ◌∙◌, sym, ap, ℕ, zero, suc, ◌+◌, ◌<◌, ◌≤◌, max, Bool, true, false, cond, not, nat_lt, ltb-false, List, [], ◌∷◌, ◌++◌, length, get_or, map, filter, fold, slice_get, Option, None, Some, is_some, IfSome, option_map, All, AllPairs, arith, refl}
 use Rattle.std.proofs.lemmas.Bool.{or_from}
-use Rattle.std.proofs.lemmas.List.{length-append, length-map}
 use Rattle.std.proofs.lemmas.List.Elements.{All-nil, All-cons, All-head, All-tail, All-append, All-map, All-filter, All-weaker}
 use Rattle.std.proofs.lemmas.List.FromFn.{length-enumerate_from, get_or-enumerate_from}
 use Rattle.std.proofs.lemmas.Option.{slice_get-get_or, slice_get-map}
@@ -182,7 +181,7 @@ module _ {X : Type 0} (R : X → X → Type 0) where
   AllPairs-append [] ys all more across = more
   AllPairs-append (x ∷ xs) ys all more across =
       AllPairs-cons x (xs ++ ys) (All-append (R x) xs ys (AllPairs-first x xs all) (All-head (λ x. All (R x) ys) x xs across))
-          (AllPairs-append xs ys (AllPairs-rest x xs all) more (All-tail (λ x. All (R x) ys) x xs across))
+      (AllPairs-append xs ys (AllPairs-rest x xs all) more (All-tail (λ x. All (R x) ys) x xs across))
 
   pub AllPairs-map : {Y : Type 0} (f : Y → X) (ys : List Y) → AllPairs (λ x y. R (f x) (f y)) ys → AllPairs R (map f ys)
   AllPairs-map f [] all = AllPairs-nil

@@ -2,7 +2,7 @@
 use Rattle.std.specs.Int.{div_ceil}
 use Rattle.std.specs.List.{enumerate_from, list_any}
 use Rattle.std.specs.Prelude.{flat_map}
-use Rattle.std.proofs.Common.{◌≡◌, ◌∙◌, sym, ap, refl, ℕ, ◌+◌, ◌-◌, ◌*◌, ◌/◌, ◌%◌, ◌^◌, ◌<◌, ◌≤◌, min, zero, suc, Bool, true, false, not, List, [], ◌∷◌, length, All, IfSome, Option, None, Some, is_some, option_map, unwrap_or, slice_get, arith, div-add-mod'}
+use Rattle.std.proofs.Common.{◌≡◌, ap, refl, ℕ, ◌+◌, ◌*◌, ◌/◌, ◌%◌, ◌<◌, ◌≤◌, min, zero, suc, true, false, not, List, [], ◌∷◌, length, All, IfSome, Option, None, Some, is_some, option_map, unwrap_or, slice_get, arith, div-add-mod'}
 use Rattle.std.proofs.lemmas.Bool.{not-false}
 use Rattle.std.proofs.lemmas.List.Elements.{All-weaker, All-head, All-filter}
 use Rattle.std.proofs.lemmas.Nat.{mul-le, mod_below}
@@ -18,8 +18,8 @@ nobody : (job : JobFields) (scan : Scan) → stands_in job scan ≡ [] → All (
 unfolding stands_in
 nobody job scan none =
     All-from_enumerate (λ s. pass_with scan s.key ≡ None) 0 job.stations
-        (All-weaker (λ e. stand_in scan e ≡ None) (λ e. pass_with scan e.1.key ≡ None) (λ e is. option_map-none _ _ is) (enumerate_from 0 job.stations)
-            (filter_map-none (stand_in scan) (enumerate_from 0 job.stations) none))
+    (All-weaker (λ e. stand_in scan e ≡ None) (λ e. pass_with scan e.1.key ≡ None) (λ e is. option_map-none _ _ is) (enumerate_from 0 job.stations)
+    (filter_map-none (stand_in scan) (enumerate_from 0 job.stations) none))
 
 -- a station that is known stands in some scan
 somebody : (stations : List StationFields) (scans : List Scan) → 1 ≤ length stations
@@ -28,11 +28,11 @@ somebody : (stations : List StationFields) (scans : List Scan) → 1 ≤ length 
 somebody [] scans some known none = absurd (omega arith)
 somebody (s ∷ stations) scans some known none =
     let there : list_any (λ scan. is_some (pass_with scan s.key)) scans ≡ true =
-        not-false _ (All-head (λ s. not (list_any (λ scan. is_some (pass_with scan s.key)) scans) ≡ false) s stations known) in
+    not-false _ (All-head (λ s. not (list_any (λ scan. is_some (pass_with scan s.key)) scans) ≡ false) s stations known) in
     let nowhere : list_any (λ scan. is_some (pass_with scan s.key)) scans ≡ false =
-        list_any-none (λ scan. is_some (pass_with scan s.key)) scans
-            (All-weaker (λ scan. All (λ s. pass_with scan s.key ≡ None) stations') (λ scan. is_some (pass_with scan s.key) ≡ false)
-                (λ scan lacks. ap is_some (All-head (λ s. pass_with scan s.key ≡ None) s stations lacks)) scans none) in
+    list_any-none (λ scan. is_some (pass_with scan s.key)) scans
+    (All-weaker (λ scan. All (λ s. pass_with scan s.key ≡ None) stations') (λ scan. is_some (pass_with scan s.key) ≡ false)
+    (λ scan lacks. ap is_some (All-head (λ s. pass_with scan s.key ≡ None) s stations lacks)) scans none) in
     absurd cc
   where
     stations' : List StationFields
@@ -43,8 +43,8 @@ nobody-anywhere : (job : JobFields) (scans : List Scan) → unknown_station job 
 unfolding unknown_station
 nobody-anywhere job scans known some none =
     somebody job.stations (taken job scans) some (position-None _ job.stations known)
-        (All-weaker (λ scan. stands_in job scan ≡ []) (λ scan. All (λ s. pass_with scan s.key ≡ None) job.stations) (nobody job) (taken job scans)
-            (flat_map-none (stands_in job) (taken job scans) none))
+    (All-weaker (λ scan. stands_in job scan ≡ []) (λ scan. All (λ s. pass_with scan s.key ≡ None) job.stations) (nobody job) (taken job scans)
+    (flat_map-none (stands_in job) (taken job scans) none))
 
 -- what holds of each scan holds of those that are taken
 pub taken-All : (P : Scan → Type 0) (job : JobFields) (scans : List Scan) → All P scans → All P (taken job scans)
@@ -55,8 +55,8 @@ stands-anywhere : (P : Pass → Type 0) (job : JobFields) (scans : List Scan) �
     → All (λ s. P s.pass) (flat_map (stands_in job) (taken job scans))
 stands-anywhere P job scans all =
     All-flat_map (λ s. P s.pass) (stands_in job) (taken job scans)
-        (All-weaker (λ scan. All P scan.passes) (λ scan. All (λ s. P s.pass) (stands_in job scan)) (stands-All P job) (taken job scans)
-            (taken-All (λ scan. All P scan.passes) job scans all))
+    (All-weaker (λ scan. All P scan.passes) (λ scan. All (λ s. P s.pass) (stands_in job scan)) (stands-All P job) (taken job scans)
+    (taken-All (λ scan. All P scan.passes) job scans all))
 
 first-All : {X : Type 0} (P : X → Type 0) (xs : List X) → All P xs → IfSome (slice_get xs 0) P
 first-All P [] all = tt
@@ -68,7 +68,7 @@ pub rate_of-All : (P : ℕ → Type 0) (job : JobFields) (scans : List Scan) →
 unfolding rate_of
 rate_of-All P job scans known some all =
     by (slice_get (flat_map (stands_in job) (taken job scans)) 0) (λ none. nobody-anywhere job scans known some (first-none _ none))
-        (first-All (λ (s : Stand). P s.pass.rate) _ (stands-anywhere (λ (p : Pass). P p.rate) job scans all))
+    (first-All (λ (s : Stand). P s.pass.rate) _ (stands-anywhere (λ (p : Pass). P p.rate) job scans all))
   where
     by : (o : Option Stand) → (o ≡ None → ⊥) → IfSome o (λ s. P s.pass.rate) → P (unwrap_or (option_map (λ (s : Stand). s.pass.rate) o) 0)
     by None some first = absurd (some refl)

@@ -1,13 +1,11 @@
 -- The stations of a job in a scan.
 use Rattle.std.specs.List.{enumerate_from}
-use Rattle.std.specs.Prelude.{find}
-use Rattle.std.proofs.Common.{◌≡◌, ◌∙◌, sym, ap, ℕ, ◌+◌, ◌*◌, ◌<◌, ◌≤◌, true, List, length, map, All, AllPairs, IfSome, Option, None, Some, option_map, unwrap_or, slice_get, bytes_eq, subst, arith, refl}
+use Rattle.std.proofs.Common.{◌≡◌, ◌∙◌, sym, ap, ℕ, ◌<◌, ◌≤◌, length, All, IfSome, Option, None, Some, option_map, slice_get, bytes_eq, subst, arith, refl}
 use Rattle.std.proofs.lemmas.List.Elements.{All-weaker}
 use Rattle.std.proofs.lemmas.List.FromFn.{length-enumerate_from}
 use Rattle.std.proofs.lemmas.Option.{same_Some}
 use Rattle.vex_schedule.specs.declared.scan.Pass.{Pass}
 use Rattle.vex_schedule.specs.declared.scan.Scan.{Scan}
-use Rattle.vex_schedule.specs.Sound.{IsPass, IsScan}
 use Rattle.job_text.specs.Job.{JobFields, StationFields}
 use Rattle.job_join.specs.Standing.{Stand, stand_in, stands_in, pass_with}
 use Rattle.job_join.proofs.RangesLists.{All-filter_map, AllPairs-filter_map, IfSome-from, enumerate-there, enumerate-rising, length-filter_map, find-All}
@@ -44,13 +42,13 @@ pub stands-there : (job : JobFields) (scan : Scan) → All (IsStand job scan) (s
 unfolding stands_in
 stands-there job scan =
     All-filter_map (IsStand job scan) (stand_in scan) (enumerate_from 0 job.stations)
-        (All-weaker _ _ (λ e there. IfSome-from (stand_in scan e) (IsStand job scan) (λ s is. stand_in-there job scan e s there is)) _ (enumerate-there job.stations))
+    (All-weaker _ _ (λ e there. IfSome-from (stand_in scan e) (IsStand job scan) (λ s is. stand_in-there job scan e s there is)) _ (enumerate-there job.stations))
 
 pub stands-rising : (job : JobFields) (scan : Scan) → AreRising (stands_in job scan)
 unfolding stands_in
 stands-rising job scan =
     AllPairs-filter_map (λ (e f : ℕ × StationFields). e.0 < f.0) (λ (s t : Stand). s.number < t.number) (stand_in scan) each
-        (enumerate_from 0 job.stations) (enumerate-rising 0 job.stations)
+    (enumerate_from 0 job.stations) (enumerate-rising 0 job.stations)
   where
     each : (e f : ℕ × StationFields) (s t : Stand) → stand_in scan e ≡ Some s → stand_in scan f ≡ Some t → e.0 < f.0 → s.number < t.number
     each e f s t one other less = omega (arith, stand_in-numbered scan e s one, stand_in-numbered scan f t other)

@@ -1,14 +1,11 @@
 -- The stations and the products of a plan.
 use Rattle.std.specs.List.{position_or_len}
-use Rattle.std.proofs.Common.{◌≡◌, ◌∙◌, ℕ, ◌*◌, ◌/◌, ◌%◌, ◌^◌, ◌<◌, ◌≤◌, ◌==◌, Bool, true, false, cond, not, nat_lt, List, [], ◌∷◌, length, map, unwrap_or, All, IfSome, Option, None, Some, option_map, bytes_eq, arith, refl}
+use Rattle.std.proofs.Common.{◌≡◌, ℕ, ◌/◌, ◌%◌, ◌^◌, ◌<◌, ◌==◌, Bool, true, false, cond, not, nat_lt, List, [], ◌∷◌, length, unwrap_or, All, IfSome, Option, None, Some, option_map, bytes_eq, refl}
 use Rattle.std.proofs.lemmas.Bool.{not-false, eqb-true, ltb-true}
 use Rattle.std.proofs.lemmas.List.{length-map}
-use Rattle.std.proofs.lemmas.List.Elements.{All-nil, All-cons, All-head, All-tail, All-map, All-weaker}
+use Rattle.std.proofs.lemmas.List.Elements.{All-head, All-tail, All-map, All-weaker}
 use Rattle.vdif_frame.specs.Shape.{IsShape, samples_per_frame}
 use Rattle.vex_reader.specs.File.{named}
-use Rattle.job_plan.specs.declared.plan.Recorded.{Recorded}
-use Rattle.job_plan.specs.declared.plan.ScanPlan.{ScanPlan}
-use Rattle.job_plan.specs.declared.plan.Plan.{Plan}
 use Rattle.job_plan.specs.Ranges.{IsRecorded, IsStation, IsProductPlan}
 use Rattle.job_text.specs.declared.places.ChanPlace.{ChanPlace}
 use Rattle.job_text.specs.Job.{JobFields, StationFields}
@@ -65,13 +62,14 @@ station-there job rate channels scans s is some whole =
       recorded = All-map (IsRecorded (shape_of frames s)) (recorded_of s) channels (λ k d less. recorded-there frames s _ is);
       polys = is.polys;
       clocks = is.clocks;
+      files = is.files;
     }
 
-frames-whole : (job : JobFields) (scans : List Scan) → frame_rate job scans ≡ None → All (λ s. rate_of job scans % samples_per_frame (shape_of 0 s) ≡ 0) job.stations
+pub frames-whole : (job : JobFields) (scans : List Scan) → frame_rate job scans ≡ None → All (λ s. rate_of job scans % samples_per_frame (shape_of 0 s) ≡ 0) job.stations
 unfolding frame_rate
 frames-whole job scans none =
     All-weaker (λ s. not (rate_of job scans % samples_per_frame (shape_of 0 s) == 0) ≡ false) (λ s. rate_of job scans % samples_per_frame (shape_of 0 s) ≡ 0)
-        (λ s is. eqb-true _ _ (not-false _ is)) job.stations (position-None _ job.stations none)
+    (λ s is. eqb-true _ _ (not-false _ is)) job.stations (position-None _ job.stations none)
 
 number_of-below : (channels : List (List ℕ)) (name : List ℕ) → 0 < length channels → number_of channels name < length channels
 number_of-below channels name some = by (nat_lt place (length channels)) refl

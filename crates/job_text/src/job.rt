@@ -1,58 +1,62 @@
 //! A job.
+use crate::pairs::Pairs;
 use crate::places::{Band, ScanSpan};
-use crate::station::Station;
-use num_time::Name;
+use crate::stations::Stations;
 use std::marker::Model;
 use vex_reader::Named;
 
-/// A job, each list in the order of the lines.
+/// A job: the number of lags, the samples of an integration and of an epoch and from one knot of a delay
+/// to the next, and whether a station is correlated with itself. A job that states its scans itself has a
+/// rate, in samples a second, scans and the bands of its channels. A product is the channel of a
+/// baseline's first station and that of its second. Where there are `takes`, only the scans of these
+/// names count. Each list is in the order of the lines.
 #[derive(Drop)]
 pub struct Job {
     pub lags: u32,
     pub integration: u64,
-    pub epoch: u64,
+    pub epoch: u32,
     pub knot: u32,
     pub auto: bool,
     pub rate: Option<u32>,
-    pub stations: Vec<Station>,
-    pub products: Vec<(Name, Name)>,
+    pub stations: Stations,
+    pub products: Pairs,
     pub takes: Named<()>,
     pub scans: Named<ScanSpan>,
     pub bands: Named<Band>,
 }
 
 impl Model for Job {
+    ghost use Rattle.vex_reader.specs.File.{names};
     ghost use Rattle.job_text.specs.Job.{JobFields};
     ghost use Rattle.job_text.specs.Ranges.{IsJob};
-    ghost use Rattle.vex_reader.specs.File.{names};
 
     ghost Value = { JobFields };
 
-    ghost view = { λ j. record {
-      lags = j.lags;
-      integration = j.integration;
-      epoch = j.epoch;
-      knot = j.knot;
-      auto = j.auto;
-      rate = j.rate;
-      stations = j.stations.items;
-      products = j.products.items;
-      takes = names j.takes;
-      scans = j.scans;
-      bands = j.bands;
+    ghost view = { λ job. record {
+      lags = job.lags;
+      integration = job.integration;
+      epoch = job.epoch;
+      knot = job.knot;
+      auto = job.auto;
+      rate = job.rate;
+      stations = job.stations;
+      products = job.products;
+      takes = names job.takes;
+      scans = job.scans;
+      bands = job.bands;
     } };
 
-    ghost invariant = { λ j. IsJob (record {
-      lags = j.lags;
-      integration = j.integration;
-      epoch = j.epoch;
-      knot = j.knot;
-      auto = j.auto;
-      rate = j.rate;
-      stations = j.stations.items;
-      products = j.products.items;
-      takes = names j.takes;
-      scans = j.scans;
-      bands = j.bands;
+    ghost invariant = { λ job. IsJob (record {
+      lags = job.lags;
+      integration = job.integration;
+      epoch = job.epoch;
+      knot = job.knot;
+      auto = job.auto;
+      rate = job.rate;
+      stations = job.stations;
+      products = job.products;
+      takes = names job.takes;
+      scans = job.scans;
+      bands = job.bands;
     }) };
 }

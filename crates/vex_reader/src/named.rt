@@ -1,5 +1,5 @@
 // Things by their names.
-ghost use Rattle.std.specs.Prelude.{◌≡◌, ◌≢◌, ◌<◌, [], None, Some, IfSome, IfNone, IfOk, OnOk, option_copied, option_map, length, slice_get, is_some, AllPairs};
+ghost use Rattle.std.specs.Prelude.{◌≡◌, ◌≢◌, ◌<◌, [], None, Some, IfSome, IfNone, IfOk, OnOk, OnErr, option_copied, option_map, length, slice_get, is_some, AllPairs};
 ghost use Rattle.vex_reader.specs.File.{named, names, put};
 
 use indexmap::IndexMap;
@@ -77,6 +77,7 @@ impl<T: Drop> Named<T> {
     pub fn put(&mut self, alloc: Global, name: &[u8], thing: T) -> Result<Option<T>, AllocError>
         ensures put { OnOk result (self.new ≡ put self.old name.now thing) }
         ensures before { IfOk result (λ before. before ≡ named self.old name.now) }
+        ensures unchanged { OnErr result (self.new ≡ self.old) }
     {
         let name = name.to_vec(alloc)?;
         Ok(self.things.insert(name, thing)?)

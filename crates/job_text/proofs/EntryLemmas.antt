@@ -1,0 +1,57 @@
+-- Whether a second is among those of some entries, by the entry in force at it.
+use Rattle.std.proofs.Common.{◌≡◌, ◌≢◌, ◌<◌, ℕ, Bool, true, false, List, length, get_or, refl, sym, ◌∙◌, ap, arith, IsTrue, Decides}
+use Rattle.std.specs.Prelude.{Option, Some, None, ℤ, ◌<ℤ◌, ◌≤ℤ◌, ◌↔◌, ◌++◌, ◌∷◌, [], if◌then◌else◌}
+use Rattle.std.specs.List.{All, Contains, list_any}
+use Rattle.std.specs.Ordering.{int_eq}
+use Rattle.std.proofs.lemmas.Int.{ints}
+use Rattle.std.proofs.lemmas.Bool.Decides.{Decides-int_eq}
+use Rattle.std.proofs.lemmas.List.Folds.{list_any_none, list_any_at, Any-from_list_any}
+use Rattle.std.proofs.lemmas.List.Elements.{All-weaker, All-from_get_or, All-get_or, All-contains}
+use Rattle.entry_list.specs.Latest.{IsInForce, IsLatest}
+
+-- a test that a fact decides fails where the fact does not hold
+pub fails : (b : Bool) (P : Type 0) → Decides b P → (P → ⊥) → b ≡ false
+fails true P d lacks = absurd (lacks (d.0 refl))
+fails false P d lacks = refl
+
+pub passes : (b : Bool) (P : Type 0) → Decides b P → P → b ≡ true
+passes b P d p = d.1 p
+
+-- two that a test tells apart differ
+pub differs : (b : Bool) (P : Type 0) → Decides b P → b ≡ false → P → ⊥
+differs b P d off p = let on : b ≡ true = d.1 p in let odd : true ≡ false = sym on ∙ off in cc
+
+module _ {E : Type 0} (second_of : E → ℤ) (entries : List E) (t : ℤ) where
+  abbrev at : E → Bool
+  at e = int_eq (second_of e) t
+
+  apart : (e : E) → (second_of e ≡ t → ⊥) → at e ≡ false
+  apart e lacks = fails (at e) (second_of e ≡ t) (Decides-int_eq (second_of e) t) lacks
+
+  -- where all begin later, none begins then
+  pub later-none : All (λ x. t <ℤ second_of x) entries → list_any at entries ≡ false
+  later-none later = list_any_none at entries (All-weaker (λ x. t <ℤ second_of x) (λ x. at x ≡ false) (λ x less. apart x (λ same. omega (arith, ints, less, same))) entries later)
+
+  -- the entry in force begins then, or none does
+  pub latest-at : (e : E) → IsLatest second_of entries t e → list_any at entries ≡ at e
+  latest-at e h = by (at e) refl
+    where
+      by : (b : Bool) → at e ≡ b → list_any at entries ≡ b
+      by true here = list_any_at at entries h.among.0 e h.among.1 (ap at h.among.2 ∙ here)
+      by false here =
+          let lacks : second_of e ≡ t → ⊥ = differs (at e) (second_of e ≡ t) (Decides-int_eq (second_of e) t) here in
+          list_any_none at entries (All-weaker (λ x. second_of x ≤ℤ t → second_of x ≤ℤ second_of e) (λ x. at x ≡ false)
+          (λ x most. apart x (λ same.
+          let up : t ≤ℤ second_of e = let le : second_of x ≤ℤ t = omega (arith, ints, same) in omega (arith, ints, same, most le) in
+          lacks (omega (arith, ints, up, h.not_after))))
+          entries h.latest)
+
+  -- where none begins then, an entry of that second is added
+  pub free-differs : list_any at entries ≡ false → All (λ x. second_of x ≢ t) entries
+  free-differs none =
+      All-from (λ i d less same.
+      let odd : list_any at entries ≡ true = list_any_at at entries i d less (passes (at (get_or entries i d)) (second_of (get_or entries i d) ≡ t) (Decides-int_eq (second_of (get_or entries i d)) t) same) in
+      let both : true ≡ false = sym odd ∙ none in cc)
+    where
+      All-from : ((i : ℕ) (d : E) → i < length entries → second_of (get_or entries i d) ≢ t) → All (λ x. second_of x ≢ t) entries
+      All-from f = f

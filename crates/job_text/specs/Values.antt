@@ -1,0 +1,141 @@
+-- What the fields behind a word say, none where they say nothing that is in its range.
+use Rattle.std.specs.Prelude.{ℕ, ◌+◌, ◌-◌, ◌*◌, ◌%◌, ◌^◌, ℤ, pos, negsuc, unsigned_abs, Bool, ◌&&◌, ◌||◌, ◌==◌, nat_lt, nat_le, if◌then◌else◌, List, [], ◌∷◌, length, drop, slice_index_or, codes, bytes_eq, Option, Some, None, option_and_then, Result, Ok, Err}
+use Rattle.std.specs.Result.{result_ok}
+use Rattle.num_time.specs.Numerals.{decimal_of}
+use Rattle.num_time.specs.Times.{vex_second_of}
+use Rattle.vdif_frame.specs.Shape.{head_bytes}
+use Rattle.delay_poly.specs.Nested.{magnitude}
+use Rattle.delay_poly.specs.declared.entry.PolyEntry.{PolyEntry}
+use Rattle.station_clock.specs.declared.entry.ClockEntry.{ClockEntry}
+use Rattle.job_text.specs.declared.places.ChanPlace.{ChanPlace}
+use Rattle.job_text.specs.declared.places.ScanSpan.{ScanSpan}
+use Rattle.job_text.specs.declared.places.Band.{Band}
+use Rattle.job_text.specs.Job.{StationFields}
+
+infixl 10 ◌>>=◌
+abbrev pub ◌>>=◌ : {A B : Type 0} → Option A → (A → Option B) → Option B
+o >>= f = option_and_then f o
+
+-- a field by its place behind the word, counted from 0; one that is not there is empty
+abbrev pub field : List (List ℕ) → ℕ → List ℕ
+field fields i = slice_index_or fields i []
+
+-- the whole number that a text says, and the second that a time names
+unfoldable pub whole_of : List ℕ → Option ℤ
+whole_of text = result_ok (decimal_of text 0)
+
+unfoldable pub second_of : List ℕ → Option ℤ
+second_of text = result_ok (vex_second_of text)
+
+-- a number as one from low to high
+abbrev pub bounded : ℕ → ℕ → ℤ → Option ℕ
+bounded low high (pos n) = if nat_le low n && nat_le n high then Some n else None
+bounded low high (negsuc n) = None
+
+-- a text that says a whole number from low to high
+unfoldable pub number_within : ℕ → ℕ → List ℕ → Option ℕ
+number_within low high text = whole_of text >>= bounded low high
+
+-- a name that the records can hold
+abbrev pub name_fits : List ℕ → Bool
+name_fits name = nat_le 1 (length name) && nat_le (length name) 255
+
+-- an even number of lags from 2 to 1024
+unfoldable pub lags_in : List (List ℕ) → Option ℕ
+lags_in fields = do
+  n ← number_within 2 1024 (field fields 0)
+  if n % 2 == 0 then Some n else None
+
+-- samples of an integration, of an epoch and from one knot to the next, and samples a second
+abbrev pub integration_in : List (List ℕ) → Option ℕ
+integration_in fields = number_within 1 (2 ^ 36) (field fields 0)
+
+abbrev pub epoch_in : List (List ℕ) → Option ℕ
+epoch_in fields = number_within 1 4194304 (field fields 0)
+
+abbrev pub knot_in : List (List ℕ) → Option ℕ
+knot_in fields = number_within 1 (2 ^ 24) (field fields 0)
+
+abbrev pub rate_in : List (List ℕ) → Option ℕ
+rate_in fields = number_within 1 (2 ^ 32 - 1) (field fields 0)
+
+-- the power of two that a number of channels is, from 1 to 64 of them
+abbrev pub log2_of : ℕ → Option ℕ
+log2_of n =
+    if n == 1 then Some 0 else if n == 2 then Some 1 else if n == 4 then Some 2 else if n == 8 then Some 3
+    else if n == 16 then Some 4 else if n == 32 then Some 5 else if n == 64 then Some 6 else None
+
+-- The length of a frame with its header: whole units of 8 bytes, one of them at least behind the header, which hold
+-- whole complete samples (VDIF 1.1.1, frame length and data array).
+unfoldable pub frame_bytes_in : Bool → ℕ → ℕ → List ℕ → Option ℕ
+frame_bytes_in legacy bits chans text = do
+  n ← number_within (head_bytes legacy + 8) 131072 text
+  if (n % 8 == 0) && (8 * (n - head_bytes legacy) % (bits * chans) == 0) then Some n else None
+
+-- a station of 1 or 2 bits a sample; a sixth field says that its frames have the short header
+unfoldable pub station_in : List (List ℕ) → Option StationFields
+station_in fields = do
+  id ← number_within 0 65535 (field fields 1)
+  bits ← number_within 1 2 (field fields 2)
+  chans ← number_within 1 64 (field fields 3)
+  chans_log2 ← log2_of chans
+  frame_bytes ← frame_bytes_in (nat_lt 5 (length fields)) bits chans (field fields 4)
+  if name_fits (field fields 0) then Some (record {
+    key = field fields 0;
+    id = id;
+    bits = bits;
+    chans_log2 = chans_log2;
+    frame_bytes = frame_bytes;
+    legacy = nat_lt 5 (length fields);
+    files = [];
+    chans = [];
+    clocks = [];
+    polys = [];
+  }) else None
+
+-- a channel and its place, where a complete sample has so many channels
+unfoldable pub chan_in : ℕ → List (List ℕ) → Option (List ℕ × ChanPlace)
+chan_in chans fields = do
+  thread ← number_within 0 1023 (field fields 2)
+  index ← number_within 0 (chans - 1) (field fields 3)
+  if name_fits (field fields 1) then Some (field fields 1, record { thread = thread; index = index }) else None
+
+-- a clock's offset and drift
+unfoldable pub clock_in : List (List ℕ) → Option ClockEntry
+clock_in fields = do
+  second ← second_of (field fields 1)
+  c0 ← whole_of (field fields 2)
+  c1 ← whole_of (field fields 3)
+  if nat_lt (unsigned_abs c0) (2 ^ 57) && nat_lt (unsigned_abs c1) (2 ^ 25)
+      then Some (record { second = second; c0 = c0; c1 = c1 }) else None
+
+-- the whole numbers that some texts say, none where one says none
+abbrev pub wholes_of : List (List ℕ) → Option (List ℤ)
+wholes_of [] = Some []
+wholes_of (text ∷ texts) = do
+  n ← whole_of text
+  more ← wholes_of texts
+  Some (n ∷ more)
+
+-- one to six coefficients, whose magnitudes together are below 2 ^ 58
+abbrev pub is_poly : List ℤ → Bool
+is_poly coeffs = nat_lt 0 (length coeffs) && (nat_le (length coeffs) 6 && nat_lt (magnitude coeffs) (2 ^ 58))
+
+unfoldable pub poly_in : List (List ℕ) → Option PolyEntry
+poly_in fields = do
+  second ← second_of (field fields 1)
+  coeffs ← wholes_of (drop 2 fields)
+  if is_poly coeffs then Some (record { second = second; poly = coeffs }) else None
+
+-- a scan and its span
+unfoldable pub scan_in : List (List ℕ) → Option (List ℕ × ScanSpan)
+scan_in fields = do
+  second ← second_of (field fields 1)
+  samples ← number_within 0 (2 ^ 40) (field fields 2)
+  if name_fits (field fields 0) then Some (field fields 0, record { second = second; samples = samples }) else None
+
+-- a channel and its band
+unfoldable pub band_in : List (List ℕ) → Option (List ℕ × Band)
+band_in fields = do
+  hertz ← number_within 0 (2 ^ 40 - 1) (field fields 1)
+  Some (field fields 0, record { hertz = hertz; upper = bytes_eq (field fields 2) (codes "U") })

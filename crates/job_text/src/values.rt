@@ -1,0 +1,230 @@
+//! What the fields behind a word say.
+ghost use Rattle.std.specs.Prelude.{◌≡◌, ◌≤◌, ◌<◌, ◌-◌, ◌*◌, ◌%◌, ◌^◌, ◌+◌, ◌++◌, map, length, drop, IfSome, IfOk, option_map, Some, true};
+ghost use Rattle.corr_model.specs.Delay.{IsClock};
+ghost use Rattle.job_text.specs.Ranges.{IsName, IsSpan};
+ghost use Rattle.num_time.specs.Times.{IsSecond};
+ghost use Rattle.vdif_frame.specs.Shape.{head_bytes};
+ghost use Rattle.job_text.specs.Values.{field, whole_of, second_of, bounded, number_within, name_fits, chan_in, lags_in, log2_of, frame_bytes_in, clock_in, wholes_of, poly_in, scan_in, band_in};
+
+use crate::places::{Band, ChanPlace, ScanSpan};
+use delay_poly::{Poly, PolyEntry};
+use num_time::{decimal, vex_second};
+use station_clock::ClockEntry;
+use std::alloc::{AllocError, Global};
+
+/// A field by its place behind the word, counted from 0; one that is not there is empty.
+pub(crate) fn field<'a>(fields: &[&'a [u8]], i: usize) -> &'a [u8]
+    ensures { result.now ≡ field (map (λ field. field.now) fields.now) i }
+{
+    match fields.get(i) {
+        Some(field) => field,
+        None => &[],
+    }
+}
+
+/// The whole number that a text says.
+#[tactic(auto, unfolding(crate::specs::Values::whole_of))]
+pub(crate) fn whole_of(text: &[u8]) -> Option<i64>
+    ensures { result ≡ whole_of text.now }
+{
+    decimal(text, 0).ok()
+}
+
+/// The second that a time names.
+#[tactic(auto, unfolding(crate::specs::Values::second_of))]
+pub(crate) fn second_of(text: &[u8]) -> Option<i64>
+    ensures value { result ≡ second_of text.now }
+    ensures years { IfSome result IsSecond }
+{
+    vex_second(text).ok()
+}
+
+fn bounded(low: u64, high: u64, number: i64) -> Option<u64>
+    ensures value { result ≡ bounded low high number }
+    ensures range { IfSome result (λ n. (low ≤ n) × (n ≤ high)) }
+{
+    if number < 0 {
+        return None;
+    }
+    let number = number as u64;
+    if low <= number && number <= high {
+        Some(number)
+    } else {
+        None
+    }
+}
+
+/// A text that says a whole number from `low` to `high`.
+#[tactic(auto, unfolding(crate::specs::Values::number_within))]
+pub(crate) fn number_within(low: u64, high: u64, text: &[u8]) -> Option<u64>
+    ensures value { result ≡ number_within low high text.now }
+    ensures range { IfSome result (λ n. (low ≤ n) × (n ≤ high)) }
+{
+    bounded(low, high, whole_of(text)?)
+}
+
+/// Whether the records can hold a name.
+pub(crate) fn name_fits(name: &[u8]) -> bool
+    ensures value { result ≡ name_fits name.now }
+    ensures name { result ≡ true → IsName name.now }
+{
+    1 <= name.len() && name.len() <= 255
+}
+
+/// An even number of lags from 2 to 1024.
+#[tactic(auto, unfolding(crate::specs::Values::lags_in))]
+pub(crate) fn lags_in(fields: &[&[u8]]) -> Option<u32>
+    ensures value { result ≡ lags_in (map (λ field. field.now) fields.now) }
+    ensures even { IfSome result (λ n. n % 2 ≡ 0) }
+    ensures least { IfSome result (λ n. 2 ≤ n) }
+    ensures most { IfSome result (λ n. n ≤ 1024) }
+{
+    let lags = number_within(2, 1024, field(fields, 0))? as u32;
+    if lags % 2 == 0 { Some(lags) } else { None }
+}
+
+/// The power of two that a number of channels is.
+pub(crate) fn log2_of(n: u64) -> Option<u8>
+    ensures value { result ≡ log2_of n }
+    ensures most { IfSome result (λ k. k ≤ 6) }
+    ensures power { IfSome result (λ k. 2 ^ k ≡ n) }
+{
+    match n {
+        1 => Some(0),
+        2 => Some(1),
+        4 => Some(2),
+        8 => Some(3),
+        16 => Some(4),
+        32 => Some(5),
+        64 => Some(6),
+        _ => None,
+    }
+}
+
+/// The length of a frame that holds whole complete samples.
+#[tactic(auto, unfolding(crate::specs::Values::frame_bytes_in))]
+pub(crate) fn frame_bytes_in(legacy: bool, bits: u64, chans: u64, text: &[u8]) -> Option<u32>
+    requires bits_some { 1 ≤ bits }
+    requires bits_most { bits ≤ 2 }
+    requires chans_some { 1 ≤ chans }
+    requires chans_most { chans ≤ 64 }
+    ensures value { result ≡ frame_bytes_in legacy bits chans text.now }
+    ensures least { IfSome result (λ n. head_bytes legacy + 8 ≤ n) }
+    ensures most { IfSome result (λ n. n ≤ 131072) }
+    ensures units { IfSome result (λ n. n % 8 ≡ 0) }
+    ensures whole { IfSome result (λ n. 8 * (n - head_bytes legacy) % (bits * chans) ≡ 0) }
+{
+    let head = if legacy { 16 } else { 32 };
+    let n = number_within(head + 8, 131_072, text)?;
+    if n % 8 == 0 && 8 * (n - head) % (bits * chans) == 0 {
+        Some(n as u32)
+    } else {
+        None
+    }
+}
+
+/// A channel and its place, where a complete sample has so many channels.
+#[tactic(auto, unfolding(crate::specs::Values::chan_in))]
+pub(crate) fn chan_in(chans: u32, fields: &[&[u8]]) -> Option<ChanPlace>
+    requires { 1 ≤ chans }
+    ensures value { option_map (λ place. (field (map (λ field. field.now) fields.now) 1, place)) result
+        ≡ chan_in chans (map (λ field. field.now) fields.now) }
+    ensures thread { IfSome result (λ place. place.thread < 1024) }
+    ensures index { IfSome result (λ place. place.index < chans) }
+    ensures name { IfSome result (λ _. IsName (field (map (λ field. field.now) fields.now) 1)) }
+{
+    let thread = number_within(0, 1023, field(fields, 2))?;
+    let index = number_within(0, u64::from(chans - 1), field(fields, 3))?;
+    if !name_fits(field(fields, 1)) {
+        return None;
+    }
+    Some(ChanPlace {
+        thread: thread as u16,
+        index: index as u32,
+    })
+}
+
+/// A clock's offset and drift.
+#[tactic(auto, unfolding(crate::specs::Values::clock_in))]
+pub(crate) fn clock_in(fields: &[&[u8]]) -> Option<ClockEntry>
+    ensures value { result ≡ clock_in (map (λ field. field.now) fields.now) }
+    ensures clock { IfSome result IsClock }
+    ensures second { IfSome result (λ entry. second_of (field (map (λ field. field.now) fields.now) 1) ≡ Some entry.second) }
+{
+    let second = second_of(field(fields, 1))?;
+    let c0 = whole_of(field(fields, 2))?;
+    let c1 = whole_of(field(fields, 3))?;
+    if c0.unsigned_abs() < 1 << 57 && c1.unsigned_abs() < 1 << 25 {
+        Some(ClockEntry { second, c0, c1 })
+    } else {
+        None
+    }
+}
+
+// The whole numbers that some texts say, none where one says none.
+fn wholes_of(alloc: Global, texts: &[&[u8]]) -> Result<Option<Vec<i64>>, AllocError>
+    ensures { IfOk result (λ numbers. option_map (λ numbers. numbers.items) numbers ≡ wholes_of (map (λ text. text.now) texts.now)) }
+{
+    let mut numbers = Vec::new(alloc);
+    for text in texts {
+        let Some(number) = whole_of(text) else {
+            return Ok(None);
+        };
+        numbers.push(number)?;
+    }
+    Ok(Some(numbers))
+}
+
+// The fields from the third on.
+fn behind_two<'a, 'b>(fields: &'b [&'a [u8]]) -> &'b [&'a [u8]]
+    ensures { map (λ field. field.now) result.now ≡ drop 2 (map (λ field. field.now) fields.now) }
+{
+    if fields.len() < 2 { &[] } else { &fields[2..] }
+}
+
+/// A polynomial of one to six coefficients.
+#[tactic(auto, unfolding(crate::specs::Values::poly_in))]
+pub(crate) fn poly_in(alloc: Global, fields: &[&[u8]]) -> Result<Option<PolyEntry>, AllocError>
+    ensures value { IfOk result (λ entry. entry ≡ poly_in (map (λ field. field.now) fields.now)) }
+    ensures years { IfOk result (λ entry. IfSome entry (λ entry. IsSecond entry.second)) }
+    ensures second { IfOk result (λ entry. IfSome entry (λ entry. second_of (field (map (λ field. field.now) fields.now) 1) ≡ Some entry.second)) }
+{
+    let Some(second) = second_of(field(fields, 1)) else {
+        return Ok(None);
+    };
+    let Some(numbers) = wholes_of(alloc, behind_two(fields))? else {
+        return Ok(None);
+    };
+    match Poly::new(&numbers) {
+        Some(poly) => Ok(Some(PolyEntry { second, poly })),
+        None => Ok(None),
+    }
+}
+
+/// A scan's span.
+#[tactic(auto, unfolding(crate::specs::Values::scan_in))]
+pub(crate) fn scan_in(fields: &[&[u8]]) -> Option<ScanSpan>
+    ensures value { option_map (λ span. (field (map (λ field. field.now) fields.now) 0, span)) result
+        ≡ scan_in (map (λ field. field.now) fields.now) }
+    ensures span { IfSome result (λ span. IsSpan (field (map (λ field. field.now) fields.now) 0, span)) }
+{
+    let second = second_of(field(fields, 1))?;
+    let samples = number_within(0, 1 << 40, field(fields, 2))?;
+    if name_fits(field(fields, 0)) {
+        Some(ScanSpan { second, samples })
+    } else {
+        None
+    }
+}
+
+/// A channel's band.
+#[tactic(auto, unfolding(crate::specs::Values::band_in))]
+pub(crate) fn band_in(fields: &[&[u8]]) -> Option<Band>
+    ensures value { option_map (λ band. (field (map (λ field. field.now) fields.now) 0, band)) result
+        ≡ band_in (map (λ field. field.now) fields.now) }
+    ensures hertz { IfSome result (λ band. band.hertz < 2 ^ 40) }
+{
+    let hertz = number_within(0, (1 << 40) - 1, field(fields, 1))?;
+    let upper = field(fields, 2) == b"U".as_slice();
+    Some(Band { hertz, upper })
+}

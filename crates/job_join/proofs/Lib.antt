@@ -2,6 +2,8 @@ pub mod Firsts
 pub mod Sets
 pub mod TakesLemmas
 pub mod StandsLemmas
+pub mod ChannelsLemmas
+pub mod JoinLemmas
 pub mod RangesLists
 pub mod RangesBaselines
 pub mod RangesStands

@@ -1,5 +1,5 @@
 -- Sets of names.
-use Rattle.std.proofs.Common.{◌≡◌, ℕ, ◌+◌, ◌<◌, Bool, true, false, cond, List, [], ◌∷◌, take, length, get_or, None, Some, Option, ap, refl, sym, ◌∙◌, bytes_eq, is_some, ◌||◌, slice_get}
+use Rattle.std.proofs.Common.{◌≡◌, ℕ, ◌+◌, ◌<◌, Bool, true, false, cond, List, [], ◌∷◌, take, length, get_or, None, Some, Option, ap, refl, sym, ◌∙◌, bytes_eq, is_some, ◌||◌, slice_get, map}
 use Rattle.std.specs.List.{list_any}
 use Rattle.std.proofs.lemmas.Cmp.{nat_list_eq_equiv}
 use Rattle.std.proofs.lemmas.List.{get_or-map}
@@ -72,3 +72,7 @@ any-names {A} (x ∷ xs) name = by (bytes_eq x.0 name) (any-names xs name)
 pub get_or-names : {A : Type 0} (xs : List (List ℕ × A)) (i : ℕ) (x : List ℕ × A) (d : List ℕ) → slice_get xs i ≡ Some x → get_or (names xs) i d ≡ x.0
 get_or-names {A} xs i x d is =
     get_or-map (λ (y : List ℕ × A). y.0) xs i x d (slice_get_within xs i x is) ∙ ap (λ (y : List ℕ × A). y.0) (get_or_from_slice_get xs i x x is)
+
+pub any-map : {X Y : Type 0} (p : Y → Bool) (h : X → Y) (xs : List X) → list_any p (map h xs) ≡ list_any (λ x. p (h x)) xs
+any-map p h [] = refl
+any-map p h (x ∷ xs) = ap (λ t. p (h x) || t) (any-map p h xs)

@@ -3,32 +3,34 @@ ghost use Rattle.std.specs.Prelude.{◌≡◌, ◌∷◌, [], ℕ, List, None, S
 ghost use Rattle.std.specs.List.{list_any, position};
 ghost use Rattle.vex_reader.specs.File.{names, put};
 ghost use Rattle.job_join.specs.declared.places.Place.{Place};
+ghost use Rattle.job_join.specs.declared.stands.Here.{Here};
 ghost use Rattle.job_join.specs.Channels.{first_uses, chan_with, same_side, is_same_band, differ, are_different};
 ghost use Rattle.job_join.specs.Places.{stand_of, stands_of, visit_of, chans_under, has_other_band, has_unlike_product};
 
 use crate::places::Place;
 use crate::stands::Here;
-use num_time::Name;
+use job_text::Pairs;
 use std::alloc::{AllocError, Global};
 use vex_reader::Named;
 use vex_schedule::{Chan, Pass};
 
 // Puts the channels of a product behind those that are there.
-fn add(alloc: Global, channels: &mut Named<()>, product: &(Name, Name)) -> Result<(), AllocError>
-    ensures { OnOk result (channels.new ≡ put (put channels.old product.now.0 tt) product.now.1 tt) }
+fn add(alloc: Global, channels: &mut Named<()>, x: &[u8], y: &[u8]) -> Result<(), AllocError>
+    ensures { OnOk result (channels.new ≡ put (put channels.old x.now tt) y.now tt) }
 {
-    channels.put(alloc, product.0.bytes(), ())?;
-    channels.put(alloc, product.1.bytes(), ())?;
+    channels.put(alloc, x, ())?;
+    channels.put(alloc, y, ())?;
     Ok(())
 }
 
 /// The channels of the products, in the order of their first use.
-pub(crate) fn channels_of(alloc: Global, products: &[(Name, Name)]) -> Result<Named<()>, AllocError>
+pub(crate) fn channels_of(alloc: Global, products: &Pairs) -> Result<Named<()>, AllocError>
     ensures { IfOk result (λ channels. names channels ≡ first_uses [] (flat_map (λ (p : List ℕ × List ℕ). p.0 ∷ p.1 ∷ []) products.now)) }
 {
     let mut channels = Named::new(alloc);
-    for product in products {
-        add(alloc, &mut channels, product)?;
+    for i in 0..products.len() {
+        let (x, y) = products.at(i);
+        add(alloc, &mut channels, x, y)?;
     }
     Ok(channels)
 }
@@ -77,12 +79,25 @@ fn first_chan<'a>(stands: &'a [Here<'a>], name: &[u8]) -> Option<&'a Chan>
     None
 }
 
+// Whether a station has another band under a name than this one.
+fn has_another(here: &Here, first: Option<&Chan>, name: &[u8]) -> bool
+    ensures { result ≡ are_different (option_copied first.entry) (chan_with here.now.pass.now name.now) }
+{
+    are_different(first, chan_with(here.pass, name))
+}
+
+// Whether one of some stations has another band under a name than this one.
+fn have_another(stands: &[Here], first: Option<&Chan>, name: &[u8]) -> bool
+    ensures { result ≡ list_any (λ (h : Here). are_different (option_copied first.entry) (chan_with h.pass.now name.now)) stands.now }
+{
+    stands.iter().any(|here| has_another(here, first, name))
+}
+
 // Whether a channel differs at two of some stations.
 fn differs(stands: &[Here], name: &[u8]) -> bool
     ensures { result ≡ differ (chans_under (stands_of stands.now) name.now) }
 {
-    let first = first_chan(stands, name);
-    stands.iter().any(|here| are_different(first, chan_with(here.pass, name)))
+    have_another(stands, first_chan(stands, name), name)
 }
 
 // Whether a scan is taken, and a channel differs at two of its stations.
@@ -109,21 +124,30 @@ pub(crate) fn channel_differs(places: &[Place], channels: &Named<()>) -> Option<
 }
 
 // Whether the channels of a product differ.
-fn is_unlike(stands: &[Here], product: &(Name, Name)) -> bool
-    ensures { result ≡ are_different (slice_get (chans_under (stands_of stands.now) product.now.0) 0) (slice_get (chans_under (stands_of stands.now) product.now.1) 0) }
+fn is_unlike(stands: &[Here], x: &[u8], y: &[u8]) -> bool
+    ensures { result ≡ are_different (slice_get (chans_under (stands_of stands.now) x.now) 0) (slice_get (chans_under (stands_of stands.now) y.now) 0) }
 {
-    are_different(first_chan(stands, product.0.bytes()), first_chan(stands, product.1.bytes()))
+    are_different(first_chan(stands, x), first_chan(stands, y))
 }
 
 // Whether a scan is taken, and the channels of a product differ.
-fn has_unlike_product(place: &Place, products: &[(Name, Name)]) -> bool
+fn has_unlike_product(place: &Place, products: &Pairs) -> bool
     ensures { result ≡ has_unlike_product products.now (visit_of place.now) }
 {
-    place.taken && products.iter().any(|product| is_unlike(&place.stands, product))
+    if !place.taken {
+        return false;
+    }
+    for i in 0..products.len() {
+        let (x, y) = products.at(i);
+        if is_unlike(&place.stands, x, y) {
+            return true;
+        }
+    }
+    false
 }
 
 /// The first scan in which the channels of a product differ.
-pub(crate) fn product_differs(places: &[Place], products: &[(Name, Name)]) -> Option<usize>
+pub(crate) fn product_differs(places: &[Place], products: &Pairs) -> Option<usize>
     ensures { result ≡ position (λ (p : Place). has_unlike_product products.now (visit_of p)) places.now }
 {
     places.iter().position(|place| has_unlike_product(place, products))

@@ -6,10 +6,12 @@
 
 mod channels;
 mod fault;
+mod frames;
 mod names;
 mod parts;
 mod places;
 mod rates;
+mod spans;
 mod stands;
 mod takes;
 

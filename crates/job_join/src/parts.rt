@@ -3,8 +3,7 @@ ghost use Rattle.std.specs.Prelude.{◌≡◌};
 ghost use Rattle.vex_reader.specs.File.{names};
 ghost use Rattle.job_text.specs.Ranges.{IsJob};
 
-use job_text::{Job, Station};
-use num_time::Name;
+use job_text::{Job, Pairs, Station};
 use vex_reader::Named;
 
 /// The stations, in the order of their lines.
@@ -12,7 +11,8 @@ pub(crate) fn stations(job: &Job) -> &[Station]
     ensures value { result.now ≡ job.now.stations }
     ensures ranges { IsJob job.now }
 {
-    &job.stations
+    let _ = job.knot;
+    job.stations.items()
 }
 
 /// The names that the job takes.
@@ -23,7 +23,7 @@ pub(crate) fn takes(job: &Job) -> &Named<()>
 }
 
 /// The products, each by its two channels.
-pub(crate) fn products(job: &Job) -> &[(Name, Name)]
+pub(crate) fn products(job: &Job) -> &Pairs
     ensures { result.now ≡ job.now.products }
 {
     &job.products
@@ -37,7 +37,7 @@ pub(crate) fn knot(job: &Job) -> u32
 }
 
 /// The samples in an epoch.
-pub(crate) fn epoch(job: &Job) -> u64
+pub(crate) fn epoch(job: &Job) -> u32
     ensures { result ≡ job.now.epoch }
 {
     job.epoch

@@ -1,7 +1,8 @@
 //! The sample rate of a job, and its scans with another one.
 ghost use Rattle.std.specs.Prelude.{◌≡◌, ◌==◌, not, map};
-ghost use Rattle.std.specs.List.{position};
+ghost use Rattle.std.specs.List.{list_any, position};
 ghost use Rattle.job_join.specs.declared.places.Place.{Place};
+ghost use Rattle.job_join.specs.declared.stands.Here.{Here};
 ghost use Rattle.job_join.specs.Places.{visit_of, first_rate, rate_among, has_other_rate};
 
 use crate::places::Place;
@@ -37,11 +38,21 @@ fn is_other(here: &Here, rate: u32) -> bool
     here.pass.rate != rate
 }
 
+// Whether one of some stations has another rate.
+fn have_other_rate(stands: &[Here], rate: u32) -> bool
+    ensures { result ≡ list_any (λ (h : Here). not (h.pass.now.rate == rate)) stands.now }
+{
+    stands.iter().any(|here| is_other(here, rate))
+}
+
 // Whether a scan is taken, and a station in it has another rate.
 fn has_other_rate(place: &Place, rate: u32) -> bool
     ensures { result ≡ has_other_rate rate (visit_of place.now) }
 {
-    place.taken && place.stands.iter().any(|here| is_other(here, rate))
+    if !place.taken {
+        return false;
+    }
+    have_other_rate(&place.stands, rate)
 }
 
 /// The first scan in which a station has another rate.

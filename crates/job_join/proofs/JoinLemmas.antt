@@ -1,15 +1,19 @@
 -- What is found of the scans as the program holds them is what is found of the schedule.
 use Rattle.std.proofs.Common.{◌≡◌, ℕ, ◌+◌, ◌<◌, ◌==◌, Bool, true, false, not, cond, List, [], ◌∷◌, ◌++◌, map, filter, fold, max, flat_map, find, None, Some, Option, option_map, unwrap_or, ap, refl, sym, ◌∙◌, bytes_eq, is_some, ◌||◌, ◌&&◌, slice_get, arith}
 use Rattle.std.specs.List.{list_any, position, position_from}
+use Rattle.std.specs.Option.{option_or}
+use Rattle.std.proofs.lemmas.List.{map-id}
 use Rattle.std.proofs.lemmas.List.Folds.{fold-map}
 use Rattle.std.proofs.lemmas.Iterator.Adapters.{position_from-zero}
 use Rattle.vex_schedule.specs.declared.scan.Pass.{Pass}
 use Rattle.vex_schedule.specs.declared.scan.Scan.{Scan}
 use Rattle.job_text.specs.Job.{JobFields, StationFields}
+use Rattle.job_join.specs.declared.fault.JoinFault.{JoinFault}
 use Rattle.job_join.specs.declared.places.Place.{Place}
 use Rattle.job_join.specs.declared.stands.Here.{Here}
 use Rattle.job_join.specs.Standing.{Stand, is_taken, taken, pass_with, stands_in, unknown_station, rate_of}
 use Rattle.job_join.specs.Channels.{channels_of, chans_in}
+use Rattle.job_join.specs.Joined.{first_there}
 use Rattle.job_join.specs.Differing.{rate_differs, channel_differs, product_differs}
 use Rattle.job_join.specs.Spans.{end_sample, samples_of}
 use Rattle.job_join.specs.Places.{stand_of, stands_of, Visit, visit_in, visit_of, has_key, first_rate, rate_among, has_other_rate, has_other_band, has_unlike_product}
@@ -97,3 +101,23 @@ pub samples_of-stands : (job : JobFields) (rate : ℕ) (scan : Scan) (hs : List 
 unfolding samples_of
 samples_of-stands job rate scan hs same =
     sym (fold-map (λ most (s : Stand). max most (end_sample rate s.pass)) stand_of 0 hs) ∙ ap (fold (λ most (s : Stand). max most (end_sample rate s.pass)) 0) same
+
+map-map : {X Y Z : Type 0} (g : Y → Z) (f : X → Y) (xs : List X) → map g (map f xs) ≡ map (λ x. g (f x)) xs
+map-map g f [] = refl
+map-map g f (x ∷ xs) = ap (λ ys. g (f x) ∷ ys) (map-map g f xs)
+
+-- the scans that are held are the schedule's
+pub scans-held : (job : JobFields) (scans : List Scan) (places : List Place) → map visit_of places ≡ map (visit_in job) scans → map (λ (p : Place). p.scan.now) places ≡ scans
+scans-held job scans places whole =
+    let scan_of : Visit → Scan = λ v. v.scan in
+    sym (map-map scan_of visit_of places) ∙ ap (map scan_of) whole ∙ map-map scan_of (visit_in job) scans ∙ map-id scans
+
+-- the first of six causes
+pub first_there-or : (a b c d e f : Option JoinFault) → option_or (option_or (option_or (option_or (option_or a b) c) d) e) f ≡ first_there (a ∷ b ∷ c ∷ d ∷ e ∷ f ∷ [])
+first_there-or (Some x) b c d e f = refl
+first_there-or None (Some x) c d e f = refl
+first_there-or None None (Some x) d e f = refl
+first_there-or None None None (Some x) e f = refl
+first_there-or None None None None (Some x) f = refl
+first_there-or None None None None None (Some x) = refl
+first_there-or None None None None None None = refl

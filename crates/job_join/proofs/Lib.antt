@@ -4,6 +4,7 @@ pub mod TakesLemmas
 pub mod StandsLemmas
 pub mod ChannelsLemmas
 pub mod JoinLemmas
+pub mod LimitsLemmas
 pub mod RangesLists
 pub mod RangesBaselines
 pub mod RangesStands

@@ -6,3 +6,4 @@ pub mod Modelled
 pub mod Limits
 pub mod Joined
 pub mod Places
+pub mod Joining

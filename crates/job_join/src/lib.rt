@@ -7,6 +7,8 @@
 mod channels;
 mod fault;
 mod frames;
+mod joining;
+mod limits;
 mod names;
 mod parts;
 mod places;

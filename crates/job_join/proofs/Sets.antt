@@ -1,8 +1,8 @@
 -- Sets of names.
-use Rattle.std.proofs.Common.{◌≡◌, ℕ, ◌+◌, ◌<◌, Bool, true, false, cond, List, [], ◌∷◌, take, length, get_or, None, Some, Option, ap, refl, sym, ◌∙◌, bytes_eq, is_some, ◌||◌, slice_get, map}
+use Rattle.std.proofs.Common.{◌≡◌, ℕ, ◌+◌, ◌<◌, Bool, true, false, cond, List, [], ◌∷◌, take, length, get_or, None, Some, Option, ap, refl, sym, ◌∙◌, bytes_eq, is_some, ◌||◌, slice_get, map, ◌++◌, arith}
 use Rattle.std.specs.List.{list_any}
 use Rattle.std.proofs.lemmas.Cmp.{nat_list_eq_equiv}
-use Rattle.std.proofs.lemmas.List.{get_or-map}
+use Rattle.std.proofs.lemmas.List.{get_or-map, length-map, map_more}
 use Rattle.std.proofs.lemmas.Option.{slice_get_within, get_or_from_slice_get}
 use Rattle.std.proofs.lemmas.List.Folds.{list_any_more}
 use Rattle.std.proofs.lemmas.Slice.Eq.{bytes_eq-Decides}
@@ -76,3 +76,14 @@ get_or-names {A} xs i x d is =
 pub any-map : {X Y : Type 0} (p : Y → Bool) (h : X → Y) (xs : List X) → list_any p (map h xs) ≡ list_any (λ x. p (h x)) xs
 any-map p h [] = refl
 any-map p h (x ∷ xs) = ap (λ t. p (h x) || t) (any-map p h xs)
+
+-- what is made of the names, one more of them
+pub map-names : {A B : Type 0} (f : List ℕ → B) (xs : List (List ℕ × A)) (i : ℕ) (x : List ℕ × A) (ys zs : List B) → slice_get xs i ≡ Some x → ys ≡ map f (take i (names xs)) → zs ≡ ys ++ f x.0 ∷ []
+    → zs ≡ map f (take (i + 1) (names xs))
+map-names {A} f xs i x ys zs is so_far new =
+    let less : i < length xs = slice_get_within xs i x is in
+    let long : length (names xs) ≡ length xs = length-map xs (λ (y : List ℕ × A). y.0) in
+    let here : get_or (names xs) i x.0 ≡ x.0 = get_or-names xs i x x.0 is in
+    new ∙ ap (λ front. front ++ f x.0 ∷ []) so_far
+    ∙ ap (λ n. map f (take i (names xs)) ++ f n ∷ []) (sym here)
+    ∙ sym (map_more f (names xs) i x.0 (omega arith))

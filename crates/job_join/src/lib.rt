@@ -12,6 +12,7 @@ mod limits;
 mod names;
 mod parts;
 mod places;
+mod plans;
 mod rates;
 mod spans;
 mod stands;

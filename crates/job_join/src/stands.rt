@@ -23,8 +23,8 @@ pub(crate) struct Here<'a> {
     pub pass: &'a Pass,
 }
 
-// Puts a number under a key that has none.
-fn number(alloc: Global, numbers: &mut Named<usize>, key: &[u8], i: usize) -> Result<(), AllocError>
+/// Puts a number under a key that has none.
+pub(crate) fn number(alloc: Global, numbers: &mut Named<usize>, key: &[u8], i: usize) -> Result<(), AllocError>
     ensures { OnOk result ((q : List ℕ) → named numbers.new q ≡ option_or (named numbers.old q) (if bytes_eq key.now q then Some i else None)) }
 {
     if numbers.has(key) {

@@ -5,6 +5,7 @@ pub mod StandsLemmas
 pub mod ChannelsLemmas
 pub mod JoinLemmas
 pub mod LimitsLemmas
+pub mod PlansLemmas
 pub mod RangesLists
 pub mod RangesBaselines
 pub mod RangesStands

@@ -7,3 +7,4 @@ pub mod Limits
 pub mod Joined
 pub mod Places
 pub mod Joining
+pub mod Planned

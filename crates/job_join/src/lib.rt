@@ -9,6 +9,7 @@ mod fault;
 mod frames;
 mod joining;
 mod limits;
+mod lists;
 mod names;
 mod parts;
 mod places;

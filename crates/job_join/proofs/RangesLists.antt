@@ -5,6 +5,8 @@ use Rattle.std.proofs.Common.{◌≡◌, ◌∙◌, sym, ap, ℕ, zero, suc, ◌
 use Rattle.std.proofs.lemmas.Bool.{or_from}
 use Rattle.std.proofs.lemmas.List.Elements.{All-nil, All-cons, All-head, All-tail, All-append, All-map, All-filter, All-weaker}
 use Rattle.std.proofs.lemmas.List.FromFn.{length-enumerate_from, get_or-enumerate_from}
+pub use Rattle.job_plan.proofs.PairLemmas.{AllPairs-nil, AllPairs-cons, AllPairs-first, AllPairs-rest, AllPairs-map}
+use Rattle.job_plan.proofs.PairLemmas.{found}
 use Rattle.std.proofs.lemmas.Option.{slice_get-get_or, slice_get-map}
 
 -- ---- each element
@@ -126,12 +128,10 @@ All-from_enumerate P n (x ∷ xs) all =
 
 -- what is found of the things made of a list is made of one of them
 pub found-of : {X Y : Type 0} (p : Y → Bool) (f : X → Y) (P : X → Type 0) (xs : List X) → All P xs → is_some (find p (map f xs)) ≡ true → (x : X) × P x × (p (f x) ≡ true)
-found-of p f P [] all is = absurd cc
-found-of {X} p f P (x ∷ xs) all is = by (p (f x)) refl is (found-of p f P xs (All-tail P x xs all))
-  where
-    by : (b : Bool) → p (f x) ≡ b → is_some (cond b (Some (f x)) (find p (map f xs))) ≡ true → (is_some (find p (map f xs)) ≡ true → (x : X) × P x × (p (f x) ≡ true)) → (x : X) × P x × (p (f x) ≡ true)
-    by true passes found rest = (x, All-head P x xs all, passes)
-    by false passes found rest = rest found
+found-of {X} {Y} p f P xs all is =
+    let made : All (λ (y : Y). (x : X) × P x × (f x ≡ y)) (map f xs) = All-map (λ (y : Y). (x : X) × P x × (f x ≡ y)) f xs (λ k d less. (get_or xs k d, all k d less, refl)) in
+    let one : (y : Y) × ((x : X) × P x × (f x ≡ y)) × (p y ≡ true) = found p (λ (y : Y). (x : X) × P x × (f x ≡ y)) (map f xs) made is in
+    (one.1.0, one.1.1, ap p one.1.2 ∙ one.2)
 
 pub there-of : {X Y : Type 0} (p : X → Y → Bool) (f : X → Y) → ((x : X) → p x (f x) ≡ true) → (xs : List X) → All (λ x. is_some (find (p x) (map f xs)) ≡ true) xs
 there-of {X} p f passes xs k d within =
@@ -163,37 +163,18 @@ enumerate-there {X} xs k d less =
 -- ---- each two elements
 
 module _ {X : Type 0} (R : X → X → Type 0) where
-  pub AllPairs-nil : AllPairs R []
-  AllPairs-nil i j d less within = absurd (omega arith)
-
-  pub AllPairs-cons : (x : X) (xs : List X) → All (R x) xs → AllPairs R xs → AllPairs R (x ∷ xs)
-  AllPairs-cons x xs first rest i zero d less within = absurd (omega arith)
-  AllPairs-cons x xs first rest zero (suc j) d less within = first j d (omega arith)
-  AllPairs-cons x xs first rest (suc i) (suc j) d less within = rest i j d (omega arith) (omega arith)
-
-  pub AllPairs-first : (x : X) (xs : List X) → AllPairs R (x ∷ xs) → All (R x) xs
-  AllPairs-first x xs all k d within = all zero (suc k) d (omega arith) (omega arith)
-
-  pub AllPairs-rest : (x : X) (xs : List X) → AllPairs R (x ∷ xs) → AllPairs R xs
-  AllPairs-rest x xs all i j d less within = all (suc i) (suc j) d (omega arith) (omega arith)
-
   pub AllPairs-append : (xs ys : List X) → AllPairs R xs → AllPairs R ys → All (λ x. All (R x) ys) xs → AllPairs R (xs ++ ys)
   AllPairs-append [] ys all more across = more
   AllPairs-append (x ∷ xs) ys all more across =
-      AllPairs-cons x (xs ++ ys) (All-append (R x) xs ys (AllPairs-first x xs all) (All-head (λ x. All (R x) ys) x xs across))
-      (AllPairs-append xs ys (AllPairs-rest x xs all) more (All-tail (λ x. All (R x) ys) x xs across))
-
-  pub AllPairs-map : {Y : Type 0} (f : Y → X) (ys : List Y) → AllPairs (λ x y. R (f x) (f y)) ys → AllPairs R (map f ys)
-  AllPairs-map f [] all = AllPairs-nil
-  AllPairs-map f (y ∷ ys) all =
-      AllPairs-cons (f y) (map f ys) (All-map (R (f y)) f ys (λ k d within. all zero (suc k) d (omega arith) (omega arith))) (AllPairs-map f ys (λ i j d less within. all (suc i) (suc j) d (omega arith) (omega arith)))
+      AllPairs-cons R x (xs ++ ys) (All-append (R x) xs ys (AllPairs-first R x xs all) (All-head (λ x. All (R x) ys) x xs across))
+      (AllPairs-append xs ys (AllPairs-rest R x xs all) more (All-tail (λ x. All (R x) ys) x xs across))
 
   pub AllPairs-filter : (p : X → Bool) (xs : List X) → AllPairs R xs → AllPairs R (filter p xs)
-  AllPairs-filter p [] all = AllPairs-nil
-  AllPairs-filter p (x ∷ xs) all = by (p x) (All-filter p (R x) xs (AllPairs-first x xs all)) (AllPairs-filter p xs (AllPairs-rest x xs all))
+  AllPairs-filter p [] all = AllPairs-nil R
+  AllPairs-filter p (x ∷ xs) all = by (p x) (All-filter p (R x) xs (AllPairs-first R x xs all)) (AllPairs-filter p xs (AllPairs-rest R x xs all))
     where
       by : (b : Bool) → All (R x) (filter p xs) → AllPairs R (filter p xs) → AllPairs R (cond b (x ∷ filter p xs) (filter p xs))
-      by true first rest = AllPairs-cons x (filter p xs) first rest
+      by true first rest = AllPairs-cons R x (filter p xs) first rest
       by false first rest = rest
 
 pub IfSome-from : {X : Type 0} (o : Option X) (P : X → Type 0) → ((x : X) → o ≡ Some x → P x) → IfSome o P

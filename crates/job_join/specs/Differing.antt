@@ -27,8 +27,8 @@ channel_differs job scans =
 unfoldable pub product_differs : JobFields → List Scan → Option ℕ
 product_differs job scans =
     first_taken job scans (λ scan. list_any
-        (λ (p : List ℕ × List ℕ). are_different (slice_get (chans_in job scan p.0) 0) (slice_get (chans_in job scan p.1) 0))
-        job.products)
+    (λ (p : List ℕ × List ℕ). are_different (slice_get (chans_in job scan p.0) 0) (slice_get (chans_in job scan p.1) 0))
+    job.products)
 
 -- the first station whose frames do not go into a second
 unfoldable pub frame_rate : JobFields → List Scan → Option ℕ

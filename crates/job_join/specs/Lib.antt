@@ -8,3 +8,4 @@ pub mod Joined
 pub mod Places
 pub mod Joining
 pub mod Planned
+pub mod KindName

@@ -12,6 +12,39 @@ pub enum Quantity {
     Cells,
     Load,
     Epochs,
+    /// The bytes of a schedule.
+    Schedule,
+    /// The bytes of a job's text.
+    Job,
+    /// The bytes of a record file that is shown.
+    Records,
+    /// The slots of all recordings.
+    Slots,
+}
+
+impl Quantity {
+    ghost use Rattle.std.specs.Prelude.{◌≡◌};
+    ghost use Rattle.job_join.specs.KindName.{quantity_name};
+
+    /// The quantity's name, in small letters.
+    pub fn name(self) -> &'static str
+        ensures { result.now ≡ quantity_name self }
+    {
+        match self {
+            Quantity::Stations => "stations",
+            Quantity::Products => "products",
+            Quantity::Channels => "channels",
+            Quantity::Samples => "samples",
+            Quantity::Seconds => "seconds",
+            Quantity::Cells => "cells",
+            Quantity::Load => "load",
+            Quantity::Epochs => "epochs",
+            Quantity::Schedule => "schedule",
+            Quantity::Job => "job",
+            Quantity::Records => "records",
+            Quantity::Slots => "slots",
+        }
+    }
 }
 
 /// The first cause for which a job and a schedule do not go together. A take, a station or a scan is given by its place,
@@ -48,4 +81,27 @@ pub enum JoinFault {
     /// Out of memory.
     #[error("Memory")]
     Memory,
+}
+
+impl JoinFault {
+    ghost use Rattle.std.specs.Prelude.{◌≡◌};
+    ghost use Rattle.job_join.specs.KindName.{fault_name};
+
+    /// The cause's name, as it is written above.
+    pub fn name(self) -> &'static str
+        ensures { result.now ≡ fault_name self }
+    {
+        match self {
+            JoinFault::UnknownScan(_) => "UnknownScan",
+            JoinFault::UnknownStation(_) => "UnknownStation",
+            JoinFault::RateDiffers(_) => "RateDiffers",
+            JoinFault::ChannelDiffers(_) => "ChannelDiffers",
+            JoinFault::ProductDiffers(_) => "ProductDiffers",
+            JoinFault::FrameRate(_) => "FrameRate",
+            JoinFault::NoModel(_) => "NoModel",
+            JoinFault::NoClock(_) => "NoClock",
+            JoinFault::Limit(_, _) => "Limit",
+            JoinFault::Memory => "Memory",
+        }
+    }
 }

@@ -11,7 +11,6 @@ pub(crate) fn stations(job: &Job) -> &[Station]
     ensures value { result.now ≡ job.now.stations }
     ensures ranges { IsJob job.now }
 {
-    let _ = job.knot;
     job.stations.items()
 }
 

@@ -1,5 +1,5 @@
 -- The plans that there are: the ranges of their numbers, and what holds between their parts.
-use Rattle.std.specs.Prelude.{◌≡◌, ℕ, ◌*◌, ◌%◌, ◌^◌, ◌≤◌, ◌<◌, pos, true, ⊤, List, length, AllPairs, Option, Some, None, is_some, slice_get}
+use Rattle.std.specs.Prelude.{◌≡◌, ℕ, ◌*◌, ◌%◌, ◌^◌, ◌≤◌, ◌<◌, pos, true, ⊤, length, AllPairs, Option, Some, None, is_some, slice_get}
 use Rattle.std.specs.List.{All}
 use Rattle.std.specs.Str.{IsUtf8}
 use Rattle.num_time.specs.Times.{IsSecond}

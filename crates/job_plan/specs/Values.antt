@@ -1,6 +1,6 @@
 -- The values of a scan: the recorded samples of each station's part in it, delayed and turned
 -- (Thompson, Moran and Swenson, chapters 8 and 9).
-use Rattle.std.specs.Prelude.{ℕ, ◌==◌, ℤ, pos, unsigned_abs, List, map, find, Option, None, option_and_then, slice_get, if◌then◌else◌, Bool, int_le, int_lt, ◌&&◌}
+use Rattle.std.specs.Prelude.{ℕ, ◌==◌, ℤ, pos, unsigned_abs, map, find, Option, None, option_and_then, slice_get, if◌then◌else◌, Bool, int_le, int_lt, ◌&&◌}
 use Rattle.corr_model.specs.Sample.{Timing, sample_of}
 use Rattle.corr_model.specs.Delay.{DelayModel}
 use Rattle.corr_model.specs.Cell.{Value, Samples}

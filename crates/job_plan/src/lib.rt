@@ -9,4 +9,6 @@
 
 mod plan;
 
-pub use plan::{Band, BaselinePlan, Plan, Plan0, ProductPlan, Recorded, ScanPlan, StationPlan, StayPlan};
+pub use plan::{
+    Band, BaselinePlan, Plan, Plan0, ProductPlan, Recorded, ScanPlan, StationPlan, StayPlan,
+};

@@ -6,3 +6,4 @@ pub mod Faults
 pub mod Answer
 pub mod Growing
 pub mod Places
+pub mod KindName

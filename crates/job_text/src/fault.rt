@@ -6,19 +6,42 @@ use thiserror::Error;
 #[derive(Clone, Copy, Debug, PartialEq, Eq, Error)]
 pub enum JobKind {
     /// A byte that no text has, another number of fields, or a field that is not written as it is to be.
-    #[error("a line is not written as its word asks")]
+    #[error("Line")]
     Line = 1,
-    #[error("a line says again what an earlier one says")]
+    /// A line says again what an earlier one says.
+    #[error("Double")]
     Double = 2,
-    #[error("a line is missing")]
+    /// A line is missing.
+    #[error("Missing")]
     Missing = 3,
     /// No word of a job, or a station or a channel that no earlier line names.
-    #[error("a word or a name is not known")]
+    #[error("Unknown")]
     Unknown = 4,
-    #[error("a number, a time or a name is out of its range")]
+    /// A number, a time or a name is out of its range.
+    #[error("Range")]
     Range = 5,
-    #[error("out of memory")]
+    /// Out of memory.
+    #[error("Memory")]
     Memory = 6,
+}
+
+impl JobKind {
+    ghost use Rattle.std.specs.Prelude.{◌≡◌};
+    ghost use Rattle.job_text.specs.KindName.{kind_name};
+
+    /// The rule's name, as it is written above.
+    pub fn name(self) -> &'static str
+        ensures { result.now ≡ kind_name self }
+    {
+        match self {
+            JobKind::Line => "Line",
+            JobKind::Double => "Double",
+            JobKind::Missing => "Missing",
+            JobKind::Unknown => "Unknown",
+            JobKind::Range => "Range",
+            JobKind::Memory => "Memory",
+        }
+    }
 }
 
 /// The first fault, and its line, counted from 1; a missing line and want of memory are at 0.

@@ -15,6 +15,7 @@ pub enum Piece<'a> {
     Bytes(&'a [u8]),
     Number(u64),
     Signed(i64),
+    Wide(u128),
 }
 
 /// Appends the pieces, one after another, in stretches of up to 8,192 bytes. Where the sink fails, what was
@@ -46,6 +47,7 @@ impl Stretch {
             Piece::Bytes(bytes) => self.put(bytes, out),
             Piece::Number(n) => self.put(Buffer::new().format(*n).as_bytes(), out),
             Piece::Signed(n) => self.put(Buffer::new().format(*n).as_bytes(), out),
+            Piece::Wide(n) => self.put(Buffer::new().format(*n).as_bytes(), out),
         }
     }
 }

@@ -3,3 +3,4 @@ pub mod First
 pub mod Shapes
 pub mod Grammar
 pub mod Laws
+pub mod KindName

@@ -5,14 +5,35 @@ use thiserror::Error;
 /// Which rule a text breaks.
 #[derive(Clone, Copy, Debug, PartialEq, Eq, Error)]
 pub enum LexKind {
-    #[error("a quoted text with no end")]
+    /// A quoted text with no end.
+    #[error("OpenQuote")]
     OpenQuote = 1,
-    #[error("a literal whose tag or end is missing")]
+    /// A literal whose tag or end is missing.
+    #[error("OpenLiteral")]
     OpenLiteral = 2,
-    #[error("a control character")]
+    /// A control character.
+    #[error("BadByte")]
     BadByte = 3,
-    #[error("out of memory")]
+    /// Out of memory.
+    #[error("Memory")]
     Memory = 4,
+}
+
+impl LexKind {
+    ghost use Rattle.std.specs.Prelude.{◌≡◌};
+    ghost use Rattle.vex_lex.specs.KindName.{kind_name};
+
+    /// The rule's name, as it is written above.
+    pub fn name(self) -> &'static str
+        ensures { result.now ≡ kind_name self }
+    {
+        match self {
+            LexKind::OpenQuote => "OpenQuote",
+            LexKind::OpenLiteral => "OpenLiteral",
+            LexKind::BadByte => "BadByte",
+            LexKind::Memory => "Memory",
+        }
+    }
 }
 
 /// The rule that a text breaks first, and where: the byte at which the quoted text or the literal

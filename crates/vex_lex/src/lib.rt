@@ -12,8 +12,6 @@ mod ends;
 mod fault;
 pub mod laws;
 mod scan;
-#[cfg(test)]
-mod tests;
 mod token;
 
 pub use fault::{LexFault, LexKind};

@@ -1,4 +1,5 @@
-mod NamedLemmas
+pub mod NamedLemmas
 mod PartLemmas
 mod ReadingLemmas
 mod AnswerLemmas
+mod CountLemmas

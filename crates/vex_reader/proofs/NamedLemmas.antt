@@ -5,6 +5,7 @@ use Rattle.std.proofs.lemmas.Option.{slice_get-map}
 use Rattle.std.specs.Global.{Vec}
 use Rattle.std.specs.List.{IsDistinct, AllByRecursion, AllPairs}
 use Rattle.std.specs.Map.{keys_of, lookup}
+use Rattle.std.proofs.lemmas.Bool.{false≢true}
 use Rattle.std.proofs.lemmas.Cmp.{nat_list_eq_equiv}
 use Rattle.std.proofs.lemmas.Slice.Eq.{bytes_eq-Decides}
 use Rattle.std.proofs.lemmas.Map.Made.{AllPairs-from_IsDistinct}
@@ -88,3 +89,25 @@ module _ {A : Type 0} where
           → put (cond b ((x.0, thing) ∷ xs) (x ∷ put xs name thing)) name other ≡ cond b ((x.0, other) ∷ xs) (x ∷ put xs name other)
       by true e rest = λ i. cond (e i) ((x.0, other) ∷ xs) ((x.0, thing) ∷ put xs name other)
       by false e rest = (λ i. cond (e i) ((x.0, other) ∷ put xs name thing) (x ∷ put (put xs name thing) name other)) ∙ ap (λ ys. x ∷ ys) rest
+
+bytes_same : (x y : List ℕ) → bytes_eq x y ≡ true → x ≡ y
+bytes_same x y e = (bytes_eq-Decides x y).0 e
+
+-- what stands under a name once another or the same was put
+pub named-put_at : {A : Type 0} (xs : List (List ℕ × A)) (name : List ℕ) (thing : A) (other : List ℕ) → named (put xs name thing) other ≡ cond (bytes_eq name other) (Some thing) (named xs other)
+named-put_at [] name thing other = refl
+named-put_at {A} (x ∷ xs) name thing other = by (bytes_eq x.0 name) refl (named-put_at xs name thing other)
+  where
+    first : (b c : Bool) → bytes_eq x.0 other ≡ b → bytes_eq name other ≡ c → bytes_eq x.0 name ≡ false → cond b (Some x.1) (cond c (Some thing) (named xs other)) ≡ cond c (Some thing) (cond b (Some x.1) (named xs other))
+    first true true e f differ = absurd (let same : x.0 ≡ name = bytes_same x.0 other e ∙ sym (bytes_same name other f) in false≢true (sym differ ∙ (bytes_eq-Decides x.0 name).1 same))
+    first true false e f differ = refl
+    first false c e f differ = refl
+
+    by : (b : Bool) → bytes_eq x.0 name ≡ b → named (put xs name thing) other ≡ cond (bytes_eq name other) (Some thing) (named xs other)
+        → named (cond b ((x.0, thing) ∷ xs) (x ∷ put xs name thing)) other ≡ cond (bytes_eq name other) (Some thing) (named (x ∷ xs) other)
+    by true e rest = rw (bytes_same x.0 name e) (again (bytes_eq name other))
+      where
+        again : (c : Bool) → cond c (Some thing) (named xs other) ≡ cond c (Some thing) (cond c (Some x.1) (named xs other))
+        again true = refl
+        again false = refl
+    by false e rest = ap (λ o. cond (bytes_eq x.0 other) (Some x.1) o) rest ∙ first (bytes_eq x.0 other) (bytes_eq name other) refl refl e

@@ -5,3 +5,5 @@ pub mod Reading
 pub mod ReadingState
 pub mod Grammar
 pub mod Laws
+pub mod Counts
+pub mod KindName

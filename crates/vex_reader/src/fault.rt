@@ -9,20 +9,48 @@ pub enum VexKind {
     /// A rule of the tokens. `LexKind::Memory` is not among them.
     #[error("{0}")]
     Lex(LexKind),
-    #[error("no VEX_rev = 1.5")]
+    /// The first statement is not `VEX_rev = 1.5`.
+    #[error("Revision")]
     Revision,
-    #[error("no statement of VEX")]
+    /// No statement of VEX.
+    #[error("Statement")]
     Statement,
-    #[error("a def or scan that is not ended")]
+    /// A def or scan that is not ended.
+    #[error("OpenDef")]
     OpenDef,
-    #[error("a def that was there")]
+    /// A def that was there.
+    #[error("DoubleDef")]
     DoubleDef,
-    #[error("a scan that was there")]
+    /// A scan that was there.
+    #[error("DoubleScan")]
     DoubleScan,
-    #[error("outside a block, a def or a scan")]
+    /// Outside a block, a def or a scan.
+    #[error("Outside")]
     Outside,
-    #[error("out of memory")]
+    /// Out of memory.
+    #[error("Memory")]
     Memory,
+}
+
+impl VexKind {
+    ghost use Rattle.std.specs.Prelude.{◌≡◌};
+    ghost use Rattle.vex_reader.specs.KindName.{kind_name};
+
+    /// The rule's name, as it is written above.
+    pub fn name(self) -> &'static str
+        ensures { result.now ≡ kind_name self }
+    {
+        match self {
+            VexKind::Lex(kind) => kind.name(),
+            VexKind::Revision => "Revision",
+            VexKind::Statement => "Statement",
+            VexKind::OpenDef => "OpenDef",
+            VexKind::DoubleDef => "DoubleDef",
+            VexKind::DoubleScan => "DoubleScan",
+            VexKind::Outside => "Outside",
+            VexKind::Memory => "Memory",
+        }
+    }
 }
 
 /// The rule that a text breaks, and where: the byte at which a statement begins, or the text's length. Want of memory is at 0.

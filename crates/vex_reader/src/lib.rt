@@ -21,6 +21,3 @@ pub use fault::{VexFault, VexKind};
 pub use file::{Block, Item, Statement, Value, VexFile};
 pub use named::Named;
 pub use pass::read;
-
-#[cfg(test)]
-mod tests;

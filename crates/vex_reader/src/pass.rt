@@ -3,6 +3,7 @@ ghost use Rattle.std.specs.Prelude.{◌≡◌, ◌⊎◌, None, Some, ◌+◌, �
 ghost use Rattle.vex_lex.specs.declared.token.Token.{Token};
 ghost use Rattle.vex_reader.specs.declared.fault.VexFault.{VexFault};
 ghost use Rattle.vex_reader.specs.declared.file.VexFile.{VexFile};
+ghost use Rattle.vex_reader.specs.Counts.{HasAtMostScans};
 ghost use Rattle.vex_reader.specs.Fault.{out_of_memory};
 ghost use Rattle.vex_reader.specs.Reading.{fault_of, after, place_of, shape_at, reading};
 ghost use Rattle.vex_reader.specs.Grammar.{Answers, IsFileOf, IsVexFaultOf, GivesFile, GivesVexFault};
@@ -65,6 +66,7 @@ fn read_tokens(alloc: Global, text: &[u8], tokens: &[Token]) -> Result<VexFile, 
 fn read_text(alloc: Global, text: &[u8]) -> Result<VexFile, VexFault>
     ensures file { IfOk result (IsFileOf text.now) }
     ensures fault { IfErr result (λ fault. (fault ≡ out_of_memory) ⊎ IsVexFaultOf text.now fault) }
+    ensures scans { IfOk result (λ file. HasAtMostScans (length text.now) file.blocks) }
 {
     let tokens = vex_lex::tokens(alloc, text)?;
     read_tokens(alloc, text, &tokens)
@@ -75,6 +77,9 @@ pub fn read(alloc: Global, text: &[u8]) -> Result<VexFile, VexFault>
     // The file is what the text's statements say, and the fault is that of the text, or want of memory.
     ensures file { IfOk result (IsFileOf text.now) }
     ensures fault { IfErr result (λ fault. (fault ≡ out_of_memory) ⊎ IsVexFaultOf text.now fault) }
+
+    // Each scan takes bytes of its own.
+    ensures scans { IfOk result (λ file. HasAtMostScans (length text.now) file.blocks) }
 
     // A text that stands for a file is refused for want of memory alone, and one with a fault always.
     ensures reads { (file : VexFile) → IsFileOf text.now file → GivesFile result file }

@@ -3,3 +3,5 @@ pub mod Names
 pub mod Setups
 pub mod Reading
 pub mod Turns
+pub mod Coverings
+pub mod LawLemmas

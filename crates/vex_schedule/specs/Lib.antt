@@ -6,3 +6,6 @@ pub mod Statements
 pub mod Schedule
 pub mod Sound
 pub mod Setups
+pub mod Covering
+pub mod KindName
+pub mod Laws

@@ -5,22 +5,51 @@ use thiserror::Error;
 /// What is wrong.
 #[derive(Clone, Copy, Debug, PartialEq, Eq, Error)]
 pub enum SchedKind {
-    #[error("no block $SCHED")]
+    /// There is no block `$SCHED`.
+    #[error("NoSched")]
     NoSched = 1,
-    #[error("a statement is missing")]
+    /// A statement is missing.
+    #[error("MissingStatement")]
     MissingStatement = 2,
-    #[error("a statement stands twice")]
+    /// A statement stands twice.
+    #[error("DoubleStatement")]
     DoubleStatement = 3,
-    #[error("no such def")]
+    /// There is no such def.
+    #[error("UnknownRef")]
     UnknownRef = 4,
-    #[error("a bad value")]
+    /// A value is not what its place asks for.
+    #[error("BadValue")]
     BadValue = 5,
-    #[error("a station stands twice")]
+    /// A station stands twice.
+    #[error("StationTwice")]
     StationTwice = 6,
-    #[error("a station stops before it starts, or starts before the scan")]
+    /// A station stops before it starts, or starts before the scan.
+    #[error("BadRange")]
     BadRange = 7,
-    #[error("out of memory")]
+    /// Out of memory.
+    #[error("Memory")]
     Memory = 8,
+}
+
+impl SchedKind {
+    ghost use Rattle.std.specs.Prelude.{◌≡◌};
+    ghost use Rattle.vex_schedule.specs.KindName.{kind_name};
+
+    /// The rule's name, as it is written above.
+    pub fn name(self) -> &'static str
+        ensures { result.now ≡ kind_name self }
+    {
+        match self {
+            SchedKind::NoSched => "NoSched",
+            SchedKind::MissingStatement => "MissingStatement",
+            SchedKind::DoubleStatement => "DoubleStatement",
+            SchedKind::UnknownRef => "UnknownRef",
+            SchedKind::BadValue => "BadValue",
+            SchedKind::StationTwice => "StationTwice",
+            SchedKind::BadRange => "BadRange",
+            SchedKind::Memory => "Memory",
+        }
+    }
 }
 
 /// The first fault, and the byte at which its statement begins. A statement that is missing is so at

@@ -8,7 +8,9 @@
 #![tactic(auto)]
 
 mod chans;
+mod covering;
 mod fault;
+pub mod laws;
 mod list;
 mod part;
 mod quantities;
@@ -24,6 +26,3 @@ pub use fault::{SchedFault, SchedKind};
 pub use list::ScanList;
 pub use scan::{Chan, Pass, Scan};
 pub use scans::schedule;
-
-#[cfg(test)]
-mod tests;

@@ -1,11 +1,14 @@
 //! The scans of a file.
-ghost use Rattle.std.specs.Prelude.{◌≡◌, All, map, IfOk};
+ghost use Rattle.std.specs.Prelude.{◌≡◌, All, map, length, codes, IfOk, IfSome};
 ghost use Rattle.num_time.specs.Times.{IsSecond};
+ghost use Rattle.vex_reader.specs.File.{named, names};
 ghost use Rattle.vex_schedule.specs.Answers.{Gives};
+ghost use Rattle.vex_schedule.specs.Covering.{IsCovering, AreCoverings};
 ghost use Rattle.vex_schedule.specs.Schedule.{start_of, pass_of, passes_of, scan_of, scans_of, schedule_of};
 ghost use Rattle.vex_schedule.specs.Setups.{AreSetups};
 ghost use Rattle.vex_schedule.specs.Sound.{IsStay, IsPass, IsScan, AreScans};
 
+use crate::covering::{Covering, coverings_of};
 use crate::fault::{SchedFault, SchedKind};
 use crate::list::ScanList;
 use crate::part::Setup;
@@ -37,15 +40,17 @@ fn pass_of(
     file: &VexFile,
     setups: &[Result<Setup, SchedFault>],
     mode: &Item,
+    covering: &Covering,
     stay: &Stay,
 ) -> Result<Pass, SchedFault>
     requires stay { IsStay stay.now }
     requires setups { AreSetups file.now setups.now }
+    requires covering { IsCovering mode.now.statements (length mode.now.statements) covering.now }
     ensures value { Gives (λ pass. pass) result (pass_of file.now mode.now stay.now) }
     ensures sound { IfOk result IsPass }
     ensures key { IfOk result (λ pass. pass.key ≡ stay.now.key) }
 {
-    let setup = setup_of(file, setups, mode, stay.key.bytes())?;
+    let setup = setup_of(file, setups, mode, covering, stay.key.bytes())?;
     let chans = setup.chans.share()?;
     let key = Name::new(alloc, stay.key.bytes())?;
     Ok(Pass {
@@ -65,17 +70,19 @@ fn passes_of(
     file: &VexFile,
     setups: &[Result<Setup, SchedFault>],
     mode: &Item,
+    covering: &Covering,
     stays: &[Stay],
 ) -> Result<ItemList<Pass>, SchedFault>
     requires stays { All IsStay stays.now }
     requires setups { AreSetups file.now setups.now }
+    requires covering { IsCovering mode.now.statements (length mode.now.statements) covering.now }
     ensures value { Gives (λ passes. passes) result (passes_of file.now mode.now stays.now) }
     ensures sound { IfOk result (All IsPass) }
     ensures keys { IfOk result (λ passes. map (λ pass. pass.key) passes ≡ map (λ stay. stay.key) stays.now) }
 {
     let mut passes = Vec::new(alloc);
     for stay in stays {
-        let pass = pass_of(alloc, file, setups, mode, stay)?;
+        let pass = pass_of(alloc, file, setups, mode, covering, stay)?;
         passes.push(pass)?;
     }
     Ok(ItemList::of(passes))
@@ -87,10 +94,12 @@ fn scan_of(
     alloc: Global,
     file: &VexFile,
     setups: &[Result<Setup, SchedFault>],
+    coverings: &[Covering],
     name: &[u8],
     scan: &Item,
 ) -> Result<Scan, SchedFault>
-    requires { AreSetups file.now setups.now }
+    requires setups { AreSetups file.now setups.now }
+    requires coverings { AreCoverings file.now coverings.now }
     ensures value { Gives (λ scan. scan) result (scan_of file.now name.now scan.now) }
     ensures sound { IfOk result IsScan }
     ensures name { IfOk result (λ scan. scan.name ≡ name.now) }
@@ -99,9 +108,9 @@ fn scan_of(
         return Err(SchedFault::new(SchedKind::BadValue, scan.at));
     }
     let second = start_of(scan)?;
-    let mode = mode_of(file, scan)?;
+    let (mode, covering) = mode_of(file, coverings, scan)?;
     let stays = stays_of(alloc, scan)?;
-    let passes = passes_of(alloc, file, setups, mode, &stays)?;
+    let passes = passes_of(alloc, file, setups, mode, covering, &stays)?;
     let name = Name::new(alloc, name)?;
     Ok(Scan {
         name,
@@ -116,16 +125,19 @@ fn scans_of(
     alloc: Global,
     file: &VexFile,
     setups: &[Result<Setup, SchedFault>],
+    coverings: &[Covering],
     items: &Named<Item>,
 ) -> Result<ItemList<Scan>, SchedFault>
-    requires { AreSetups file.now setups.now }
+    requires setups { AreSetups file.now setups.now }
+    requires coverings { AreCoverings file.now coverings.now }
     ensures value { Gives (λ scans. scans) result (scans_of file.now items.now) }
     ensures sound { IfOk result AreScans }
+    ensures names { IfOk result (λ scans. map (λ scan. scan.name) scans ≡ names items.now) }
 {
     let mut scans = Vec::new(alloc);
     for i in 0..items.len() {
         let (name, item) = items.at(i);
-        let scan = scan_of(alloc, file, setups, name, item)?;
+        let scan = scan_of(alloc, file, setups, coverings, name, item)?;
         scans.push(scan)?;
     }
     Ok(ItemList::of(scans))
@@ -134,12 +146,18 @@ fn scans_of(
 /// The scans of a file in its order, or the first fault.
 #[tactic(auto, unfolding(crate::specs::Schedule::schedule_of))]
 pub fn schedule(alloc: Global, file: &VexFile) -> Result<ScanList, SchedFault>
-    ensures { Gives (λ list. list.scans) result (schedule_of file.now) }
+    ensures value { Gives (λ list. list.scans) result (schedule_of file.now) }
+    // The scans are those of `$SCHED`: as many, under their names, in their order.
+    ensures names { IfOk result (λ list. IfSome (named file.now.blocks (codes "$SCHED"))
+        (λ block. map (λ scan. scan.name) list.scans ≡ names block.scans)) }
+    ensures count { IfOk result (λ list. IfSome (named file.now.blocks (codes "$SCHED"))
+        (λ block. length list.scans ≡ length block.scans)) }
 {
     let Some(block) = file.blocks.get(b"$SCHED") else {
         return Err(SchedFault::new(SchedKind::NoSched, 0));
     };
     let setups = setups_of(alloc, file)?;
-    let scans = scans_of(alloc, file, &setups, &block.scans)?;
+    let coverings = coverings_of(alloc, file)?;
+    let scans = scans_of(alloc, file, &setups, &coverings, &block.scans)?;
     Ok(ScanList { scans })
 }

@@ -4,14 +4,16 @@ ghost use Rattle.vex_reader.specs.File.{named, names};
 ghost use Rattle.vex_schedule.specs.declared.scan.Chan.{Chan};
 ghost use Rattle.vex_schedule.specs.Answers.{seen, out_of_memory, Gives};
 ghost use Rattle.vex_schedule.specs.Schedule.{defs_in, def_of, mode_of, setup_of, setup_rate, chan_of, chans_of, setup_in};
+ghost use Rattle.vex_schedule.specs.Covering.{IsCovering, AreCoverings};
 ghost use Rattle.vex_schedule.specs.Setups.{part_of, AreSetups};
 ghost use Rattle.vex_schedule.specs.Sound.{IsChan};
 
 use crate::chans::ChanList;
+use crate::covering::Covering;
 use crate::fault::{SchedFault, SchedKind};
 use crate::part::Setup;
 use crate::scan::Chan;
-use crate::statements::{first_with, only_setup, only_with};
+use crate::statements::{first_with, only_with};
 use crate::values::{chan_in, only_word, rate_in, word_at};
 use std::alloc::Global;
 use vex_reader::{Item, Named, Statement, VexFile};
@@ -34,16 +36,24 @@ fn def_place(file: &VexFile, block: &[u8], name: &[u8]) -> Option<usize>
     file.blocks.get(block)?.defs.place(name)
 }
 
-/// The mode of a scan.
+/// The mode of a scan, and what its refs cover.
 #[tactic(auto, unfolding(crate::specs::Schedule::mode_of))]
-pub(crate) fn mode_of<'a>(file: &'a VexFile, scan: &Item) -> Result<&'a Item, SchedFault>
-    ensures { seen (λ mode. mode.now) result ≡ mode_of file.now scan.now }
+pub(crate) fn mode_of<'a>(
+    file: &'a VexFile,
+    coverings: &'a [Covering],
+    scan: &Item,
+) -> Result<(&'a Item, &'a Covering), SchedFault>
+    requires { AreCoverings file.now coverings.now }
+    ensures value { seen (λ mode. mode.0.now) result ≡ mode_of file.now scan.now }
+    ensures covering { IfOk result (λ mode. IsCovering mode.0.now.statements (length mode.0.now.statements) mode.1.now) }
 {
     let statement = only_with(scan.statements.items(), b"mode", scan.at)?;
     let bad = SchedFault::new(SchedKind::BadValue, statement.at);
     let name = only_word(statement.values.items()).ok_or(bad)?;
     let unknown = SchedFault::new(SchedKind::UnknownRef, statement.at);
-    def_of(file, b"$MODE", name).ok_or(unknown)
+    let place = def_place(file, b"$MODE", name).ok_or(unknown)?;
+    let mode = def_of(file, b"$MODE", name).ok_or(unknown)?;
+    Ok((mode, &coverings[place]))
 }
 
 /// The sample rate of a setup.
@@ -139,12 +149,14 @@ pub(crate) fn setup_of<'a>(
     file: &VexFile,
     setups: &'a [Result<Setup, SchedFault>],
     mode: &Item,
+    covering: &Covering,
     key: &[u8],
 ) -> Result<&'a Setup, SchedFault>
-    requires { AreSetups file.now setups.now }
+    requires setups { AreSetups file.now setups.now }
+    requires covering { IsCovering mode.now.statements (length mode.now.statements) covering.now }
     ensures { seen (λ setup. part_of setup.now) result ≡ setup_of file.now mode.now key.now }
 {
-    let statement = only_setup(mode.statements.items(), key, mode.at)?;
+    let statement = covering.only_setup(mode, key)?;
     let bad = SchedFault::new(SchedKind::BadValue, statement.at);
     let name = word_at(statement.values.items(), 0).ok_or(bad)?;
     let unknown = SchedFault::new(SchedKind::UnknownRef, statement.at);

@@ -42,8 +42,8 @@ pub(crate) fn only_with<'a>(
     }
 }
 
-// Whether a text is there and is the wanted one.
-fn is_some_text(text: Option<&Name>, wanted: &[u8]) -> bool
+/// Whether a text is there and is the wanted one.
+pub(crate) fn is_some_text(text: Option<&Name>, wanted: &[u8]) -> bool
     ensures { result ≡ is_some_text wanted.now (option_copied text.entry) }
 {
     match text {
@@ -100,7 +100,7 @@ fn first_setup<'a>(
     None
 }
 
-/// The only statement that sets up a station, in a mode at a place.
+/// The only statement that sets up a station, in a mode at a place, by a walk over all of them.
 #[tactic(auto, unfolding(crate::specs::Statements::only))]
 pub(crate) fn only_setup<'a>(
     statements: &'a [Statement],

@@ -1,1 +1,11 @@
 pub mod HeadPieces
+pub mod PartLemmas
+pub mod FieldLemmas
+pub mod HeadReading
+pub mod PartForms
+pub mod HeadForms
+pub mod BaselineForms
+pub mod ScanForms
+pub mod RecordReading
+pub mod RecordForms
+pub mod FileForms

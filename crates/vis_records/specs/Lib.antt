@@ -1,1 +1,6 @@
 pub mod Heads
+pub mod Parts
+pub mod Content
+pub mod Reading
+pub mod Laws
+pub mod KindName

@@ -172,3 +172,113 @@ fn whole_stretches(rt: HostRuntime) -> Result<(), Fail> {
     assert_eq!(rt; sink.lengths, [7221, 8189, 8192, 8192, 24, 9, 0, 0]);
     Ok(())
 }
+
+// The record file of two stations of 64 samples at the highest level: 83 bytes of head, a record of two lags, an end.
+const FILE: [u8; 161] = [
+    b'V', b'L', b'B', b'I', b'V', b'I', b'S', b'1', //
+    2, 0, 0, 0, //
+    64, 0, 0, 0, 0, 0, 0, 0, //
+    64, 0, 0, 0, 0, 0, 0, 0, //
+    2, 0, 0, 0, //
+    1, 0, b'A', //
+    1, 0, b'B', //
+    1, 0, 0, 0, //
+    1, 0, b'X', //
+    1, 0, b'X', //
+    1, 0, 0, 0, //
+    1, 0, b'S', //
+    0x00, 0x3B, 0x3D, 0x4B, 0, 0, 0, 0, //
+    64, 0, 0, 0, 0, 0, 0, 0, //
+    1, 0, 0, 0, //
+    0, 0, 0, 0, //
+    1, 0, 0, 0, //
+    1, //
+    0, 0, 0, 0, //
+    0, 0, 0, 0, 0, 0, 0, 0, //
+    0, 0, 0, 0, //
+    0, 0, 0, 0, //
+    0x37, 2, 0, 0, 0, 0, 0, 0, //
+    0, 0, 0, 0, 0, 0, 0, 0, //
+    63, 0, 0, 0, 0, 0, 0, 0, //
+    0x40, 2, 0, 0, 0, 0, 0, 0, //
+    0, 0, 0, 0, 0, 0, 0, 0, //
+    64, 0, 0, 0, 0, 0, 0, 0, //
+    255, //
+    1, 0, 0, 0, 0, 0, 0, 0,
+];
+
+// A byte of the file, what stands there instead, the rule that this breaks, and where.
+const CHANGES: [(usize, u8, VisKind, u64); 20] = [
+    (7, b'2', VisKind::Magic, 0),
+    (8, 0, VisKind::Head, 8),
+    (8, 3, VisKind::Head, 8),
+    (12, 0, VisKind::Head, 12),
+    (20, 0, VisKind::Head, 20),
+    (28, 33, VisKind::Head, 28),
+    (32, 0, VisKind::Head, 32),
+    (38, 0, VisKind::Head, 38),
+    (59, 1, VisKind::Head, 55),
+    (68, 2, VisKind::Head, 63),
+    (71, 0, VisKind::Head, 71),
+    (75, 2, VisKind::Head, 75),
+    (79, 2, VisKind::Head, 79),
+    (83, 2, VisKind::Order, 83),
+    (84, 1, VisKind::Order, 84),
+    (88, 1, VisKind::Order, 88),
+    (96, 1, VisKind::Order, 96),
+    (100, 1, VisKind::Order, 100),
+    (152, 1, VisKind::Order, 152),
+    (153, 2, VisKind::Order, 153),
+];
+
+#[test]
+fn a_file(rt: HostRuntime) -> Result<(), Fail> {
+    let vis = read_all(rt.alloc(), &FILE)?;
+    assert_eq!(rt; vis.head().lags(), 2);
+    let wanted = [
+        Cell {
+            re: 567,
+            im: 0,
+            count: 63,
+        },
+        Cell {
+            re: 576,
+            im: 0,
+            count: 64,
+        },
+    ];
+    assert_eq!(rt; vis.cells(), wanted.as_slice());
+    let mut sink = MemSink::new(rt.alloc(), 200, Vec::new(rt.alloc()));
+    assert_eq!(rt; write_head(vis.head(), &mut sink), Ok(()));
+    assert_eq!(rt; Some(sink.bytes()), FILE.get(..83));
+    Ok(())
+}
+
+#[test]
+fn short_files(rt: HostRuntime) -> Result<(), Fail> {
+    for n in 0..FILE.len() {
+        let fault = read_all(rt.alloc(), &FILE[..n]).err().ok_or("a file")?;
+        assert_eq!(rt; (fault.kind, fault.at), (VisKind::Short, n as u64));
+    }
+    // a head that states the most scans, and has none
+    let mut text = FILE[..52].to_vec(rt.alloc())?;
+    text.as_mut_slice()[48..].fill(255);
+    let fault = read_all(rt.alloc(), &text).err().ok_or("a file")?;
+    assert_eq!(rt; (fault.kind, fault.at), (VisKind::Short, 52));
+    Ok(())
+}
+
+#[test]
+fn broken_files(rt: HostRuntime) -> Result<(), Fail> {
+    for (place, byte, kind, at) in CHANGES {
+        let mut text = FILE.to_vec(rt.alloc())?;
+        *text.get_mut(place).ok_or("no place")? = byte;
+        let fault = read_all(rt.alloc(), &text).err().ok_or("a file")?;
+        assert_eq!(rt; (fault.kind, fault.at), (kind, at));
+    }
+    let mut text = FILE.to_vec(rt.alloc())?;
+    text.push(0)?;
+    let fault = read_all(rt.alloc(), &text).err().ok_or("a file")?;
+    assert_eq!(rt; (fault.kind, fault.at), (VisKind::AfterEnd, 161));
+    Ok(())
+}

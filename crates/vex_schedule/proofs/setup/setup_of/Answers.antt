@@ -13,7 +13,7 @@ returns-in-Ok c =
     let word : word_at ref.values 0 ≡ Some c.in_ok-name.name.now = grind arith in
     ap (seen part_of) (sym c.in-Ok.is)
     ∙ setup_of-through c.args.file.now c.args.mode.now c.args.key.now ref c.in_ok-name.name.now c.args.setups.now c.in_ok-place.place c.index-setups-place.result
-    one word c.requires (search rules) c.index-setups-place.is (search rules)
+    one word c.requires.setups (search rules) c.index-setups-place.is (search rules)
 
 pub returns-in-Err : goal.returns-in-Err
 returns-in-Err c =
@@ -22,4 +22,4 @@ returns-in-Err c =
     let word : word_at ref.values 0 ≡ Some c.in_ok-name.name.now = grind arith in
     ap (seen part_of) (sym c.in-Err.is)
     ∙ setup_of-through c.args.file.now c.args.mode.now c.args.key.now ref c.in_ok-name.name.now c.args.setups.now c.in_ok-place.place c.index-setups-place.result
-    one word c.requires (search rules) c.index-setups-place.is (search rules)
+    one word c.requires.setups (search rules) c.index-setups-place.is (search rules)

@@ -1,0 +1,16 @@
+pub mod RowBodies
+pub mod StandLemmas
+pub mod KeepLemmas
+pub mod TextLemmas
+pub mod AppendLemmas
+pub mod PartLemmas
+pub mod BeginLemmas
+pub mod WriteLemmas
+pub mod FindLemmas
+pub mod CellLemmas
+pub mod CompareLemmas
+pub mod NumberLemmas
+pub mod ReadLemmas
+pub mod RowLemmas
+pub mod RunLemmas
+pub mod ToldLemmas

@@ -1,0 +1,147 @@
+-- What a write or a cut leaves of a journal's file.
+use Rattle.std.specs.Prelude.{option_map}
+use Rattle.std.proofs.Common.{◌≡◌, ◌≢◌, ◌⊎◌, inl, inr, ⊎_elim, ◌∙◌, ℕ, zero, suc, ◌+◌, ◌-◌, ◌<◌, ◌≤◌, max, min, true, false, List, [], ◌∷◌, ◌++◌, length, get_or, take, drop, replicate, Option, Some, None, refl, sym, ap, subst, arith, take-append-drop, length-append, append_assoc}
+use Rattle.std.proofs.lemmas.List.{take_at, drop_at, take_all, drop_all, append-nil, length-take, length-drop, get_or-take, get_or-drop, drop_more, take-take}
+use Rattle.std.proofs.lemmas.Grind.{same_number_lists, common_steps}
+use Rattle.std.proofs.lemmas.Bool.Decides.{nat_tests}
+use Rattle.dev_traits.specs.Images.{put_at, Torn, Shorn}
+use Rattle.dev_traits.specs.Told.{WhereTold}
+use Rattle.checkpoint_journal.specs.Image.{is_blank, reading, row_of}
+use Rattle.checkpoint_journal.specs.Runs.{KeepsBodies, KeepsFront, KeepsBlank, IsClosedHead}
+use Rattle.checkpoint_journal.specs.Standing.{Keeps}
+use Rattle.checkpoint_journal.proofs.RowLemmas.{row_of-closed}
+use Rattle.checkpoint_journal.proofs.FindLemmas.{begun_of, blank_short, blank_closed, reading-blank, reading-front}
+
+pub blank_means : (v : List ℕ) → is_blank v ≡ true → 1 < length v → get_or v 0 0 ≢ 1
+blank_means v blank long = grind (arith, nat_tests)
+
+short_or_long : (v : List ℕ) → (length v ≤ 1) ⊎ (1 < length v)
+short_or_long v = grind arith
+
+one_or_not : (x : ℕ) → (x ≡ 1) ⊎ (x ≢ 1)
+one_or_not x = grind arith
+
+-- a write over the head gate of a file of one byte at most
+pub blank_torn : (e : ℕ) (v image : List ℕ) → length v ≤ 1 → e ≤ 1 → Torn 0 e v image → is_blank image ≡ true
+blank_torn e v image short end torn = blank_short image (omega (arith, torn.no_longer))
+
+-- a cut to the head gate
+pub blank_shorn : (v image : List ℕ) → Shorn 1 v image → KeepsBlank v image
+blank_shorn v image shorn blank = ⊎_elim
+    (λ (short : length image ≤ 1). blank_short image short)
+    (λ (long : 1 < length image).
+    let same = shorn.front 0 (omega arith) (omega arith) in
+    let shut = blank_means v blank (omega (arith, shorn.no_longer)) in
+    blank_closed image (λ one. shut (sym same ∙ one)))
+    (short_or_long image)
+
+pub blank_joined : (u v w : List ℕ) → KeepsBlank u v → KeepsBlank v w → KeepsBlank u w
+blank_joined u v w first second blank = second (first blank)
+
+pub front_joined : (n : ℕ) (u v w : List ℕ) → KeepsFront n u v → KeepsFront n v w → KeepsFront n u w
+front_joined n u v w first second inside =
+    let a = first inside in
+    let b = second a.0 in
+    (b.0, b.1 ∙ a.1)
+
+pub front_same_one : (n : ℕ) (v : List ℕ) → KeepsFront n v v
+front_same_one n v inside = (inside, refl)
+
+-- a write behind the front
+pub front_torn : (n a e : ℕ) → n ≤ a → (v image : List ℕ) → Torn a e v image → KeepsFront n v image
+front_torn n a e below v image torn inside = (
+  omega (arith, torn.no_shorter),
+  same_number_lists (take n image) (take n v) (omega (arith, length-take n image, length-take n v, torn.no_shorter)) (λ i lt.
+    let in_n : i < n = omega (arith, length-take n image) in
+    get_or-take n image i 0 in_n ∙ torn.before i (omega arith) (omega arith) ∙ sym (get_or-take n v i 0 in_n)),
+)
+
+-- what stands in the front
+pub front_at : (n i : ℕ) (v image : List ℕ) → i < n → take n image ≡ take n v → get_or image i 0 ≡ get_or v i 0
+front_at n i v image below same = sym (get_or-take n image i 0 below) ∙ ap (λ (l : List ℕ). get_or l i 0) same ∙ get_or-take n v i 0 below
+
+-- a closed head gate stays closed
+pub closed_front : (v image : List ℕ) → 1 ≤ length v → get_or v 0 0 ≢ 1 → KeepsFront 1 v image → (1 ≤ length image) × (get_or image 0 0 ≢ 1)
+closed_front v image some shut keeps =
+    let k = keeps some in
+    (k.0, λ one. shut (sym (front_at 1 0 v image (omega arith) k.1) ∙ one))
+
+-- the same reading of two blank images
+pub both_blank : (id sizes v image : List ℕ) → is_blank v ≡ true → is_blank image ≡ true → KeepsBodies id sizes v image
+both_blank id sizes v image a b = reading-blank id sizes image b ∙ sym (reading-blank id sizes v a)
+
+pub put_at-inside : (at : ℕ) (bytes old : List ℕ) → at ≤ length old → put_at at bytes old ≡ take at old ++ (bytes ++ drop (at + length bytes) old)
+put_at-inside at bytes old inside =
+    let none : at - length old ≡ 0 = omega arith in
+    ap (λ n. take at old ++ replicate n 0 ++ bytes ++ drop (at + length bytes) old) none
+    ∙ ap (λ (l : List ℕ). l ++ bytes ++ drop (at + length bytes) old) (append-nil (take at old))
+    ∙ append_assoc (take at old) bytes (drop (at + length bytes) old)
+
+pub torn_joined : (a e : ℕ) (u v w : List ℕ) → Torn a e u v → Torn a e v w → Torn a e u w
+torn_joined a e u v w first second = record {
+  before = λ i inside below. second.before i (omega (arith, first.no_shorter)) below ∙ first.before i inside below;
+  behind = λ i inside above. second.behind i (omega (arith, first.no_shorter)) above ∙ first.behind i inside above;
+  no_shorter = omega (arith, first.no_shorter, second.no_shorter);
+  no_longer = omega (arith, first.no_longer, second.no_longer);
+}
+
+-- only the byte at one place may differ
+pub torn_byte : (a : ℕ) (v image : List ℕ) → a < length v → Torn a (a + 1) v image → image ≡ take a v ++ get_or image a 0 ∷ drop (a + 1) v
+torn_byte a v image inside torn =
+    let long : length image ≡ length v = omega (arith, torn.no_shorter, torn.no_longer) in
+    let ahead : take a image ≡ take a v = (front_torn a a (a + 1) (omega arith) v image torn (omega arith)).1 in
+    let back : drop (a + 1) image ≡ drop (a + 1) v = same_number_lists (drop (a + 1) image) (drop (a + 1) v) (omega (arith, length-drop (a + 1) image, length-drop (a + 1) v, long)) (λ i lt.
+    let in_v : a + 1 + i < length v = omega (arith, length-drop (a + 1) image, long) in
+    get_or-drop (a + 1) image i 0 ∙ torn.behind (a + 1 + i) in_v (omega arith) ∙ sym (get_or-drop (a + 1) v i 0)) in
+    sym (take-append-drop a image) ∙ ap (λ (l : List ℕ). l ++ drop a image) ahead ∙ ap (λ (l : List ℕ). take a v ++ l) (drop_more image a 0 (omega arith) ∙ ap (λ (l : List ℕ). get_or image a 0 ∷ l) back)
+
+-- an identity and one closed gate, behind whatever head gate
+pub reading-new : (id sizes image : List ℕ) (b : ℕ) → image ≡ b ∷ (id ++ 0 ∷ []) → reading id sizes image ≡ Some []
+reading-new id sizes image b is = ap (reading id sizes) is ∙ ⊎_elim
+    (λ (one : b ≡ 1).
+    let new = 1 ∷ (id ++ 0 ∷ []) in
+    let long : 1 < length new = omega (arith, length-append id (0 ∷ [])) in
+    let size : length (1 ∷ id) ≡ 1 + length id = omega arith in
+    let front : take (1 + length id) new ≡ 1 ∷ id = take_at (1 ∷ id) (0 ∷ []) (1 + length id) size in
+    let back : drop (1 + length id) new ≡ 0 ∷ [] = drop_at (1 ∷ id) (0 ∷ []) (1 + length id) size in
+    ap (λ (g : ℕ). reading id sizes (g ∷ (id ++ 0 ∷ []))) one ∙ reading-front id sizes new long refl front ∙ ap (row_of sizes) back ∙ row_of-closed sizes 0 [] (omega arith))
+    (λ (shut : b ≢ 1). reading-blank id sizes (b ∷ (id ++ 0 ∷ [])) (blank_closed (b ∷ (id ++ 0 ∷ [])) shut))
+    (one_or_not b)
+
+-- the open head gate, the identity and one closed gate
+pub new_keeps : (id sizes image : List ℕ) → image ≡ 1 ∷ (id ++ 0 ∷ []) → Keeps id sizes 0 image
+new_keeps id sizes image is = record {
+  begun = ap is_blank is ∙ begun_of (1 ∷ (id ++ 0 ∷ [])) (omega (arith, length-append id (0 ∷ []))) refl;
+  bodies = [];
+  reads = reading-new id sizes image 1 is;
+  many = refl;
+}
+
+-- the identity and the closed gate behind a closed head gate
+pub staged_identity : (id v : List ℕ) → IsClosedHead v → put_at (1 + length id) (0 ∷ []) (put_at 1 id v) ≡ get_or v 0 0 ∷ (id ++ 0 ∷ [])
+staged_identity id [] closed = let no = closed.alone in absurd (omega arith)
+staged_identity id (b ∷ []) closed =
+    let size : length (b ∷ id) ≡ 1 + length id = omega arith in
+    let past : drop (1 + length id) (b ∷ []) ≡ [] = drop_all (1 + length id) (b ∷ []) (omega arith) in
+    let first : put_at 1 id (b ∷ []) ≡ b ∷ id = put_at-inside 1 id (b ∷ []) (omega arith) ∙ ap (λ (l : List ℕ). b ∷ (id ++ l)) past ∙ ap (λ (l : List ℕ). b ∷ l) (append-nil id) in
+    let all : take (1 + length id) (b ∷ id) ≡ b ∷ id = take_all (1 + length id) (b ∷ id) (omega arith) in
+    let rest : drop (1 + length id + 1) (b ∷ id) ≡ [] = drop_all (1 + length id + 1) (b ∷ id) (omega arith) in
+    ap (put_at (1 + length id) (0 ∷ [])) first ∙ put_at-inside (1 + length id) (0 ∷ []) (b ∷ id) (omega arith) ∙ ap (λ (l : List ℕ). l ++ (0 ∷ drop (1 + length id + 1) (b ∷ id))) all ∙ ap (λ (l : List ℕ). b ∷ (id ++ 0 ∷ l)) rest
+staged_identity id (b ∷ c ∷ v) closed = let no = closed.alone in absurd (omega arith)
+
+-- and the gate opened
+pub opened_identity : (id v : List ℕ) (b : ℕ) → v ≡ b ∷ (id ++ 0 ∷ []) → put_at 0 (1 ∷ []) v ≡ 1 ∷ (id ++ 0 ∷ [])
+opened_identity id v b is = put_at-inside 0 (1 ∷ []) v (omega arith) ∙ ap (λ (l : List ℕ). 1 ∷ drop 1 l) is
+
+-- while the head gate is opened
+pub torn_head : (id sizes u v : List ℕ) (b : ℕ) → u ≡ b ∷ (id ++ 0 ∷ []) → Torn 0 1 u v → reading id sizes v ≡ Some []
+torn_head id sizes u v b is torn =
+    let some : 0 < length u = omega (arith, ap length is) in
+    reading-new id sizes v (get_or v 0 0) (torn_byte 0 u v some torn ∙ ap (λ (l : List ℕ). get_or v 0 0 ∷ drop 1 l) is)
+
+-- images that come from a closed head gate by writes behind it
+pub blank_closed_front : (u v image : List ℕ) → IsClosedHead u → KeepsFront 1 u v → KeepsFront 1 v image → (is_blank v ≡ true) × (is_blank image ≡ true)
+blank_closed_front u v image closed first second =
+    let a = closed_front u v (omega (arith, closed.alone)) closed.closed first in
+    let b = closed_front v image a.0 a.1 second in
+    (blank_closed v a.1, blank_closed image b.1)

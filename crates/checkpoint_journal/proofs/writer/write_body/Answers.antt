@@ -1,0 +1,35 @@
+use Rattle.std.specs.Prelude.{option_map}
+use Rattle.std.proofs.Common.{◌≡◌, ◌∙◌, ◌+◌, ◌*◌, ◌≤◌, ◌++◌, take, drop, length, ap, sym, arith, rules, ℕ, List}
+use Rattle.std.proofs.lemmas.List.{length-take}
+use Rattle.dev_traits.specs.Images.{Torn}
+use Rattle.dev_traits.proofs.Moments.{runs_of, runs_both}
+use Rattle.checkpoint_journal.specs.Cells.{body_text}
+use Rattle.checkpoint_journal.specs.Runs.{KeepsFront, put_over}
+use Rattle.checkpoint_journal.proofs.WriteLemmas.{front_torn, front_joined, front_same_one}
+use Rattle.checkpoint_journal.proofs.TextLemmas.{length-body_text, body_text-part, written_more}
+use Rattle.checkpoint_journal.proofs.writer.write_body.Goals as goal
+
+pub returns-in_err-write_at-clause-runs : goal.returns-in_err-write_at-clause-runs
+returns-in_err-write_at-clause-runs g c =
+    let at = c.args.at in
+    let next = runs_of g.D.Disk.moment g.D.Disk.may_leave (KeepsFront at) (front_same_one at) (Torn (at + 24 * c.loop-done.done) _) _ _ c.write_at.ensures.goes (λ v image now torn. front_torn at (at + 24 * c.loop-done.done) _ (omega arith) v image torn) in
+    runs_both g.D.Disk.moment g.D.Disk.may_leave (KeepsFront at) (front_same_one at) (front_joined at) _ _ _ c.loop-done.invariant.runs next
+
+pub loop-done-preserved : goal.loop-done-preserved
+loop-done-preserved g c =
+    let at = c.args.at in
+    let cells = c.args.sums.now.cells in
+    let done = c.loop-done.done in
+    let part = c.min-part.result in
+    let next = runs_of g.D.Disk.moment g.D.Disk.may_leave (KeepsFront at) (front_same_one at) (Torn (at + 24 * done) _) _ _ c.write_at.ensures.goes (λ v image now torn. front_torn at (at + 24 * done) _ (omega arith) v image torn) in
+    let some : done ≤ length cells = omega arith in
+    let front : length (body_text (take done cells)) ≡ 24 * done = omega (arith, length-body_text (take done cells), length-take done cells) in
+    let place : at + 24 * done ≡ at + length (body_text (take done cells)) = omega arith in
+    let more = written_more at (at + 24 * done) (body_text (take done cells)) (take (24 * part) c.fill.new.buffer) _ _ _ c.requires.within place c.loop-done.invariant.written c.in_ok-write_at.ensures.written in
+    record {
+      within = omega arith;
+      written = more ∙ ap (λ (l : List ℕ). option_map (put_over at l) (g.D.Disk.seen c.args.disk.now)) (ap (λ (l : List ℕ). body_text (take done cells) ++ l) c.fill.ensures ∙ sym (body_text-part cells done part));
+      tells = c.write_at.ensures.tells ∙ c.loop-done.invariant.tells;
+      runs = runs_both g.D.Disk.moment g.D.Disk.may_leave (KeepsFront at) (front_same_one at) (front_joined at) _ _ _ c.loop-done.invariant.runs next;
+      faults = search rules;
+    }

@@ -1,0 +1,12 @@
+pub mod Faults
+pub mod Orderly
+pub mod Counted
+pub mod Foreign
+pub mod FrameOrder
+pub mod Passed
+pub mod Placed
+pub mod Indexed
+pub mod Layouts
+pub mod Recording
+pub mod Pieces
+pub mod Building

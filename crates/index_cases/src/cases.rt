@@ -1,0 +1,133 @@
+//! What the lines ask.
+use crate::bytes::{FrameLine, append_hex};
+use crate::shapes::shape_of;
+use crate::short::ShortShelf;
+use crate::sizes::with_sizes;
+use anyhow::{Context, Result, bail};
+use dev_traits::Shelf;
+use frame_index::Index;
+use mem_devices::MemShelf;
+use real_devices::{FileShelf, SystemFiles};
+use std::alloc::Global;
+use std::mem;
+use vdif_frame::Shape;
+
+/// The files that the lines have described since the last index, the calls of the shelf that fail, and the
+/// last index.
+#[derive(Drop)]
+pub struct Cases {
+    alloc: Global,
+    files: Vec<(String, Vec<u8>)>,
+    bytes: Vec<u8>,
+    failing: Vec<u64>,
+    index: Option<Index>,
+}
+
+impl Cases {
+    pub fn new(alloc: Global) -> Cases {
+        Cases {
+            alloc,
+            files: Vec::new(alloc),
+            bytes: Vec::new(alloc),
+            failing: Vec::new(alloc),
+            index: None,
+        }
+    }
+
+    /// Reads a line, and prints the answer where it asks.
+    pub fn read(&mut self, rt: &impl Print, word: &str, rest: &str) -> Result<()> {
+        match word {
+            "frame" => FrameLine::read(rest)?.append(&mut self.bytes)?,
+            "bytes" => {
+                let (count, bytes) = rest.split_once(' ').context("count and bytes")?;
+                for _ in 0..count.parse::<u32>()? {
+                    append_hex(&mut self.bytes, bytes)?;
+                }
+            }
+            "file" => self.end_file(rest)?,
+            "failing" => self.failing.push(rest.parse::<u64>()?)?,
+            "memory" => self.index_in_memory(rt, rest)?,
+            "short" => self.index_of_short(rt, rest)?,
+            "find" => self.find(rt, rest)?,
+            _ => bail!("no such line"),
+        }
+        Ok(())
+    }
+
+    // The bytes so far are those of a file.
+    fn end_file(&mut self, name: &str) -> Result<()> {
+        let bytes = mem::replace(&mut self.bytes, Vec::new(self.alloc));
+        self.files
+            .push((String::from_str(self.alloc, name)?, bytes))?;
+        Ok(())
+    }
+
+    // The index of the files in memory.
+    fn index_in_memory(&mut self, rt: &impl Print, rest: &str) -> Result<()> {
+        let files = mem::replace(&mut self.files, Vec::new(self.alloc));
+        let failing = mem::replace(&mut self.failing, Vec::new(self.alloc));
+        let mut shelf = MemShelf::new(files, failing);
+        self.build(rt, "memory", &mut shelf, rest)
+    }
+
+    // The index of one file of 120 bytes, of which a read gives the first so many.
+    fn index_of_short(&mut self, rt: &impl Print, rest: &str) -> Result<()> {
+        let mut shelf = ShortShelf {
+            says: 120,
+            gives: rest.parse::<u64>()?,
+        };
+        self.build(rt, "short", &mut shelf, "small any")
+    }
+
+    /// The index of files of the folder in which the program runs.
+    pub fn index_on_disk(&mut self, rt: &HostRuntime, rest: &str) -> Result<()> {
+        let mut shelf = FileShelf::new(SystemFiles::new(rt));
+        self.build(rt, "disk", &mut shelf, rest)
+    }
+
+    // Builds the index of a shape and these files, and prints its counts or why there is none.
+    fn build<F: Shelf>(
+        &mut self,
+        rt: &impl Print,
+        word: &str,
+        shelf: &mut F,
+        rest: &str,
+    ) -> Result<()> {
+        let mut words = rest.split_whitespace();
+        let shape: Shape = shape_of(words.next().context("a shape")?).context("such a shape")?;
+        let mut names = Vec::new(self.alloc);
+        for name in words {
+            names.push(String::from_str(self.alloc, name)?)?;
+        }
+        let files = with_sizes(self.alloc, shelf, &names)?;
+        self.index = None;
+        if files.len() < 100 {
+            match Index::build(self.alloc, shelf, &files, &shape) {
+                Ok(index) => {
+                    let c = index.counts();
+                    println!(rt;
+                        "{word} {rest}: slots {} doubled {} invalid {} foreign {} late {}",
+                        c.slots, c.doubled, c.invalid, c.foreign, c.late
+                    )?;
+                    self.index = Some(index);
+                }
+                Err(fault) => println!(rt; "{word} {rest}: {fault}")?,
+            }
+        }
+        Ok(())
+    }
+
+    // Where the last index has a frame.
+    fn find(&self, rt: &impl Print, rest: &str) -> Result<()> {
+        let mut words = rest.split_whitespace();
+        let thread = words.next().context("a thread")?.parse::<u16>()?;
+        let second = words.next().context("a second")?.parse::<i64>()?;
+        let frame = words.next().context("a number")?.parse::<u32>()?;
+        let index = self.index.as_ref().context("no index")?;
+        match index.find(thread, second, frame) {
+            Some(slot) => println!(rt; "find {rest}: file {} byte {}", slot.file, slot.at)?,
+            None => println!(rt; "find {rest}: none")?,
+        }
+        Ok(())
+    }
+}

@@ -1,0 +1,67 @@
+-- What a call that is refused answers: its status, and its line on the notes.
+use Rattle.std.specs.Prelude.{ℕ, List, [], ◌∷◌, ◌++◌, codes, decimal}
+use Rattle.vdif_frame.specs.declared.shape.Field.{Field}
+use Rattle.vdif_frame.specs.Agreement.{field_name}
+use Rattle.run_words.specs.declared.fault.WordsFault.{WordsFault}
+use Rattle.run_words.specs.Faults.{fault_name as words_fault_name}
+use Rattle.vex_reader.specs.declared.fault.VexFault.{VexFault}
+use Rattle.vex_reader.specs.KindName.{kind_name as vex_fault_name}
+use Rattle.vex_schedule.specs.declared.fault.SchedFault.{SchedFault}
+use Rattle.vex_schedule.specs.KindName.{kind_name as schedule_fault_name}
+use Rattle.job_text.specs.declared.fault.JobFault.{JobFault}
+use Rattle.job_text.specs.KindName.{kind_name as job_fault_name}
+use Rattle.job_join.specs.declared.fault.JoinFault.{JoinFault}
+use Rattle.job_join.specs.declared.fault.Quantity.{Quantity}
+use Rattle.job_join.specs.KindName.{fault_name as join_fault_name, quantity_name}
+
+pub record Answer : Type 0 where
+  pub status : ℕ
+  pub note : List ℕ
+
+-- texts one after another, and the end of a line
+abbrev pub joined : List (List ℕ) → List ℕ
+joined [] = 10 ∷ []
+joined (text ∷ texts) = text ++ joined texts
+
+-- an answer whose line has these texts
+abbrev pub answer : ℕ → List (List ℕ) → Answer
+answer status texts = record { status = status; note = codes "vlbi: " ++ joined texts }
+
+abbrev pub memory_answer : Answer
+memory_answer = answer 1 (codes "out of memory" ∷ [])
+
+abbrev pub words_answer : WordsFault → Answer
+words_answer fault = answer 2 (codes "words: " ∷ words_fault_name fault ∷ [])
+
+-- a fault at a byte of the schedule
+abbrev pub byte_answer : List ℕ → ℕ → Answer
+byte_answer name at = answer 3 (codes "schedule: " ∷ name ∷ codes " at byte " ∷ decimal at ∷ [])
+
+abbrev pub vex_answer : VexFault → Answer
+vex_answer fault = byte_answer (vex_fault_name fault.kind) fault.at
+
+abbrev pub schedule_answer : SchedFault → Answer
+schedule_answer fault = byte_answer (schedule_fault_name fault.kind) fault.at
+
+abbrev pub job_answer : JobFault → Answer
+job_answer fault = answer 4 (codes "job: " ∷ job_fault_name fault.kind ∷ codes " in line " ∷ decimal fault.line ∷ [])
+
+-- a cause for which a job and a schedule do not go together, of the take, station or scan of this name
+abbrev pub join_answer : JoinFault → List ℕ → Answer
+join_answer fault name = answer 4 (codes "job: " ∷ join_fault_name fault ∷ codes " for " ∷ name ∷ [])
+
+-- a station whose recording has slots none of which agrees, and the field in which the first one differs
+abbrev pub recording_answer : List ℕ → Field → Answer
+recording_answer key field = answer 5 (codes "recording: " ∷ key ∷ codes " " ∷ field_name field ∷ [])
+
+abbrev pub limit_answer : Quantity → ℕ → Answer
+limit_answer quantity value = answer 6 (codes "limit: " ∷ quantity_name quantity ∷ codes " " ∷ decimal value ∷ [])
+
+abbrev pub read_answer : Answer
+read_answer = answer 7 (codes "read fault" ∷ [])
+
+abbrev pub write_answer : Answer
+write_answer = answer 9 (codes "write fault" ∷ [])
+
+abbrev pub no_file_answer : List ℕ → Answer
+no_file_answer name = answer 11 (codes "no file " ∷ name ∷ [])

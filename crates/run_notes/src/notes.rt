@@ -1,0 +1,129 @@
+//! Statuses and notes.
+ghost use Rattle.std.specs.Prelude.{◌≡◌};
+ghost use Rattle.sink_text.specs.Appends.{Appends};
+ghost use Rattle.run_notes.specs.Refusals.{answer_of, due_answer};
+ghost use Rattle.run_notes.specs.Answers.{byte_answer};
+
+use crate::refusal::{Due, Refusal};
+use dev_traits::{Failed, Sink};
+use sink_text::{Piece, append_pieces};
+
+/// The status that a call answers where it is refused so.
+pub fn status(refusal: &Refusal) -> u8
+    ensures { result ≡ (answer_of refusal.now).status }
+{
+    match refusal {
+        Refusal::Memory => 1,
+        Refusal::Due(due) => due_status(due),
+        Refusal::Read => 7,
+        Refusal::Write => 9,
+    }
+}
+
+// The status of a verdict.
+fn due_status(due: &Due) -> u8
+    ensures { result ≡ (due_answer due.now).status }
+{
+    match due {
+        Due::Words(_) => 2,
+        Due::Vex(_) | Due::Schedule(_) => 3,
+        Due::Job(_) | Due::Join(_, _) => 4,
+        Due::Recording(_, _) => 5,
+        Due::Limit(_, _) => 6,
+        Due::NoFile(_) => 11,
+    }
+}
+
+/// Writes a refusal's line to the notes. It takes no memory.
+pub fn write_note<N: Sink>(refusal: &Refusal, notes: &mut N) -> Result<(), Failed>
+    ensures { Appends (N.told notes.old) (N.told notes.new) (answer_of refusal.now).note (N.faults notes.old) (N.faults notes.new) result }
+{
+    match refusal {
+        Refusal::Memory => append_pieces(&[Piece::Text("vlbi: out of memory\n")], notes),
+        Refusal::Due(due) => write_due(due, notes),
+        Refusal::Read => append_pieces(&[Piece::Text("vlbi: read fault\n")], notes),
+        Refusal::Write => append_pieces(&[Piece::Text("vlbi: write fault\n")], notes),
+    }
+}
+
+// Writes a verdict's line.
+fn write_due<N: Sink>(due: &Due, notes: &mut N) -> Result<(), Failed>
+    ensures { Appends (N.told notes.old) (N.told notes.new) (due_answer due.now).note (N.faults notes.old) (N.faults notes.new) result }
+{
+    match due {
+        Due::Words(fault) => append_pieces(
+            &[
+                Piece::Text("vlbi: words: "),
+                Piece::Text(fault.name()),
+                Piece::Text("\n"),
+            ],
+            notes,
+        ),
+        Due::Vex(fault) => write_at_byte(fault.kind.name(), fault.at, notes),
+        Due::Schedule(fault) => write_at_byte(fault.kind.name(), fault.at, notes),
+        Due::Job(fault) => append_pieces(
+            &[
+                Piece::Text("vlbi: job: "),
+                Piece::Text(fault.kind.name()),
+                Piece::Text(" in line "),
+                Piece::Number(fault.line as u64),
+                Piece::Text("\n"),
+            ],
+            notes,
+        ),
+        Due::Join(fault, name) => append_pieces(
+            &[
+                Piece::Text("vlbi: job: "),
+                Piece::Text(fault.name()),
+                Piece::Text(" for "),
+                Piece::Bytes(name.bytes()),
+                Piece::Text("\n"),
+            ],
+            notes,
+        ),
+        Due::Limit(quantity, value) => append_pieces(
+            &[
+                Piece::Text("vlbi: limit: "),
+                Piece::Text(quantity.name()),
+                Piece::Text(" "),
+                Piece::Wide(*value),
+                Piece::Text("\n"),
+            ],
+            notes,
+        ),
+        Due::NoFile(name) => append_pieces(
+            &[
+                Piece::Text("vlbi: no file "),
+                Piece::Bytes(name.bytes()),
+                Piece::Text("\n"),
+            ],
+            notes,
+        ),
+        Due::Recording(key, field) => append_pieces(
+            &[
+                Piece::Text("vlbi: recording: "),
+                Piece::Bytes(key.bytes()),
+                Piece::Text(" "),
+                Piece::Text(field.name()),
+                Piece::Text("\n"),
+            ],
+            notes,
+        ),
+    }
+}
+
+// Writes the line of a fault at a byte of the schedule.
+fn write_at_byte<N: Sink>(name: &str, at: u64, notes: &mut N) -> Result<(), Failed>
+    ensures { Appends (N.told notes.old) (N.told notes.new) (byte_answer name.now at).note (N.faults notes.old) (N.faults notes.new) result }
+{
+    append_pieces(
+        &[
+            Piece::Text("vlbi: schedule: "),
+            Piece::Text(name),
+            Piece::Text(" at byte "),
+            Piece::Number(at),
+            Piece::Text("\n"),
+        ],
+        notes,
+    )
+}

@@ -1,0 +1,66 @@
+//! Refusals.
+ghost use Rattle.std.specs.Prelude.{◌≡◌};
+
+use job_join::{JoinFault, Quantity};
+use job_text::JobFault;
+use num_time::Name;
+use run_words::WordsFault;
+use std::alloc::AllocError;
+use vdif_frame::Field;
+use vex_reader::VexFault;
+use vex_schedule::SchedFault;
+
+/// A verdict on what a call was given: the first thing that is wrong with it.
+#[derive(Debug, Drop)]
+pub enum Due {
+    /// The words are not a command's.
+    Words(WordsFault),
+    /// The schedule's text is no VEX file.
+    Vex(VexFault),
+    /// The VEX file has no schedule.
+    Schedule(SchedFault),
+    /// The job's text has no job.
+    Job(JobFault),
+    /// Job and schedule do not go together: the cause, and the name of the take, station or scan.
+    Join(JoinFault, Name),
+    /// A quantity is past its greatest: its value.
+    Limit(Quantity, u128),
+    /// A named file is not on the shelf.
+    NoFile(Name),
+    /// A station's recording has slots, and none of them agrees with its shape: the station's key, and the field in which
+    /// the first one differs.
+    Recording(Name, Field),
+}
+
+/// Why a call did not do what it was asked for.
+#[derive(Debug, Drop)]
+pub enum Refusal {
+    /// Out of memory.
+    Memory,
+    /// What the call was given is not accepted.
+    Due(Due),
+    /// A read of the shelf failed.
+    Read,
+    /// A write to the output failed.
+    Write,
+}
+
+impl From<AllocError> for Refusal {
+    ghost use Rattle.run_notes.specs.declared.refusal.Refusal.TheVariants.{Memory};
+
+    ghost from_gives = { λ _ refusal. refusal ≡ Memory };
+
+    fn from(_: AllocError) -> Self {
+        Refusal::Memory
+    }
+}
+
+impl From<Due> for Refusal {
+    ghost use Rattle.run_notes.specs.declared.refusal.Refusal.TheVariants.{Due};
+
+    ghost from_gives = { λ due refusal. refusal ≡ Due due };
+
+    fn from(due: Due) -> Self {
+        Refusal::Due(due)
+    }
+}

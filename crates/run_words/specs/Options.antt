@@ -1,0 +1,61 @@
+-- The options of each command, and what words give them, as `clap` defines it.
+use Rattle.std.specs.Prelude.{◌≡◌, ◌⊎◌, true, List, [], ◌∷◌, Option, Some, None, Result, Ok, Err, codes}
+use Rattle.clap.specs.Words.{App, Rule, Row, Text, Kinds, new_app, new_rule, with_rule, fault_of, matches_of, rows_of, found_of}
+use Rattle.clap.specs.Simple.{on_top}
+use Rattle.clap.specs.declared.builder.action.ArgAction.TheVariants.{Set}
+use Rattle.clap.specs.declared.parser.matches.ArgMatches.{ArgMatches}
+use Rattle.clap.specs.declared.error.kind.ErrorKind.{ErrorKind}
+use Rattle.clap.specs.declared.error.kind.ErrorKind.TheVariants.{OutOfMemory}
+use Rattle.run_words.specs.declared.fault.WordsFault.{WordsFault}
+use Rattle.run_words.specs.declared.fault.WordsFault.TheVariants.{Option as OptionFault, Memory}
+
+-- an option with a value
+abbrev pub option_rule : Text → Rule
+option_rule name = record (new_rule name) { long = Some name; action = Some Set }
+
+-- an option with a value that has to be there
+abbrev pub needed_option : Text → Rule
+needed_option name = record (new_rule name) { long = Some name; action = Some Set; required = true }
+
+-- a word that has to be there
+abbrev pub needed_word : Text → Rule
+needed_word name = record (new_rule name) { action = Some Set; required = true }
+
+-- a command of which all words are options and their values
+abbrev pub bare_app : Text → App
+bare_app name = on_top (λ s. record s { no_binary_name = true }) (new_app name)
+
+-- a command on a job, by the names of its file and of the schedule's
+abbrev pub job_app : Text → App
+job_app name = with_rule (with_rule (bare_app name) (needed_option (codes "job"))) (option_rule (codes "vex"))
+
+-- the same with the number of workers and the length of a piece
+abbrev pub work_app : App → App
+work_app app = with_rule (with_rule app (needed_option (codes "workers"))) (needed_option (codes "piece"))
+
+abbrev pub run_app : App
+run_app = work_app (job_app (codes "run"))
+
+abbrev pub gen_app : App
+gen_app = work_app (with_rule (with_rule (bare_app (codes "gen")) (needed_option (codes "seed"))) (needed_option (codes "seconds")))
+
+abbrev pub dump_app : App
+dump_app = with_rule (bare_app (codes "dump")) (needed_word (codes "file"))
+
+abbrev pub unless_refused : Kinds → List Row → Option (List Row)
+unless_refused [] rows = Some rows
+unless_refused (kind ∷ kinds) rows = None
+
+-- what the words give each option, none where they are refused
+unfoldable pub rows_in : App → List Text → Option (List Row)
+rows_in app words = unless_refused (fault_of app words) (matches_of app words)
+
+-- an error of `clap`: a request for help is one too
+abbrev pub kind_fault : ErrorKind → WordsFault
+kind_fault OutOfMemory = Memory
+kind_fault _ = OptionFault
+
+-- the matches are those that are wanted, or there is a fault because there are none
+abbrev pub Parses : Option (List Row) → Result ArgMatches WordsFault → Type 0
+Parses wanted (Ok matches) = wanted ≡ Some (rows_of (found_of matches))
+Parses wanted (Err fault) = (fault ≡ Memory) ⊎ ((fault ≡ OptionFault) × (wanted ≡ None))

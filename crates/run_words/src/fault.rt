@@ -1,0 +1,50 @@
+//! What is wrong with the words of a call.
+ghost use Rattle.std.specs.Prelude.{◌≡◌};
+ghost use Rattle.run_words.specs.Faults.{fault_name};
+ghost use Rattle.run_words.specs.declared.fault.WordsFault.TheVariants.{Memory};
+
+use std::alloc::AllocError;
+use thiserror::Error;
+
+/// Why words are no order. The first in this order that applies is the answer; want of memory comes at any time.
+#[derive(Clone, Copy, Debug, PartialEq, Eq, Error)]
+pub enum WordsFault {
+    /// There is no word.
+    #[error("NoCommand")]
+    NoCommand,
+    /// The first word is no command.
+    #[error("UnknownCommand")]
+    UnknownCommand,
+    /// The words behind the command are not its options, or one that it needs is not there.
+    #[error("Option")]
+    Option,
+    /// A number is not 1 to 20 digits, or out of its range.
+    #[error("Value")]
+    Value,
+    /// Out of memory.
+    #[error("Memory")]
+    Memory,
+}
+
+impl WordsFault {
+    /// The fault's name, as it is written above.
+    pub fn name(self) -> &'static str
+        ensures { result.now ≡ fault_name self }
+    {
+        match self {
+            WordsFault::NoCommand => "NoCommand",
+            WordsFault::UnknownCommand => "UnknownCommand",
+            WordsFault::Option => "Option",
+            WordsFault::Value => "Value",
+            WordsFault::Memory => "Memory",
+        }
+    }
+}
+
+impl From<AllocError> for WordsFault {
+    ghost from_gives = { λ _ fault. fault ≡ Memory };
+
+    fn from(_: AllocError) -> Self {
+        WordsFault::Memory
+    }
+}

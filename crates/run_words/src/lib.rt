@@ -1,0 +1,15 @@
+//! The words of a call: a command, and behind it what `clap` makes of the other words for a simple command with the options
+//! of that command. It stands on `clap` for options and on `num_time` for names. `read_words` gives for every list of words
+//! the order that `specs/Orders` says, or the first fault. Numbers are taken as text and judged once all options stand.
+#![tactic(auto)]
+
+mod commands;
+mod fault;
+mod numbers;
+mod order;
+mod orders;
+mod words;
+
+pub use fault::WordsFault;
+pub use order::Order;
+pub use words::read_words;

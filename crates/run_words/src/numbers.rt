@@ -1,0 +1,47 @@
+//! Numbers among the words.
+ghost use Rattle.std.specs.Prelude.{◌≡◌, ◌≤◌, IfOk};
+ghost use Rattle.num_time.specs.Numerals.{are_digits};
+ghost use Rattle.run_words.specs.Numbers.{is_count, number_in, within};
+
+use crate::fault::WordsFault;
+
+// Whether each byte is a decimal digit.
+fn are_digits(text: &[u8]) -> bool
+    ensures { result ≡ are_digits text.now }
+{
+    text.iter().all(|c| c.is_ascii_digit())
+}
+
+// Whether a text is 1 to 20 digits.
+fn is_count(text: &str) -> bool
+    ensures { result ≡ is_count text.now }
+{
+    let bytes = text.as_bytes();
+    1 <= bytes.len() && bytes.len() <= 20 && are_digits(bytes)
+}
+
+// The number from `least` to `most` that a text writes.
+pub(crate) fn number_in(text: &str, least: u64, most: u64) -> Result<u64, WordsFault>
+    ensures number { result ≡ number_in least most text.now }
+    ensures range { IfOk result (λ number. (least ≤ number) × (number ≤ most)) }
+{
+    if !is_count(text) {
+        return Err(WordsFault::Value);
+    }
+    match text.parse::<u64>() {
+        Ok(number) => within(number, least, most),
+        Err(_) => Err(WordsFault::Value),
+    }
+}
+
+// The number, where it is in its range.
+fn within(number: u64, least: u64, most: u64) -> Result<u64, WordsFault>
+    ensures number { result ≡ within least most number }
+    ensures range { IfOk result (λ n. (least ≤ n) × (n ≤ most)) }
+{
+    if least <= number && number <= most {
+        Ok(number)
+    } else {
+        Err(WordsFault::Value)
+    }
+}

@@ -1,0 +1,40 @@
+use Rattle.std.proofs.Common.{◌≡◌, ◌<◌, ◌≤◌, ℕ, List, [], ◌∷◌, ◌++◌, length, take, map, rules, arith, refl, ap, sym, subst, ◌∙◌, w64, FitsSigned}
+use Rattle.std.proofs.lemmas.Int.{to_z-of_z}
+use Rattle.std.specs.List.{range_with_len, enumerate_from}
+use Rattle.corr_model.specs.declared.cell.Cell.{Cell}
+use Rattle.corr_model.specs.Records.{baseline_places, product_places, scan_places}
+use Rattle.vis_records.specs.declared.fault.VisKind.TheVariants.{AfterEnd}
+use Rattle.vis_records.specs.Heads.{scan_of}
+use Rattle.vis_records.specs.Parts.{Took, Stops, StopsBy, in_turn, number_of}
+use Rattle.vis_records.specs.Reading.{cell, record_due}
+use Rattle.vis_records.proofs.PartLemmas.{took-later, stops-first, stops-later, in_turn-none, in_turn-next, in_turn-stops, in_turn-all, turns-next, turns-stop, turns-all, one_more-took}
+use Rattle.vis_records.proofs.FieldLemmas.{passed-on}
+use Rattle.vis_records.proofs.RecordReading.{product-part, integration-part, scan-part, records-part, within-scans, scan-at, short-scan, nothing-none, nothing-some}
+use Rattle.vis_records.proofs.read_records.read_cell.Goals as goal
+
+pub returns-in_err-re-clause-stops : goal.returns-in_err-re-clause-stops
+returns-in_err-re-clause-stops c =
+    passed-on _ c.from_residual.result c.in_err-re.field-0.0 c.from_residual.ensures.1
+    (stops-first _ c.in_err-re.ensures.stops)
+
+pub returns-in_err-im-clause-stops : goal.returns-in_err-im-clause-stops
+returns-in_err-im-clause-stops c =
+    passed-on _ c.from_residual-in_err-im.result c.in_err-im.field-0.0 c.from_residual-in_err-im.ensures.1
+    (stops-later _ c.in_ok-re.ensures.took
+    (stops-first _ c.in_err-im.ensures.stops))
+
+pub returns-in_err-count-clause-stops : goal.returns-in_err-count-clause-stops
+returns-in_err-count-clause-stops c =
+    passed-on _ c.from_residual-in_err-count.result c.in_err-count.field-0.0 c.from_residual-in_err-count.ensures.1
+    (stops-later _ c.in_ok-re.ensures.took
+    (stops-later _ c.in_ok-im.ensures.took
+    (stops-first _ c.in_err-count.ensures.stops)))
+
+pub returns-clause-took : goal.returns-clause-took
+returns-clause-took c =
+    let re : FitsSigned w64 c.in_ok-re.re = search rules in
+    let im : FitsSigned w64 c.in_ok-im.im = search rules in
+    took-later _ c.in_ok-re.ensures.took
+    (took-later _ c.in_ok-im.ensures.took
+    (took-later _ c.in_ok-count.ensures.took
+    (rw (to_z-of_z w64 c.in_ok-re.re re, to_z-of_z w64 c.in_ok-im.im im) refl)))

@@ -1,0 +1,9 @@
+use Rattle.std.proofs.Common.{◌≡◌, take, length}
+use Rattle.std.specs.List.{range_with_len, enumerate_from}
+use Rattle.vis_records.specs.Parts.{Took, in_turn, one_more}
+use Rattle.vis_records.specs.Reading.{cell}
+use Rattle.vis_records.proofs.read_records.read_cells.Given as goal
+
+abbrev pub invariant-loop-i : goal.invariant-loop-i
+invariant-loop-i l =
+    in_turn (one_more (λ _. cell)) l.initial.cells.items (take l.i (range_with_len 0 l.lags)) l.initial.rest ≡ Took l.cells.items l.rest

@@ -1,0 +1,12 @@
+use Rattle.std.proofs.Common.{◌≡◌, take, length}
+use Rattle.std.specs.List.{range_with_len, enumerate_from}
+use Rattle.vis_records.specs.Parts.{Took, in_turn, one_more}
+use Rattle.corr_model.specs.Records.{scan_places}
+use Rattle.vis_records.specs.Heads.{scan_of}
+use Rattle.vis_records.specs.Reading.{record_due}
+use Rattle.vis_records.proofs.read_records.read_records.Given as goal
+
+abbrev pub invariant-loop-i : goal.invariant-loop-i
+invariant-loop-i l =
+    in_turn (λ cells s. in_turn (record_due l.head.lags) cells (scan_places l.head s.0 s.1)) l.initial.cells.items
+    (take l.i (enumerate_from 0 l.head.scans)) l.initial.rest ≡ Took l.cells.items l.rest

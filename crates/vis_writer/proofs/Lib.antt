@@ -1,0 +1,8 @@
+pub mod Rows
+pub mod FileText
+pub mod WritesLemmas
+pub mod FileLemmas
+pub mod FillLemmas
+pub mod PlanHead
+pub mod PlanText
+pub mod DirectLemmas

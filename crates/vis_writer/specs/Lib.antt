@@ -1,0 +1,5 @@
+pub mod Cells
+pub mod Writes
+pub mod PlanCells
+pub mod Texts
+pub mod DirectLaws

@@ -246,9 +246,9 @@ module _ {X : Type 0} (f : X → ℕ) where
   pub Rises-sorted : (xs ys : List X) → AllPairs (λ x y. f x ≢ f y) xs → IsPermutation xs ys → IsNonDecreasingBy f ys → Rises ys
   Rises-sorted xs ys differ moved up i j d less within =
       let numbers : AllPairs (λ a b. a ≢ b) (map f xs) = λ i j d less within.
-          (let long : length (map f xs) ≡ length xs = length-map xs f in
-          let ends : j < length xs = omega arith in
-          absent i j d less ends) in
+      (let long : length (map f xs) ≡ length xs = length-map xs f in
+      let ends : j < length xs = omega arith in
+      absent i j d less ends) in
       let distinct : IsDistinct eqb (map f xs) = IsDistinct-from_AllPairs Decides-eqb (map f xs) numbers in
       let moved' : IsDistinct eqb (map f ys) = IsDistinct-IsPermutation eqb eqb-flips (map f xs) (map f ys) (IsPermutation-map f xs ys moved) distinct in
       let apart = AllPairs-from_map f (λ a b. a ≢ b) ys (AllPairs-from_IsDistinct Decides-eqb (map f ys) moved') in
@@ -299,7 +299,7 @@ found_at-there stations differ x there key =
     let p : StationFields → Bool = λ s. bytes_eq s.key x.pass.key in
     let passes : p x.station ≡ true = (bytes_eq-Decides x.station.key x.pass.key).1 key in
     let place : position p stations ≡ Some x.number = position-only p stations x.number x.station there passes
-        (λ m y is equal. same-place (λ (s : StationFields). s.key) stations differ m x.number y x.station is there ((bytes_eq-Decides y.key x.pass.key).0 equal ∙ sym key)) in
+    (λ m y is equal. same-place (λ (s : StationFields). s.key) stations differ m x.number y x.station is there ((bytes_eq-Decides y.key x.pass.key).0 equal ∙ sym key)) in
     ap (found_by stations x.pass) place ∙ ap (option_map (λ (s : StationFields). record { number = x.number; station = s; pass = x.pass })) there
 
 -- those of the parts of a scan, in the order of their numbers, are the job's stations in the scan
@@ -332,14 +332,14 @@ stands_in-found job scan found stands ranges sound made moved up =
         let seat = found_at-seat job.stations from.0 x from.2 in
         let less : x.number < length job.stations = slice_get_within job.stations x.number x.station seat.there in
         let entry : get_or (enumerate_from 0 job.stations) x.number (x.number, x.station) ≡ (x.number, x.station) =
-            get_or-enumerate_from 0 job.stations x.number (x.number, x.station) less
-            ∙ (let n : 0 + x.number ≡ x.number = omega arith in let s : get_or job.stations x.number x.station ≡ x.station = get_or_from_slice_get job.stations x.number x.station x.station seat.there in pair n s) in
+        get_or-enumerate_from 0 job.stations x.number (x.number, x.station) less
+        ∙ (let n : 0 + x.number ≡ x.number = omega arith in let s : get_or job.stations x.number x.station ≡ x.station = get_or_from_slice_get job.stations x.number x.station x.station seat.there in pair n s) in
         let there : Contains (enumerate_from 0 job.stations) (x.number, x.station) = (x.number, omega (arith, less, length-enumerate_from 0 job.stations), entry) in
         let part : pass_with scan x.station.key ≡ Some from.0 = find-only (λ (p : Pass). bytes_eq p.key x.station.key) scan.passes from.0 from.1
-            ((bytes_eq-Decides from.0.key x.station.key).1 (sym seat.key))
-            (λ y among equal. same-thing (λ (p : Pass). p.key) scan.passes sound.distinct y from.0 among from.1 ((bytes_eq-Decides y.key x.station.key).0 equal ∙ seat.key)) in
+        ((bytes_eq-Decides from.0.key x.station.key).1 (sym seat.key))
+        (λ y among equal. same-thing (λ (p : Pass). p.key) scan.passes sound.distinct y from.0 among from.1 ((bytes_eq-Decides y.key x.station.key).0 equal ∙ seat.key)) in
         let stood : stand_in scan (x.number, x.station) ≡ Some x =
-            ap (option_map (λ (p : Pass). record { number = x.number; station = x.station; pass = p })) (part ∙ ap Some (sym seat.part)) in
+        ap (option_map (λ (p : Pass). record { number = x.number; station = x.station; pass = p })) (part ∙ ap Some (sym seat.part)) in
         filter_map-to (stand_in scan) (enumerate_from 0 job.stations) (x.number, x.station) x there stood
       where
         pair : {n m : ℕ} {s t : StationFields} → n ≡ m → s ≡ t → ◌≡◌ {A = ℕ × StationFields} (n, s) (m, t)

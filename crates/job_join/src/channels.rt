@@ -39,7 +39,10 @@ pub(crate) fn channels_of(alloc: Global, products: &Pairs) -> Result<Named<()>, 
 pub(crate) fn chan_with<'a>(pass: &'a Pass, name: &[u8]) -> Option<&'a Chan>
     ensures { option_copied result ≡ chan_with pass.now name.now }
 {
-    pass.chans.items().iter().find(|chan| chan.id.bytes() == name)
+    pass.chans
+        .items()
+        .iter()
+        .find(|chan| chan.id.bytes() == name)
 }
 
 // Two truths that are one.
@@ -120,7 +123,9 @@ fn has_other_band(place: &Place, channels: &Named<()>) -> bool
 pub(crate) fn channel_differs(places: &[Place], channels: &Named<()>) -> Option<usize>
     ensures { result ≡ position (λ (p : Place). has_other_band (names channels.now) (visit_of p)) places.now }
 {
-    places.iter().position(|place| has_other_band(place, channels))
+    places
+        .iter()
+        .position(|place| has_other_band(place, channels))
 }
 
 // Whether the channels of a product differ.
@@ -150,5 +155,7 @@ fn has_unlike_product(place: &Place, products: &Pairs) -> bool
 pub(crate) fn product_differs(places: &[Place], products: &Pairs) -> Option<usize>
     ensures { result ≡ position (λ (p : Place). has_unlike_product products.now (visit_of p)) places.now }
 {
-    places.iter().position(|place| has_unlike_product(place, products))
+    places
+        .iter()
+        .position(|place| has_unlike_product(place, products))
 }

@@ -105,7 +105,11 @@ impl<'a> Joining<'a> {
     }
 
     /// The first cause among those that ask for no delay and for no size.
-    pub(crate) fn early(&self, alloc: Global, scans: &[Scan]) -> Result<Option<JoinFault>, AllocError>
+    pub(crate) fn early(
+        &self,
+        alloc: Global,
+        scans: &[Scan],
+    ) -> Result<Option<JoinFault>, AllocError>
         requires joining { IsJoining self.now }
         requires scans { scans_of self.now ≡ scans.now }
         ensures { IfOk result (λ r. r ≡ early_of self.now.job.now (scans_of self.now)) }

@@ -13,7 +13,7 @@ ghost use Rattle.job_join.specs.Planned.{IsShort, pair_of, is_pair, pairs_with, 
 
 use crate::joining::Joining;
 use crate::parts::{products, stations};
-use crate::plans::{stay_plan, station_plan};
+use crate::plans::{station_plan, stay_plan};
 use crate::stands::Here;
 use job_plan::{BaselinePlan, ProductPlan, StationPlan, StayPlan};
 use std::alloc::{AllocError, Global};
@@ -33,7 +33,12 @@ pub(crate) fn station_plans(alloc: Global, j: &Joining) -> Result<Vec<StationPla
 }
 
 /// The parts of some stations in a scan of a plan.
-pub(crate) fn stay_plans(alloc: Global, rate: u32, channels: &Named<()>, stands: &[Here]) -> Result<Vec<StayPlan>, AllocError>
+pub(crate) fn stay_plans(
+    alloc: Global,
+    rate: u32,
+    channels: &Named<()>,
+    stands: &[Here],
+) -> Result<Vec<StayPlan>, AllocError>
     requires { All (IsShort rate) stands.now }
     ensures { IfOk result (λ all. all.items ≡ map (λ (h : Here). stay_plan rate (names channels.now) (stand_of h)) stands.now) }
 {
@@ -57,7 +62,11 @@ fn number_of(numbers: &Named<usize>, name: &[u8]) -> u32
 }
 
 /// The products of a plan, by the numbers of the channels.
-pub(crate) fn product_plans(alloc: Global, j: &Joining, numbers: &Named<usize>) -> Result<Vec<ProductPlan>, AllocError>
+pub(crate) fn product_plans(
+    alloc: Global,
+    j: &Joining,
+    numbers: &Named<usize>,
+) -> Result<Vec<ProductPlan>, AllocError>
     requires numbers { (q : List ℕ) → named numbers.now q ≡ position (λ other. bytes_eq other q) (names j.now.channels) }
     requires few { length (names j.now.channels) < 2 ^ 32 }
     ensures { IfOk result (λ all. all.items ≡ map (product_plan (names j.now.channels)) j.now.job.now.products) }
@@ -74,7 +83,12 @@ pub(crate) fn product_plans(alloc: Global, j: &Joining, numbers: &Named<usize>) 
 }
 
 // Adds a baseline, where two stations make one.
-fn add_pair(pairs: &mut Vec<BaselinePlan>, a: usize, b: usize, with_itself: bool) -> Result<(), AllocError>
+fn add_pair(
+    pairs: &mut Vec<BaselinePlan>,
+    a: usize,
+    b: usize,
+    with_itself: bool,
+) -> Result<(), AllocError>
     requires first { a < 2 ^ 32 }
     requires second { b < 2 ^ 32 }
     ensures { OnOk result (pairs.new.items ≡ pairs.old.items ++ (if is_pair with_itself a b then pair_of a b ∷ [] else [])) }
@@ -89,7 +103,12 @@ fn add_pair(pairs: &mut Vec<BaselinePlan>, a: usize, b: usize, with_itself: bool
 }
 
 // Adds the baselines of a station.
-fn add_pairs(pairs: &mut Vec<BaselinePlan>, a: usize, stands: &[Here], with_itself: bool) -> Result<(), AllocError>
+fn add_pairs(
+    pairs: &mut Vec<BaselinePlan>,
+    a: usize,
+    stands: &[Here],
+    with_itself: bool,
+) -> Result<(), AllocError>
     requires first { a < 2 ^ 32 }
     requires others { All (λ (h : Here). h.number < 2 ^ 32) stands.now }
     ensures { OnOk result (pairs.new.items ≡ pairs.old.items ++ pairs_with with_itself a stands.now) }
@@ -101,7 +120,11 @@ fn add_pairs(pairs: &mut Vec<BaselinePlan>, a: usize, stands: &[Here], with_itse
 }
 
 /// The baselines of a scan.
-pub(crate) fn pairs_in(alloc: Global, stands: &[Here], with_itself: bool) -> Result<Vec<BaselinePlan>, AllocError>
+pub(crate) fn pairs_in(
+    alloc: Global,
+    stands: &[Here],
+    with_itself: bool,
+) -> Result<Vec<BaselinePlan>, AllocError>
     requires { All (λ (h : Here). h.number < 2 ^ 32) stands.now }
     ensures { IfOk result (λ all. all.items ≡ pairs_in with_itself stands.now stands.now) }
 {

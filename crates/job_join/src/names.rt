@@ -30,7 +30,11 @@ pub(crate) fn scan_names(alloc: Global, scans: &[Scan]) -> Result<Named<()>, All
 }
 
 /// Puts the keys of some stations' parts into a set.
-pub(crate) fn keep_keys(alloc: Global, set: &mut Named<()>, passes: &[Pass]) -> Result<(), AllocError>
+pub(crate) fn keep_keys(
+    alloc: Global,
+    set: &mut Named<()>,
+    passes: &[Pass],
+) -> Result<(), AllocError>
     ensures { OnOk result ((q : List ℕ) → is_some (named set.new q) ≡ (is_some (named set.old q) || list_any (λ (p : Pass). bytes_eq p.key q) passes.now)) }
 {
     for pass in passes {

@@ -25,7 +25,12 @@ pub(crate) struct Place<'a> {
 }
 
 // A scan.
-fn make_place<'a>(alloc: Global, numbers: &Named<usize>, job: &'a Job, scan: &'a Scan) -> Result<Place<'a>, AllocError>
+fn make_place<'a>(
+    alloc: Global,
+    numbers: &Named<usize>,
+    job: &'a Job,
+    scan: &'a Scan,
+) -> Result<Place<'a>, AllocError>
     requires numbers { (q : List ℕ) → named numbers.now q ≡ position (λ (s : StationFields). bytes_eq s.key q) job.now.stations }
     requires scan { IsScan scan.now }
     ensures { IfOk result (λ p. visit_of p ≡ visit_in job.now scan.now) }
@@ -40,7 +45,11 @@ fn make_place<'a>(alloc: Global, numbers: &Named<usize>, job: &'a Job, scan: &'a
 }
 
 /// The scans of a schedule, in its order.
-pub(crate) fn places_of<'a>(alloc: Global, job: &'a Job, scans: &'a [Scan]) -> Result<Vec<Place<'a>>, AllocError>
+pub(crate) fn places_of<'a>(
+    alloc: Global,
+    job: &'a Job,
+    scans: &'a [Scan],
+) -> Result<Vec<Place<'a>>, AllocError>
     requires { AreScans scans.now }
     ensures { IfOk result (λ places. map visit_of places.items ≡ map (visit_in job.now) scans.now) }
 {

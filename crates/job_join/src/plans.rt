@@ -33,7 +33,11 @@ fn recorded_of(station: &Station, name: &[u8]) -> Option<Recorded>
 }
 
 // Where a station records each of some channels.
-fn recorded_all(alloc: Global, station: &Station, channels: &Named<()>) -> Result<Vec<Option<Recorded>>, AllocError>
+fn recorded_all(
+    alloc: Global,
+    station: &Station,
+    channels: &Named<()>,
+) -> Result<Vec<Option<Recorded>>, AllocError>
     ensures { IfOk result (λ all. all.items ≡ map (recorded_of station.now) (names channels.now)) }
 {
     let mut all = Vec::new(alloc);
@@ -57,7 +61,12 @@ fn copies(alloc: Global, files: &[Name]) -> Result<Vec<Name>, AllocError>
 }
 
 /// A station of a plan.
-pub(crate) fn station_plan(alloc: Global, rate: u32, channels: &Named<()>, station: &Station) -> Result<StationPlan, AllocError>
+pub(crate) fn station_plan(
+    alloc: Global,
+    rate: u32,
+    channels: &Named<()>,
+    station: &Station,
+) -> Result<StationPlan, AllocError>
     requires { 0 < rate / samples_per_frame (shape_of 0 station.now) }
     ensures { IfOk result (λ plan. plan ≡ station_plan rate (names channels.now) station.now) }
 {
@@ -89,7 +98,11 @@ fn band_of(chan: Option<&Chan>) -> Option<Band>
 }
 
 // The band of each of some channels in a station's part.
-fn bands_of(alloc: Global, pass: &Pass, channels: &Named<()>) -> Result<Vec<Option<Band>>, AllocError>
+fn bands_of(
+    alloc: Global,
+    pass: &Pass,
+    channels: &Named<()>,
+) -> Result<Vec<Option<Band>>, AllocError>
     ensures { IfOk result (λ bands. bands.items ≡ map (λ name. band_of (chan_with pass.now name)) (names channels.now)) }
 {
     let mut bands = Vec::new(alloc);
@@ -101,7 +114,12 @@ fn bands_of(alloc: Global, pass: &Pass, channels: &Named<()>) -> Result<Vec<Opti
 }
 
 /// A station's part of a scan of a plan.
-pub(crate) fn stay_plan(alloc: Global, rate: u32, channels: &Named<()>, here: &Here) -> Result<StayPlan, AllocError>
+pub(crate) fn stay_plan(
+    alloc: Global,
+    rate: u32,
+    channels: &Named<()>,
+    here: &Here,
+) -> Result<StayPlan, AllocError>
     requires number { here.now.number < 2 ^ 32 }
     requires from { first_sample rate here.now.pass.now < 2 ^ 64 }
     requires to { end_sample rate here.now.pass.now < 2 ^ 64 }
@@ -117,7 +135,10 @@ pub(crate) fn stay_plan(alloc: Global, rate: u32, channels: &Named<()>, here: &H
 }
 
 /// The numbers of some channels, by their names.
-pub(crate) fn channel_numbers(alloc: Global, channels: &Named<()>) -> Result<Named<usize>, AllocError>
+pub(crate) fn channel_numbers(
+    alloc: Global,
+    channels: &Named<()>,
+) -> Result<Named<usize>, AllocError>
     ensures { IfOk result (λ m. (q : List ℕ) → named m q ≡ position (λ other. bytes_eq other q) (names channels.now)) }
 {
     let mut numbers = Named::new(alloc);

@@ -24,7 +24,12 @@ pub(crate) struct Here<'a> {
 }
 
 /// Puts a number under a key that has none.
-pub(crate) fn number(alloc: Global, numbers: &mut Named<usize>, key: &[u8], i: usize) -> Result<(), AllocError>
+pub(crate) fn number(
+    alloc: Global,
+    numbers: &mut Named<usize>,
+    key: &[u8],
+    i: usize,
+) -> Result<(), AllocError>
     ensures { OnOk result ((q : List ℕ) → named numbers.new q ≡ option_or (named numbers.old q) (if bytes_eq key.now q then Some i else None)) }
 {
     if numbers.has(key) {
@@ -35,7 +40,10 @@ pub(crate) fn number(alloc: Global, numbers: &mut Named<usize>, key: &[u8], i: u
 }
 
 /// The numbers of some stations, by their keys.
-pub(crate) fn station_numbers(alloc: Global, stations: &[Station]) -> Result<Named<usize>, AllocError>
+pub(crate) fn station_numbers(
+    alloc: Global,
+    stations: &[Station],
+) -> Result<Named<usize>, AllocError>
     ensures { IfOk result (λ m. (q : List ℕ) → named m q ≡ position (λ (s : StationFields). bytes_eq s.key q) stations.now) }
 {
     let mut numbers = Named::new(alloc);

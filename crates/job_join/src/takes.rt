@@ -12,7 +12,11 @@ use vex_schedule::Scan;
 
 /// The first take that names no scan.
 #[tactic(auto, unfolding(crate::specs::Standing::unknown_scan))]
-pub(crate) fn unknown_scan(alloc: Global, job: &Job, scans: &[Scan]) -> Result<Option<usize>, AllocError>
+pub(crate) fn unknown_scan(
+    alloc: Global,
+    job: &Job,
+    scans: &[Scan],
+) -> Result<Option<usize>, AllocError>
     ensures { IfOk result (λ r. r ≡ unknown_scan job.now scans.now) }
 {
     let known = scan_names(alloc, scans)?;

@@ -1,3 +1,11 @@
+pub mod Firsts
+pub mod Sets
+pub mod TakesLemmas
+pub mod StandsLemmas
+pub mod ChannelsLemmas
+pub mod JoinLemmas
+pub mod LimitsLemmas
+pub mod PlansLemmas
 pub mod RangesLists
 pub mod RangesBaselines
 pub mod RangesStands

@@ -5,4 +5,7 @@ pub mod Differing
 pub mod Modelled
 pub mod Limits
 pub mod Joined
+pub mod Places
+pub mod Joining
+pub mod Planned
 pub mod KindName

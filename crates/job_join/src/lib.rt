@@ -4,6 +4,19 @@
 //! `$FREQ`.)
 #![tactic(auto)]
 
+mod channels;
 mod fault;
+mod frames;
+mod joining;
+mod limits;
+mod lists;
+mod names;
+mod parts;
+mod places;
+mod plans;
+mod rates;
+mod spans;
+mod stands;
+mod takes;
 
 pub use fault::{JoinFault, Quantity};

@@ -1,0 +1,52 @@
+-- The lists of a plan.
+use Rattle.std.proofs.Common.{◌≡◌, ℕ, ◌+◌, ◌<◌, ◌≤◌, ◌==◌, ◌&&◌, ◌||◌, nat_lt, Bool, true, false, cond, List, [], ◌∷◌, ◌++◌, map, filter, flat_map, take, length, get_or, None, Some, Option, unwrap_or, slice_get, ap, refl, sym, ◌∙◌, arith}
+use Rattle.std.specs.List.{position, position_or_len}
+use Rattle.std.proofs.lemmas.Bool.{ltb-true}
+use Rattle.std.proofs.lemmas.List.{map-append, append-nil, append_assoc, take_more, map_more}
+use Rattle.std.proofs.lemmas.List.Concat.{flat_map-append}
+use Rattle.std.proofs.lemmas.List.Elements.{filter_more}
+use Rattle.std.proofs.lemmas.Option.{slice_get_within, get_or_from_slice_get}
+use Rattle.vex_schedule.specs.declared.scan.Scan.{Scan}
+use Rattle.job_plan.specs.declared.plan.BaselinePlan.{BaselinePlan}
+use Rattle.job_text.specs.Job.{JobFields}
+use Rattle.job_join.specs.declared.stands.Here.{Here}
+use Rattle.job_join.specs.Standing.{Stand, stands_in}
+use Rattle.job_join.specs.Limits.{baselines_in}
+use Rattle.job_join.specs.Places.{stand_of, stands_of}
+use Rattle.job_join.specs.Planned.{pair_of, is_pair, pairs_with, pairs_in}
+
+-- one more thing is made
+pub map-turn : {X Y : Type 0} (f : X → Y) (xs : List X) (i : ℕ) (x : X) (ys zs : List Y) → slice_get xs i ≡ Some x → ys ≡ map f (take i xs) → zs ≡ ys ++ f x ∷ [] → zs ≡ map f (take (i + 1) xs)
+map-turn f xs i x ys zs is so_far new =
+    new ∙ ap (λ front. front ++ f x ∷ []) so_far ∙ ap (λ y. map f (take i xs) ++ f y ∷ []) (sym (get_or_from_slice_get xs i x x is)) ∙ sym (map_more f xs i x (slice_get_within xs i x is))
+
+-- a place is less than a bound of the list
+pub position-few : {X : Type 0} (p : X → Bool) (xs : List X) (most : ℕ) → length xs < most → unwrap_or (position p xs) 0 < most
+position-few p xs most few = by (nat_lt (position_or_len p xs) (length xs)) refl
+  where
+    by : (b : Bool) → nat_lt (position_or_len p xs) (length xs) ≡ b → unwrap_or (cond b (Some (position_or_len p xs)) None) 0 < most
+    by true less = omega (arith, ltb-true (position_or_len p xs) (length xs) less)
+    by false past = omega arith
+
+-- one more station is looked at
+pub pairs-turn : (auto : Bool) (a : ℕ) (hs : List Here) (i : ℕ) (h : Here) (first ps qs : List BaselinePlan) → i < length hs → h ≡ get_or hs i h
+    → ps ≡ first ++ pairs_with auto a (take i hs) → qs ≡ ps ++ cond (is_pair auto a h.number) (pair_of a h.number ∷ []) [] → qs ≡ first ++ pairs_with auto a (take (i + 1) hs)
+pairs-turn auto a hs i h first ps qs less is so_far new =
+    let p : Here → Bool = λ (x : Here). is_pair auto a x.number in
+    let f : Here → BaselinePlan = λ (x : Here). pair_of a x.number in
+    let more : filter p (take (i + 1) hs) ≡ filter p (take i hs) ++ cond (p h) (h ∷ []) [] = filter_more p hs i h less ∙ ap (λ x. filter p (take i hs) ++ cond (p x) (x ∷ []) []) (sym is) in
+    new ∙ ap (λ front. front ++ cond (p h) (f h ∷ []) []) so_far
+    ∙ append_assoc first (pairs_with auto a (take i hs)) (cond (p h) (f h ∷ []) [])
+    ∙ ap (λ end. first ++ end) (ap (λ end. map f (filter p (take i hs)) ++ end) (one f (p h) h) ∙ sym (map-append f (filter p (take i hs)) (cond (p h) (h ∷ []) [])) ∙ ap (map f) (sym more))
+  where
+    one : (f : Here → BaselinePlan) (b : Bool) (h : Here) → cond b (f h ∷ []) [] ≡ map f (cond b (h ∷ []) [])
+    one f true h = refl
+    one f false h = refl
+
+pub firsts-turn : (auto : Bool) (hs : List Here) (i : ℕ) (h : Here) (ps qs : List BaselinePlan) → i < length hs → h ≡ get_or hs i h
+    → ps ≡ pairs_in auto hs (take i hs) → qs ≡ ps ++ pairs_with auto h.number hs → qs ≡ pairs_in auto hs (take (i + 1) hs)
+firsts-turn auto hs i h ps qs less is so_far new =
+    let f : Here → List BaselinePlan = λ (x : Here). pairs_with auto x.number hs in
+    let more : take (i + 1) hs ≡ take i hs ++ h ∷ [] = take_more hs i h less ∙ ap (λ x. take i hs ++ x ∷ []) (sym is) in
+    new ∙ ap (λ front. front ++ f h) so_far ∙ ap (λ end. pairs_in auto hs (take i hs) ++ end) (sym (append-nil (f h)))
+    ∙ sym (flat_map-append f (take i hs) (h ∷ [])) ∙ ap (flat_map f) (sym more)

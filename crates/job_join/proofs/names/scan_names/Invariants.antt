@@ -1,0 +1,8 @@
+use Rattle.std.proofs.Common.{◌≡◌, ℕ, List, take, bytes_eq, is_some}
+use Rattle.std.specs.List.{list_any}
+use Rattle.vex_reader.specs.File.{named}
+use Rattle.vex_schedule.specs.declared.scan.Scan.{Scan}
+use Rattle.job_join.proofs.names.scan_names.Given as goal
+
+abbrev pub invariant-loop-scan : goal.invariant-loop-scan
+invariant-loop-scan l = (q : List ℕ) → is_some (named l.set q) ≡ list_any (λ (scan : Scan). bytes_eq scan.name q) (take l.scan-index l.scans)

@@ -1,0 +1,7 @@
+use Rattle.std.proofs.Common.{◌≡◌, ℕ, List, take, bytes_eq}
+use Rattle.std.specs.List.{position}
+use Rattle.vex_reader.specs.File.{named, names}
+use Rattle.job_join.proofs.plans.channel_numbers.Given as goal
+
+abbrev pub invariant-loop-i : goal.invariant-loop-i
+invariant-loop-i l = (q : List ℕ) → named l.numbers q ≡ position (λ other. bytes_eq other q) (take l.i (names l.channels))

@@ -1,0 +1,41 @@
+-- A job and the scans of a schedule, as the program joins them.
+use Rattle.std.specs.Prelude.{◌≡◌, ℕ, List, [], ◌∷◌, map, max, fold, Option, option_map}
+use Rattle.vex_reader.specs.File.{names}
+use Rattle.vex_schedule.specs.declared.scan.Scan.{Scan}
+use Rattle.job_text.specs.Job.{JobFields}
+use Rattle.job_join.specs.declared.fault.JoinFault.{JoinFault}
+use Rattle.job_join.specs.declared.fault.JoinFault.TheVariants.{UnknownScan, UnknownStation, RateDiffers, ChannelDiffers, ProductDiffers, FrameRate}
+use Rattle.job_join.specs.declared.places.Place.{Place}
+use Rattle.job_join.specs.declared.joining.Joining.{Joining}
+use Rattle.job_join.specs.Standing.{rate_of, unknown_scan, unknown_station}
+use Rattle.job_join.specs.Channels.{channels_of}
+use Rattle.job_join.specs.Differing.{rate_differs, channel_differs, product_differs, frame_rate}
+use Rattle.job_join.specs.Joined.{first_there}
+use Rattle.job_join.specs.declared.stands.Here.{Here}
+use Rattle.job_join.specs.Spans.{end_sample}
+use Rattle.job_join.specs.Places.{visit_in, visit_of}
+
+-- the scans
+abbrev pub scans_of : Joining → List Scan
+scans_of j = map (λ (p : Place). p.scan.now) j.places.items
+
+-- each scan is held with the job's stations in it, and the channels and the rate are the job's
+pub record IsJoining (j : Joining) : Type 0 where
+  pub visits : map visit_of j.places.items ≡ map (visit_in j.job.now) (scans_of j)
+  pub channels : names j.channels ≡ channels_of j.job.now
+  pub rate : j.rate ≡ rate_of j.job.now (scans_of j)
+
+-- the first cause among those that ask for no delay and for no size
+abbrev pub early_of : JobFields → List Scan → Option JoinFault
+early_of job scans = first_there (
+    option_map UnknownScan (unknown_scan job scans)
+    ∷ option_map UnknownStation (unknown_station job scans)
+    ∷ option_map RateDiffers (rate_differs job scans)
+    ∷ option_map ChannelDiffers (channel_differs job scans)
+    ∷ option_map ProductDiffers (product_differs job scans)
+    ∷ option_map FrameRate (frame_rate job scans)
+    ∷ [])
+
+-- as far as the stations of a scan go
+abbrev pub held_samples : ℕ → Place → ℕ
+held_samples rate p = fold (λ most (h : Here). max most (end_sample rate h.pass.now)) 0 p.stands.items

@@ -1,0 +1,64 @@
+//! The parts of a job.
+ghost use Rattle.std.specs.Prelude.{◌≡◌};
+ghost use Rattle.vex_reader.specs.File.{names};
+ghost use Rattle.job_text.specs.Ranges.{IsJob};
+
+use job_text::{Job, Pairs, Station};
+use vex_reader::Named;
+
+/// The stations, in the order of their lines.
+pub(crate) fn stations(job: &Job) -> &[Station]
+    ensures value { result.now ≡ job.now.stations }
+    ensures ranges { IsJob job.now }
+{
+    job.stations.items()
+}
+
+/// The names that the job takes.
+pub(crate) fn takes(job: &Job) -> &Named<()>
+    ensures { names result.now ≡ job.now.takes }
+{
+    &job.takes
+}
+
+/// The products, each by its two channels.
+pub(crate) fn products(job: &Job) -> &Pairs
+    ensures { result.now ≡ job.now.products }
+{
+    &job.products
+}
+
+/// The samples from one knot of a delay to the next.
+pub(crate) fn knot(job: &Job) -> u32
+    ensures { result ≡ job.now.knot }
+{
+    job.knot
+}
+
+/// The samples in an epoch.
+pub(crate) fn epoch(job: &Job) -> u32
+    ensures { result ≡ job.now.epoch }
+{
+    job.epoch
+}
+
+/// The samples in an integration.
+pub(crate) fn integration(job: &Job) -> u64
+    ensures { result ≡ job.now.integration }
+{
+    job.integration
+}
+
+/// The number of lags.
+pub(crate) fn lags(job: &Job) -> u32
+    ensures { result ≡ job.now.lags }
+{
+    job.lags
+}
+
+/// Whether a station stands with itself.
+pub(crate) fn auto(job: &Job) -> bool
+    ensures { result ≡ job.now.auto }
+{
+    job.auto
+}

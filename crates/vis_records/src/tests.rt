@@ -232,43 +232,6 @@ const CHANGES: [(usize, u8, VisKind, u64); 20] = [
 ];
 
 #[test]
-fn a_file(rt: HostRuntime) -> Result<(), Fail> {
-    let vis = read_all(rt.alloc(), &FILE)?;
-    assert_eq!(rt; vis.head().lags(), 2);
-    let wanted = [
-        Cell {
-            re: 567,
-            im: 0,
-            count: 63,
-        },
-        Cell {
-            re: 576,
-            im: 0,
-            count: 64,
-        },
-    ];
-    assert_eq!(rt; vis.cells(), wanted.as_slice());
-    let mut sink = MemSink::new(rt.alloc(), 200, Vec::new(rt.alloc()));
-    assert_eq!(rt; write_head(vis.head(), &mut sink), Ok(()));
-    assert_eq!(rt; Some(sink.bytes()), FILE.get(..83));
-    Ok(())
-}
-
-#[test]
-fn short_files(rt: HostRuntime) -> Result<(), Fail> {
-    for n in 0..FILE.len() {
-        let fault = read_all(rt.alloc(), &FILE[..n]).err().ok_or("a file")?;
-        assert_eq!(rt; (fault.kind, fault.at), (VisKind::Short, n as u64));
-    }
-    // a head that states the most scans, and has none
-    let mut text = FILE[..52].to_vec(rt.alloc())?;
-    text.as_mut_slice()[48..].fill(255);
-    let fault = read_all(rt.alloc(), &text).err().ok_or("a file")?;
-    assert_eq!(rt; (fault.kind, fault.at), (VisKind::Short, 52));
-    Ok(())
-}
-
-#[test]
 fn broken_files(rt: HostRuntime) -> Result<(), Fail> {
     for (place, byte, kind, at) in CHANGES {
         let mut text = FILE.to_vec(rt.alloc())?;

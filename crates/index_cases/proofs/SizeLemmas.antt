@@ -1,6 +1,5 @@
 -- One more file with its size.
-use Rattle.std.proofs.Common.{◌≡◌, subst, ℕ, List, [], ◌∷◌, ◌++◌, Option, Some, None}
-use Rattle.std.specs.List.{All}
+use Rattle.std.proofs.Common.{◌≡◌, subst, List, [], ◌∷◌, ◌++◌, Option, Some, None}
 use Rattle.std.proofs.lemmas.List.Elements.{All-push}
 use Rattle.dev_traits.specs.Told.{WhereTold}
 use Rattle.frame_index.specs.declared.recording.FileRef.{FileRef}

@@ -6,3 +6,6 @@ pub mod Faults
 pub mod Answer
 pub mod Growing
 pub mod Places
+pub mod Frame
+pub mod Sound
+pub mod Inline

@@ -1,4 +1,10 @@
 pub mod EntryLemmas
+pub mod ChannelLemmas
 pub mod NameLemmas
 pub mod PairLemmas
 pub mod StationLemmas
+pub mod SaidLemmas
+pub mod TextLemmas
+pub mod ReadLemmas
+pub mod WholeLemmas
+pub mod InlineLemmas

@@ -4,6 +4,7 @@ use Rattle.std.specs.Prelude.{Option}
 use Rattle.std.specs.List.{list_any}
 use Rattle.std.proofs.lemmas.Cmp.{nat_list_eq_equiv}
 use Rattle.std.proofs.lemmas.Slice.Eq.{bytes_eq-Decides}
+use Rattle.std.proofs.lemmas.List.{map_push}
 use Rattle.vex_reader.specs.File.{named, names, put}
 
 pub same_name : (name : List ℕ) → bytes_eq name name ≡ true
@@ -56,3 +57,15 @@ module _ {A : Type 0} where
           → is_some (named (x ∷ xs) name) ≡ list_any (λ other. bytes_eq other name) (names (x ∷ xs))
       by true e rest = rw e refl
       by false e rest = rw e rest
+
+  -- the names with a new one
+  pub names-put : (xs : List (List ℕ × A)) (name : List ℕ) (thing : A) → named xs name ≡ None → names (put xs name thing) ≡ names xs ++ name ∷ []
+  names-put xs name thing none = ap names (put-new xs name thing none) ∙ map_push (λ (x : List ℕ × A). x.0) xs (name, thing)
+
+  -- whether something stands there tells whether nothing does
+  pub named-none : (xs : List (List ℕ × A)) (name : List ℕ) → is_some (named xs name) ≡ false → named xs name ≡ None
+  named-none xs name h = by (named xs name) h
+    where
+      by : (o : Option A) → is_some o ≡ false → o ≡ None
+      by None e = refl
+      by (Some x) e = absurd cc

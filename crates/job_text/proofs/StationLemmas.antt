@@ -22,7 +22,12 @@ use Rattle.std.proofs.lemmas.List.Quantifiers.{all_pairs_push}
 use Rattle.corr_model.specs.Delay.{IsClock}
 use Rattle.job_text.specs.Job.{StationFields}
 use Rattle.job_text.specs.Ranges.{AreDistinct, IsStationOf, IsChanOf}
-use Rattle.job_text.specs.Faults.{station_with}
+use Rattle.std.specs.Option.{option_map_or}
+use Rattle.std.proofs.lemmas.Option.{slice_get-get_or}
+use Rattle.job_text.specs.declared.fault.JobKind.{JobKind}
+use Rattle.job_text.specs.declared.fault.JobKind.TheVariants.{Unknown, Memory}
+use Rattle.job_text.specs.Values.{field}
+use Rattle.job_text.specs.Faults.{station_with, station_fault}
 use Rattle.job_text.specs.Growing.{changed}
 use Rattle.job_text.specs.Places.{ArePlaces}
 use Rattle.job_text.proofs.EntryLemmas.{fails, differs}
@@ -231,3 +236,38 @@ IsStationOf-clock s entry h new = record { key = h.key; shape = h.shape; bits = 
 
 pub IsStationOf-poly : (s : StationFields) (entry : PolyEntry) → IsStationOf s → IsSecond entry.second → IsStationOf (record s { polys = s.polys ++ entry ∷ [] })
 IsStationOf-poly s entry h new = record { key = h.key; shape = h.shape; bits = h.bits; files = h.files; chans = h.chans; distinct = h.distinct; polys = All-push (λ (e : PolyEntry). IsSecond e.second) s.polys entry h.polys new; clocks = h.clocks }
+
+find-passes : (stations : List StationFields) (key : List ℕ) (s : StationFields) → station_with stations key ≡ Some s → bytes_eq s.key key ≡ true
+find-passes [] key s is = absurd cc
+find-passes (t ∷ ts) key s is = by (bytes_eq t.key key) refl (find-passes ts key s)
+  where
+    by : (b : Bool) → bytes_eq t.key key ≡ b → (station_with ts key ≡ Some s → bytes_eq s.key key ≡ true) → bytes_eq s.key key ≡ true
+    by true e rest =
+        let first : station_with (t ∷ ts) key ≡ Some t = rw e refl in
+        let both : Some t ≡ Some s = sym first ∙ is in
+        let same : t ≡ s = cc in
+        rw (← same) e
+    by false e rest = rest ((λ i. cond (sym e i) (Some t) (station_with ts key)) ∙ is)
+
+-- What follows at the place that was found for a key: `old` is the station there, and `new` stands in its place.
+module _ {stations : List StationFields} {places : List (List ℕ × ℕ)} (h : ArePlaces stations places) (fields : List (List ℕ)) (i : ℕ) (old : StationFields)
+    (less : i < length stations) (there : slice_get stations i ≡ station_with stations (field fields 0)) (is : old ≡ get_or stations i old) where
+  pub station-here : station_with stations (field fields 0) ≡ Some old
+  station-here = sym there ∙ slice_get-get_or stations i old less ∙ ap Some (sym is)
+
+  at-place : named places (field fields 0) ≡ Some i
+  at-place =
+      let key : old.key ≡ field fields 0 = name_from old.key (field fields 0) (find-passes stations (field fields 0) old station-here) in
+      ap (named places) (sym key ∙ ap (λ s. s.key) is) ∙ h.at i old less
+
+  pub fault-here : (fault : StationFields → Option JobKind) → station_fault stations fields fault ≡ fault old
+  fault-here fault = ap (λ o. option_map_or fault o (Some Unknown)) station-here
+
+  pub grown-here : (fault : StationFields → Option JobKind) (f : StationFields → StationFields) (new : StationFields) → (fault old ≡ None) × (new ≡ f old)
+      → (station_fault stations fields fault ≡ None) × (set stations i new ≡ changed stations (field fields 0) f)
+  grown-here fault f new taken =
+      (fault-here fault ∙ taken.0, ap (set stations i) (taken.1 ∙ ap f is) ∙ set-changed h (field fields 0) i old f at-place)
+
+  pub refused-here : (fault : StationFields → Option JobKind) (kind : JobKind) → (kind ≡ Memory) ⊎ (fault old ≡ Some kind) → (kind ≡ Memory) ⊎ (station_fault stations fields fault ≡ Some kind)
+  refused-here fault kind (inl memory) = inl memory
+  refused-here fault kind (inr refused) = inr (fault-here fault ∙ refused)

@@ -14,13 +14,19 @@ use Rattle.job_text.specs.Faults.{line_fault}
 abbrev pub faults_behind : Bool → List Row → List (List ℕ) → List (Option JobKind)
 faults_behind inline before [] = []
 faults_behind inline before (line ∷ more) =
-    line_fault inline before line ∷ faults_behind inline (before ++ option_to_list (row_of line)) more
+    line_fault inline (said_by before) line ∷ faults_behind inline (before ++ option_to_list (row_of line)) more
 
 -- the first fault, where the lines are counted from this number on
 abbrev pub first_fault : ℕ → List (Option JobKind) → Option JobFault
 first_fault n [] = None
 first_fault n (None ∷ more) = first_fault (n + 1) more
 first_fault n (Some kind ∷ more) = Some (record { kind = kind; line = n })
+
+-- no line is missing: a station and a product, and in a job that states its scans itself a rate and a scan
+abbrev pub is_whole : Bool → Said → Bool
+is_whole inline said =
+    nat_lt 0 (length said.stations) && (nat_lt 0 (length said.products)
+    && (not inline || (is_some said.rate && nat_lt 0 (length said.scans))))
 
 -- The job that rows say, none where a line is missing: `lags`, `integration`, `epoch`, a station, a product, and in a job
 -- that states its scans itself `rate` and a scan. Without a `knot` the knots stand 32,768 samples apart.
@@ -29,21 +35,19 @@ job_by inline said = do
   lags ← said.lags
   integration ← said.integration
   epoch ← said.epoch
-  if nat_lt 0 (length said.stations) && nat_lt 0 (length said.products)
-      && (not inline || (is_some said.rate && nat_lt 0 (length said.scans)))
-      then Some (record {
-        lags = lags;
-        integration = integration;
-        epoch = epoch;
-        knot = unwrap_or said.knot 32768;
-        auto = said.auto;
-        rate = said.rate;
-        stations = said.stations;
-        products = said.products;
-        takes = said.takes;
-        scans = said.scans;
-        bands = said.bands;
-      }) else None
+  if is_whole inline said then Some (record {
+    lags = lags;
+    integration = integration;
+    epoch = epoch;
+    knot = unwrap_or said.knot 32768;
+    auto = said.auto;
+    rate = said.rate;
+    stations = said.stations;
+    products = said.products;
+    takes = said.takes;
+    scans = said.scans;
+    bands = said.bands;
+  }) else None
 
 -- the rows of a text
 abbrev pub rows_in : List (List ℕ) → List Row
@@ -67,3 +71,8 @@ out_of_memory = record { kind = Memory; line = 0 }
 abbrev pub Gives : Result JobFields JobFault → Result JobFields JobFault → Type 0
 Gives (Ok job) wanted = wanted ≡ Ok job
 Gives (Err fault) wanted = (fault ≡ out_of_memory) ⊎ (wanted ≡ Err fault)
+
+-- what the lines of a text say, or the first fault of one
+abbrev pub Reads : Bool → List (List ℕ) → Result Said JobFault → Type 0
+Reads inline all (Ok said) = (first_fault 1 (faults_behind inline [] all) ≡ None) × (said ≡ said_by (rows_in all))
+Reads inline all (Err fault) = (fault ≡ out_of_memory) ⊎ (first_fault 1 (faults_behind inline [] all) ≡ Some fault)

@@ -5,14 +5,14 @@ use Rattle.std.specs.List.{list_any}
 use Rattle.std.specs.Ordering.{int_eq}
 use Rattle.vex_reader.specs.File.{named}
 use Rattle.job_lines.specs.Words.{word_of, is_inline, needed, further, are_written}
-use Rattle.job_lines.specs.Rows.{Row, is_clean, fields_of, row_of}
+use Rattle.job_lines.specs.Rows.{is_clean, fields_of}
 use Rattle.job_lines.specs.declared.word.Word.{Word}
 use Rattle.job_lines.specs.declared.word.Word.TheVariants.{Lags, Integration, Epoch, Knot, Auto, Station, File, Chan, Clock, Poly, Product, Take, Rate, Scan, Band}
 use Rattle.job_text.specs.declared.fault.JobKind.{JobKind}
 use Rattle.job_text.specs.declared.fault.JobKind.TheVariants.{Line, Double, Unknown, Range}
 use Rattle.job_text.specs.Job.{StationFields}
 use Rattle.job_text.specs.Values.{field, second_of, lags_in, integration_in, epoch_in, knot_in, station_in, chan_in, clock_in, poly_in, rate_in, scan_in, band_in}
-use Rattle.job_text.specs.Said.{Said, said_by}
+use Rattle.job_text.specs.Said.{Said}
 
 -- the station of a key
 abbrev pub station_with : List StationFields → List ℕ → Option StationFields
@@ -84,7 +84,7 @@ fields_fault inline said [] = None
 fields_fault inline said (first ∷ fields) =
     option_map_or (λ word. word_fault inline said word fields) (word_of first) (Some Unknown)
 
--- the fault of a line behind these rows
-unfoldable pub line_fault : Bool → List Row → List ℕ → Option JobKind
-line_fault inline before line =
-    if not (is_clean line) then Some Line else fields_fault inline (said_by before) (fields_of line)
+-- the fault of a line behind rows that say so much
+unfoldable pub line_fault : Bool → Said → List ℕ → Option JobKind
+line_fault inline said line =
+    if not (is_clean line) then Some Line else fields_fault inline said (fields_of line)

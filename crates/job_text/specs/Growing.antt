@@ -1,9 +1,11 @@
 -- What one more row adds to what rows say.
-use Rattle.std.specs.Prelude.{◌≡◌, ◌⊎◌, ℕ, ◌^◌, Bool, true, List, [], ◌∷◌, ◌++◌, map, bytes_eq, option_to_list, Option, Some, None, Result, Ok, Err, if◌then◌else◌}
+use Rattle.std.specs.Prelude.{◌≡◌, ◌⊎◌, ℕ, ◌^◌, Bool, true, List, [], ◌∷◌, ◌++◌, map, bytes_eq, option_to_list, option_map, Option, Some, None, Result, Ok, Err, if◌then◌else◌}
+use Rattle.job_lines.specs.Rows.{Row}
 use Rattle.job_lines.specs.declared.word.Word.{Word}
 use Rattle.job_lines.specs.declared.word.Word.TheVariants.{Lags, Integration, Epoch, Knot, Auto, Station, File, Chan, Clock, Poly, Product, Take, Rate, Scan, Band}
 use Rattle.job_text.specs.declared.fault.JobKind.{JobKind}
 use Rattle.job_text.specs.declared.fault.JobKind.TheVariants.{Memory}
+use Rattle.job_text.specs.declared.fault.JobFault.{JobFault}
 use Rattle.job_text.specs.Job.{StationFields}
 use Rattle.job_text.specs.Values.{field, lags_in, integration_in, epoch_in, knot_in, station_in, chan_in, clock_in, poly_in, rate_in, scan_in, band_in}
 use Rattle.job_text.specs.Said.{Said}
@@ -48,3 +50,18 @@ grown said Band fields = record said { bands = said.bands ++ option_to_list (ban
 abbrev pub Takes : {S : Type 0} → Option JobKind → S → Result (Unit {0}) JobKind → S → Type 0
 Takes fault grown (Ok _) new = (fault ≡ None) × (new ≡ grown)
 Takes fault grown (Err kind) new = (kind ≡ Memory) ⊎ (fault ≡ Some kind)
+
+-- the same, of a call that takes what is there and gives what it grew to
+abbrev pub Grows : {S : Type 0} → Option JobKind → S → Result S JobKind → Type 0
+Grows fault grown (Ok new) = (fault ≡ None) × (new ≡ grown)
+Grows fault grown (Err kind) = (kind ≡ Memory) ⊎ (fault ≡ Some kind)
+
+-- what a line adds, which may have no row
+abbrev pub grown_by : Said → Option Row → Said
+grown_by said None = said
+grown_by said (Some row) = grown said row.word row.fields
+
+-- the same, where a fault is told with the number of its line
+abbrev pub GrowsAt : {S : Type 0} → Option JobKind → S → ℕ → Result S JobFault → Type 0
+GrowsAt fault grown number (Ok new) = (fault ≡ None) × (new ≡ grown)
+GrowsAt fault grown number (Err e) = (e ≡ record { kind = Memory; line = 0 }) ⊎ (option_map (λ kind. record { kind = kind; line = number }) fault ≡ Some e)

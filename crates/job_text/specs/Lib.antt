@@ -7,3 +7,6 @@ pub mod Answer
 pub mod Growing
 pub mod Places
 pub mod KindName
+pub mod Frame
+pub mod Sound
+pub mod Inline

@@ -1,10 +1,19 @@
 -- The places of stations by their keys.
-use Rattle.std.specs.Prelude.{◌≡◌, ℕ, ◌<◌, List, length, slice_index_or, Some}
+use Rattle.std.specs.Prelude.{◌≡◌, ℕ, ◌<◌, List, length, slice_index_or, Some, is_some}
+use Rattle.std.specs.List.{All}
 use Rattle.vex_reader.specs.File.{named}
 use Rattle.job_text.specs.Job.{StationFields}
+use Rattle.job_text.specs.Ranges.{IsStationOf}
+use Rattle.job_text.specs.Faults.{has_channel}
 
 -- under the key of each station stands its place, and under no other name a place
 pub record ArePlaces (stations : List StationFields) (places : List (List ℕ × ℕ)) : Type 0 where
   pub at : (k : ℕ) (d : StationFields) → k < length stations → named places (slice_index_or stations k d).key ≡ Some k
   pub within : (key : List ℕ) (k : ℕ) → named places key ≡ Some k → k < length stations
   pub there : (key : List ℕ) (k : ℕ) (d : StationFields) → named places key ≡ Some k → (slice_index_or stations k d).key ≡ key
+
+-- what is kept of stations beside them: their places, and the names of their channels
+pub record AreIndexed {T : Type 0} (stations : List StationFields) (places : List (List ℕ × ℕ)) (channels : List (List ℕ × T)) : Type 0 where
+  pub at_places : ArePlaces stations places
+  pub each : All IsStationOf stations
+  pub has_names : (name : List ℕ) → is_some (named channels name) ≡ has_channel stations name

@@ -20,7 +20,7 @@ last xs = fold (λ _ x. Some x) None xs
 
 -- what the fields say, where the first of them is the key
 abbrev pub of_key : {A : Type 0} → List ℕ → (List (List ℕ) → Option A) → List (List ℕ) → Option A
-of_key key read fields = if bytes_eq (field fields 0) key then read fields else None
+of_key key read fields = if bytes_eq key (field fields 0) then read fields else None
 
 -- a station with what the rows say that name it
 unfoldable pub filled : List Row → StationFields → StationFields

@@ -1,14 +1,20 @@
 //! A station of a job.
-ghost use Rattle.std.specs.Prelude.{◌≡◌, ◌^◌, ◌≤◌, ◌++◌, ◌∷◌, [], OnOk, None};
-ghost use Rattle.std.specs.List.{list_any};
-ghost use Rattle.std.specs.Ordering.{int_eq};
+ghost use Rattle.std.specs.Prelude.{◌≡◌, ◌^◌, ◌≤◌, ◌++◌, ◌∷◌, [], OnOk, IfOk, IfSome, None, Some, false, map};
+ghost use Rattle.job_text.specs.Values.{field, station_in};
+ghost use Rattle.job_text.specs.Faults.{is_taken, chan_fault, clock_fault, poly_fault};
+ghost use Rattle.job_text.specs.Growing.{Takes, with_file, with_chan, with_clock, with_poly};
 ghost use Rattle.vex_reader.specs.File.{named};
 ghost use Rattle.num_time.specs.Times.{IsSecond};
 ghost use Rattle.std.specs.Str.{IsUtf8};
 ghost use Rattle.corr_model.specs.Delay.{IsClock};
 ghost use Rattle.job_text.specs.Ranges.{IsStationOf, IsChanOf};
+ghost use Rattle.job_text.specs.declared.places.ChanPlace.{ChanPlace};
 
+use crate::entries::{add_entry, is_taken};
+use crate::fault::JobKind;
+use crate::frame::frame_in;
 use crate::places::ChanPlace;
+use crate::values::{chan_in, clock_in, field, poly_in, second_of};
 use delay_poly::{PolyEntry, PolyList};
 use num_time::Name;
 use station_clock::{ClockEntry, ClockList};
@@ -67,6 +73,31 @@ impl Model for Station {
 }
 
 impl Station {
+    // The station that a line states, without what other lines say of it.
+    pub(crate) fn stated(alloc: Global, fields: &[&[u8]]) -> Result<Option<Self>, AllocError>
+        ensures value { IfOk result (λ station. station ≡ station_in (map (λ field. field.now) fields.now)) }
+        ensures sound { IfOk result (λ station. IfSome station (λ s. IsStationOf s)) }
+        ensures bare { IfOk result (λ station. IfSome station (λ s. s.chans ≡ [])) }
+        ensures key { IfOk result (λ station. IfSome station (λ s. s.key ≡ field (map (λ field. field.now) fields.now) 0)) }
+    {
+        let Some(frame) = frame_in(fields) else {
+            return Ok(None);
+        };
+        let key = Name::new(alloc, field(fields, 0))?;
+        Ok(Some(Station {
+            key,
+            id: frame.id,
+            bits: frame.bits,
+            chans_log2: frame.chans_log2,
+            frame_bytes: frame.frame_bytes,
+            legacy: frame.legacy,
+            files: Vec::new(alloc),
+            chans: Named::new(alloc),
+            clocks: ClockList::new(alloc),
+            polys: PolyList::new(alloc),
+        }))
+    }
+
     /// The number of channels.
     pub fn chans_count(&self) -> u32
         ensures { result ≡ 2 ^ self.now.chans_log2 }
@@ -74,29 +105,102 @@ impl Station {
         1 << self.chans_log2
     }
 
-    // Adds a file.
-    pub(crate) fn add_file(&mut self, file: Name) -> Result<(), AllocError>
-        requires { IsUtf8 file }
-        ensures added { OnOk result (self.new ≡ record self.old { files = self.old.files ++ file ∷ [] }) }
+    // Takes the line of a file.
+    pub(crate) fn take_file(&mut self, alloc: Global, fields: &[&[u8]]) -> Result<(), JobKind>
+        requires { IsUtf8 (field (map (λ field. field.now) fields.now) 1) }
+        ensures taken { Takes None (with_file (map (λ field. field.now) fields.now) self.old) result self.new }
         ensures key { self.new.key ≡ self.old.key }
+        ensures sound { OnOk result (IsStationOf self.new) }
     {
+        let file = Name::new(alloc, field(fields, 1))?;
         self.files.push(file)?;
         Ok(())
     }
 
     // Adds a channel that is not there.
-    pub(crate) fn add_chan(
-        &mut self,
-        alloc: Global,
-        name: &[u8],
-        place: ChanPlace,
-    ) -> Result<(), AllocError>
+    fn add_chan(&mut self, alloc: Global, name: &[u8], place: ChanPlace) -> Result<(), AllocError>
         requires new { named self.old.chans name.now ≡ None }
         requires place { IsChanOf self.old (name.now, place) }
         ensures added { OnOk result (self.new ≡ record self.old { chans = self.old.chans ++ (name.now, place) ∷ [] }) }
         ensures key { self.new.key ≡ self.old.key }
+        ensures sound { OnOk result (IsStationOf self.new) }
     {
         self.chans.put(alloc, name, place)?;
+        Ok(())
+    }
+
+    // Takes the line of a channel.
+    #[tactic(auto, unfolding(crate::specs::Faults::chan_fault))]
+    pub(crate) fn take_chan(&mut self, alloc: Global, fields: &[&[u8]]) -> Result<(), JobKind>
+        ensures taken { Takes (chan_fault (map (λ field. field.now) fields.now) self.old) (with_chan (map (λ field. field.now) fields.now) self.old) result self.new }
+        ensures chan { OnOk result ((place : ChanPlace) × (self.new.chans ≡ self.old.chans ++ (field (map (λ field. field.now) fields.now) 1, place) ∷ [])) }
+        ensures key { self.new.key ≡ self.old.key }
+        ensures sound { OnOk result (IsStationOf self.new) }
+    {
+        let name = field(fields, 1);
+        if self.chans.has(name) {
+            return Err(JobKind::Double);
+        }
+        let Some(place) = chan_in(self.chans_count(), fields) else {
+            return Err(JobKind::Range);
+        };
+        self.add_chan(alloc, name, place)?;
+        Ok(())
+    }
+
+    // Adds a clock entry of a second of which there is none.
+    fn add_clock(&mut self, entry: ClockEntry) -> Result<(), AllocError>
+        requires new { is_taken (λ e. e.second) (Some entry.second) self.old.clocks ≡ false }
+        requires clock { IsClock entry }
+        ensures added { OnOk result (self.new ≡ record self.old { clocks = self.old.clocks ++ entry ∷ [] }) }
+        ensures key { self.new.key ≡ self.old.key }
+        ensures sound { OnOk result (IsStationOf self.new) }
+    {
+        add_entry(&mut self.clocks, entry)
+    }
+
+    // Adds a polynomial of a second of which there is none.
+    fn add_poly(&mut self, entry: PolyEntry) -> Result<(), AllocError>
+        requires new { is_taken (λ e. e.second) (Some entry.second) self.old.polys ≡ false }
+        requires second { IsSecond entry.second }
+        ensures added { OnOk result (self.new ≡ record self.old { polys = self.old.polys ++ entry ∷ [] }) }
+        ensures key { self.new.key ≡ self.old.key }
+        ensures sound { OnOk result (IsStationOf self.new) }
+    {
+        add_entry(&mut self.polys, entry)
+    }
+
+    // Takes the line of a clock entry.
+    #[tactic(auto, unfolding(crate::specs::Faults::clock_fault))]
+    pub(crate) fn take_clock(&mut self, fields: &[&[u8]]) -> Result<(), JobKind>
+        ensures taken { Takes (clock_fault (map (λ field. field.now) fields.now) self.old) (with_clock (map (λ field. field.now) fields.now) self.old) result self.new }
+        ensures key { self.new.key ≡ self.old.key }
+        ensures sound { OnOk result (IsStationOf self.new) }
+    {
+        if is_taken(&self.clocks, second_of(field(fields, 1))) {
+            return Err(JobKind::Double);
+        }
+        let Some(entry) = clock_in(fields) else {
+            return Err(JobKind::Range);
+        };
+        self.add_clock(entry)?;
+        Ok(())
+    }
+
+    // Takes the line of a polynomial.
+    #[tactic(auto, unfolding(crate::specs::Faults::poly_fault))]
+    pub(crate) fn take_poly(&mut self, alloc: Global, fields: &[&[u8]]) -> Result<(), JobKind>
+        ensures taken { Takes (poly_fault (map (λ field. field.now) fields.now) self.old) (with_poly (map (λ field. field.now) fields.now) self.old) result self.new }
+        ensures key { self.new.key ≡ self.old.key }
+        ensures sound { OnOk result (IsStationOf self.new) }
+    {
+        if is_taken(&self.polys, second_of(field(fields, 1))) {
+            return Err(JobKind::Double);
+        }
+        let Some(entry) = poly_in(alloc, fields)? else {
+            return Err(JobKind::Range);
+        };
+        self.add_poly(entry)?;
         Ok(())
     }
 }

@@ -1,11 +1,15 @@
 //! The stations of a job.
-ghost use Rattle.std.specs.Prelude.{◌≡◌, ◌≢◌, ◌<◌, ◌++◌, ◌∷◌, [], length, map, slice_get, None, IfSome, IfNone, OnOk, AllPairs};
+ghost use Rattle.std.specs.Prelude.{◌≡◌, ◌≢◌, ◌<◌, ◌++◌, ◌∷◌, [], length, map, slice_get, None, IfSome, IfNone, IfOk, AllPairs, is_some, option_to_list, true};
 ghost use Rattle.std.specs.List.{All};
-ghost use Rattle.job_text.specs.Ranges.{IsStationOf};
-ghost use Rattle.job_text.specs.Faults.{station_with};
+ghost use Rattle.std.specs.Str.{IsUtf8};
+ghost use Rattle.job_text.specs.Ranges.{IsName, IsStationOf};
+ghost use Rattle.job_text.specs.Values.{field, station_in};
+ghost use Rattle.job_text.specs.Faults.{station_with, has_channel, station_fault, double_or_range, chan_fault, clock_fault, poly_fault};
+ghost use Rattle.job_text.specs.Growing.{Grows, changed, with_file, with_chan, with_clock, with_poly};
 
+use crate::fault::JobKind;
 use crate::station::Station;
-use num_time::Name;
+use crate::values::field;
 use std::alloc::{AllocError, Global};
 use std::marker::Model;
 use vex_reader::Named;
@@ -15,20 +19,19 @@ use vex_reader::Named;
 pub struct Stations {
     list: Vec<Station>,
     places: Named<usize>,
+    channels: Named<()>,
 }
 
 impl Model for Stations {
     ghost use Rattle.std.specs.Prelude.{List};
     ghost use Rattle.job_text.specs.Job.{StationFields};
-    ghost use Rattle.std.specs.List.{All};
-    ghost use Rattle.job_text.specs.Places.{ArePlaces};
-    ghost use Rattle.job_text.specs.Ranges.{IsStationOf};
+    ghost use Rattle.job_text.specs.Places.{AreIndexed};
 
     ghost Value = { List StationFields };
 
     ghost view = { λ stations. stations.list.items };
 
-    ghost invariant = { λ stations. ArePlaces stations.list.items stations.places × All IsStationOf stations.list.items };
+    ghost invariant = { λ stations. AreIndexed stations.list.items stations.places stations.channels };
 }
 
 impl Stations {
@@ -39,6 +42,7 @@ impl Stations {
         Stations {
             list: Vec::new(alloc),
             places: Named::new(alloc),
+            channels: Named::new(alloc),
         }
     }
 
@@ -60,18 +64,132 @@ impl Stations {
         self.places.get(key).copied()
     }
 
-    // Adds a station whose key is new.
-    pub(crate) fn add(&mut self, alloc: Global, station: Station) -> Result<(), AllocError>
-        requires { station_with self.old station.key ≡ None }
-        ensures { OnOk result (self.new ≡ self.old ++ station ∷ []) }
+    /// Whether some station has a channel of this name.
+    pub fn has_channel(&self, name: &[u8]) -> bool
+        ensures value { result ≡ has_channel self.now name.now }
+        ensures name { result ≡ true → IsName name.now }
     {
-        let place = self.list.len();
-        let key = Name::new(alloc, station.key.bytes())?;
-        self.list.push(station)?;
-        if self.places.put(alloc, key.bytes(), place).is_err() {
-            self.list.pop();
-            return Err(AllocError);
+        self.channels.has(name)
+    }
+
+    // Adds a station whose key is new, and which has no channels yet.
+    fn add(self, alloc: Global, station: Station) -> Result<Self, AllocError>
+        requires new { station_with self station.key ≡ None }
+        requires bare { station.chans ≡ [] }
+        requires sound { IsStationOf station }
+        ensures { IfOk result (λ new. new ≡ self ++ station ∷ []) }
+    {
+        let Stations {
+            mut list,
+            mut places,
+            channels,
+        } = self;
+        places.put(alloc, station.key.bytes(), list.len())?;
+        list.push(station)?;
+        Ok(Stations {
+            list,
+            places,
+            channels,
+        })
+    }
+
+    // Takes the line of a station.
+    pub(crate) fn take_station(self, alloc: Global, fields: &[&[u8]]) -> Result<Self, JobKind>
+        ensures { Grows (double_or_range (is_some (station_with self (field (map (λ field. field.now) fields.now) 0))) (station_in (map (λ field. field.now) fields.now)))
+            (self ++ option_to_list (station_in (map (λ field. field.now) fields.now))) result }
+    {
+        if self.place(field(fields, 0)).is_some() {
+            return Err(JobKind::Double);
         }
-        Ok(())
+        let Some(station) = Station::stated(alloc, fields)? else {
+            return Err(JobKind::Range);
+        };
+        Ok(self.add(alloc, station)?)
+    }
+
+    // Takes the line of a file.
+    pub(crate) fn take_file(self, alloc: Global, fields: &[&[u8]]) -> Result<Self, JobKind>
+        requires { IsUtf8 (field (map (λ field. field.now) fields.now) 1) }
+        ensures { Grows (station_fault self (map (λ field. field.now) fields.now) (λ s. None))
+            (changed self (field (map (λ field. field.now) fields.now) 0) (with_file (map (λ field. field.now) fields.now))) result }
+    {
+        let Some(i) = self.place(field(fields, 0)) else {
+            return Err(JobKind::Unknown);
+        };
+        let Stations {
+            mut list,
+            places,
+            channels,
+        } = self;
+        list[i].take_file(alloc, fields)?;
+        Ok(Stations {
+            list,
+            places,
+            channels,
+        })
+    }
+
+    // Takes the line of a channel.
+    pub(crate) fn take_chan(self, alloc: Global, fields: &[&[u8]]) -> Result<Self, JobKind>
+        ensures { Grows (station_fault self (map (λ field. field.now) fields.now) (chan_fault (map (λ field. field.now) fields.now)))
+            (changed self (field (map (λ field. field.now) fields.now) 0) (with_chan (map (λ field. field.now) fields.now))) result }
+    {
+        let Some(i) = self.place(field(fields, 0)) else {
+            return Err(JobKind::Unknown);
+        };
+        let Stations {
+            mut list,
+            places,
+            mut channels,
+        } = self;
+        list[i].take_chan(alloc, fields)?;
+        channels.put(alloc, field(fields, 1), ())?;
+        Ok(Stations {
+            list,
+            places,
+            channels,
+        })
+    }
+
+    // Takes the line of a clock entry.
+    pub(crate) fn take_clock(self, fields: &[&[u8]]) -> Result<Self, JobKind>
+        ensures { Grows (station_fault self (map (λ field. field.now) fields.now) (clock_fault (map (λ field. field.now) fields.now)))
+            (changed self (field (map (λ field. field.now) fields.now) 0) (with_clock (map (λ field. field.now) fields.now))) result }
+    {
+        let Some(i) = self.place(field(fields, 0)) else {
+            return Err(JobKind::Unknown);
+        };
+        let Stations {
+            mut list,
+            places,
+            channels,
+        } = self;
+        list[i].take_clock(fields)?;
+        Ok(Stations {
+            list,
+            places,
+            channels,
+        })
+    }
+
+    // Takes the line of a polynomial.
+    pub(crate) fn take_poly(self, alloc: Global, fields: &[&[u8]]) -> Result<Self, JobKind>
+        ensures { Grows (station_fault self (map (λ field. field.now) fields.now) (poly_fault (map (λ field. field.now) fields.now)))
+            (changed self (field (map (λ field. field.now) fields.now) 0) (with_poly (map (λ field. field.now) fields.now))) result }
+    {
+        let Some(i) = self.place(field(fields, 0)) else {
+            return Err(JobKind::Unknown);
+        };
+        let Stations {
+            mut list,
+            places,
+            channels,
+        } = self;
+        list[i].take_poly(alloc, fields)?;
+        Ok(Stations {
+            list,
+            places,
+            channels,
+        })
     }
 }

@@ -16,3 +16,10 @@ returns-clause-added c =
     let new = rw (← c.self.view_is) at c.requires.new in
     let grown : c.put.new.self ≡ c.self.inside.chans ++ (c.args.name.now, c.args.place) ∷ [] = c.in_ok-put.ensures.put ∙ put-new c.self.inside.chans c.args.name.now c.args.place new in
     rw (← c.self.view_is) (rw grown refl)
+
+pub returns-clause-sound : goal.returns-clause-sound
+returns-clause-sound c =
+    let new = rw (← c.self.view_is) at c.requires.new in
+    let place = rw (← c.self.view_is) at c.requires.place in
+    let grown : c.put.new.self ≡ c.self.inside.chans ++ (c.args.name.now, c.args.place) ∷ [] = c.in_ok-put.ensures.put ∙ put-new c.self.inside.chans c.args.name.now c.args.place new in
+    rw grown (IsStationOf-chan _ (c.args.name.now, c.args.place) c.self.invariant new place)

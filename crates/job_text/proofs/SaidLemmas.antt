@@ -1,0 +1,707 @@
+-- What one more row adds to what rows say.
+use Rattle.std.proofs.Common.{◌≡◌, ◌≢◌, ℕ, ◌^◌, Bool, true, false, cond, ◌&&◌, ◌||◌, eqb, nat_lt, List, [], ◌∷◌, ◌++◌, length, map, Option, Some, None, is_some, is_none, option_to_list, filter_map, fold, refl, sym, ap, ◌∙◌, bytes_eq, find}
+use Rattle.std.specs.List.{list_any, cons_option}
+use Rattle.std.specs.Option.{option_map_or}
+use Rattle.std.proofs.lemmas.List.{map-append, append-nil}
+use Rattle.std.proofs.lemmas.List.Elements.{filter_map-append}
+use Rattle.std.proofs.lemmas.List.Folds.{list_any-append}
+use Rattle.std.proofs.lemmas.Bool.Decides.{Decides-eqb}
+use Rattle.job_lines.specs.Words.{are_one, number_of}
+use Rattle.job_lines.specs.Rows.{Row}
+use Rattle.job_lines.specs.declared.word.Word.{Word}
+use Rattle.job_lines.specs.declared.word.Word.TheVariants.{Lags, Integration, Epoch, Knot, Auto, Station, File, Chan, Clock, Poly, Product, Take, Rate, Scan, Band}
+use Rattle.job_text.specs.declared.fault.JobKind.{JobKind}
+use Rattle.job_text.specs.declared.fault.JobKind.TheVariants.{Unknown, Double, Range}
+use Rattle.job_text.specs.Job.{StationFields}
+use Rattle.job_text.specs.Values.{◌>>=◌, name_fits, number_within, log2_of, frame_bytes_in, field, lags_in, integration_in, epoch_in, knot_in, station_in, chan_in, clock_in, poly_in, rate_in, scan_in, band_in}
+use Rattle.job_text.specs.Said.{Said, said_by, each, last, of_key, filled}
+use Rattle.job_text.specs.Faults.{row_fault, double_or_range, station_with, station_fault, chan_fault, clock_fault, poly_fault}
+use Rattle.job_text.specs.Growing.{grown, changed, with_file, with_chan, with_clock, with_poly}
+use Rattle.job_text.proofs.NameLemmas.{name_from}
+
+-- what the fields behind a word add to what rows of another word say
+abbrev more : {A : Type 0} → Word → Word → (List (List ℕ) → Option A) → List (List ℕ) → List A
+more w v read fields = option_to_list (cond (are_one w v) (read fields) None)
+
+abbrev row : Word → List (List ℕ) → Row
+row w fields = record { word = w; fields = fields }
+
+each-push : {A : Type 0} (v : Word) (read : List (List ℕ) → Option A) (rows : List Row) (w : Word) (fields : List (List ℕ))
+    → each v read (rows ++ row w fields ∷ []) ≡ each v read rows ++ more w v read fields
+unfolding each
+each-push {A} v read rows w fields =
+    filter_map-append (λ r. cond (are_one r.word v) (read r.fields) None) rows (row w fields ∷ [])
+    ∙ ap (λ xs. filter_map (λ r. cond (are_one r.word v) (read r.fields) None) rows ++ xs) (by (cond (are_one w v) (read fields) None))
+  where
+    by : (o : Option A) → cons_option o [] ≡ option_to_list o
+    by None = refl
+    by (Some x) = refl
+
+last_from : {A : Type 0} (a : Option A) (xs : List A) (x : A) → fold (λ _ y. Some y) a (xs ++ x ∷ []) ≡ Some x
+last_from a [] x = refl
+last_from a (y ∷ ys) x = last_from (Some y) ys x
+
+last-said : {A : Type 0} (xs : List A) (o : Option A) (again : Bool) → double_or_range again o ≡ None → last (xs ++ option_to_list o) ≡ o
+last-said xs (Some x) again h = last_from None xs x
+last-said xs None true h = absurd cc
+last-said xs None false h = absurd cc
+
+said_some : {A : Type 0} (o : Option A) (again : Bool) → double_or_range again o ≡ None → again ≡ false
+said_some o true h = absurd cc
+said_some o false h = refl
+
+-- a station with one more row
+filled-push : (rows : List Row) (w : Word) (fields : List (List ℕ)) (s : StationFields) → filled (rows ++ row w fields ∷ []) s ≡ record s {
+  files = each File (of_key s.key (λ (fields : List (List ℕ)). Some (field fields 1))) rows ++ more w File (of_key s.key (λ (fields : List (List ℕ)). Some (field fields 1))) fields;
+  chans = each Chan (of_key s.key (chan_in (2 ^ s.chans_log2))) rows ++ more w Chan (of_key s.key (chan_in (2 ^ s.chans_log2))) fields;
+  clocks = each Clock (of_key s.key clock_in) rows ++ more w Clock (of_key s.key clock_in) fields;
+  polys = each Poly (of_key s.key poly_in) rows ++ more w Poly (of_key s.key poly_in) fields;
+}
+unfolding filled
+filled-push rows w fields s = λ i. record s {
+  files = each-push File (of_key s.key (λ (fields : List (List ℕ)). Some (field fields 1))) rows w fields i;
+  chans = each-push Chan (of_key s.key (chan_in (2 ^ s.chans_log2))) rows w fields i;
+  clocks = each-push Clock (of_key s.key clock_in) rows w fields i;
+  polys = each-push Poly (of_key s.key poly_in) rows w fields i;
+}
+
+filled-Lags : (rows : List Row) (fields : List (List ℕ)) (s : StationFields) → filled (rows ++ row Lags fields ∷ []) s ≡ filled rows s
+unfolding filled
+filled-Lags rows fields s = filled-push rows Lags fields s ∙ (λ i. record s {
+  files = append-nil (each File (of_key s.key (λ (fields : List (List ℕ)). Some (field fields 1))) rows) i;
+  chans = append-nil (each Chan (of_key s.key (chan_in (2 ^ s.chans_log2))) rows) i;
+  clocks = append-nil (each Clock (of_key s.key clock_in) rows) i;
+  polys = append-nil (each Poly (of_key s.key poly_in) rows) i;
+})
+
+filled-Integration : (rows : List Row) (fields : List (List ℕ)) (s : StationFields) → filled (rows ++ row Integration fields ∷ []) s ≡ filled rows s
+unfolding filled
+filled-Integration rows fields s = filled-push rows Integration fields s ∙ (λ i. record s {
+  files = append-nil (each File (of_key s.key (λ (fields : List (List ℕ)). Some (field fields 1))) rows) i;
+  chans = append-nil (each Chan (of_key s.key (chan_in (2 ^ s.chans_log2))) rows) i;
+  clocks = append-nil (each Clock (of_key s.key clock_in) rows) i;
+  polys = append-nil (each Poly (of_key s.key poly_in) rows) i;
+})
+
+filled-Epoch : (rows : List Row) (fields : List (List ℕ)) (s : StationFields) → filled (rows ++ row Epoch fields ∷ []) s ≡ filled rows s
+unfolding filled
+filled-Epoch rows fields s = filled-push rows Epoch fields s ∙ (λ i. record s {
+  files = append-nil (each File (of_key s.key (λ (fields : List (List ℕ)). Some (field fields 1))) rows) i;
+  chans = append-nil (each Chan (of_key s.key (chan_in (2 ^ s.chans_log2))) rows) i;
+  clocks = append-nil (each Clock (of_key s.key clock_in) rows) i;
+  polys = append-nil (each Poly (of_key s.key poly_in) rows) i;
+})
+
+filled-Knot : (rows : List Row) (fields : List (List ℕ)) (s : StationFields) → filled (rows ++ row Knot fields ∷ []) s ≡ filled rows s
+unfolding filled
+filled-Knot rows fields s = filled-push rows Knot fields s ∙ (λ i. record s {
+  files = append-nil (each File (of_key s.key (λ (fields : List (List ℕ)). Some (field fields 1))) rows) i;
+  chans = append-nil (each Chan (of_key s.key (chan_in (2 ^ s.chans_log2))) rows) i;
+  clocks = append-nil (each Clock (of_key s.key clock_in) rows) i;
+  polys = append-nil (each Poly (of_key s.key poly_in) rows) i;
+})
+
+filled-Auto : (rows : List Row) (fields : List (List ℕ)) (s : StationFields) → filled (rows ++ row Auto fields ∷ []) s ≡ filled rows s
+unfolding filled
+filled-Auto rows fields s = filled-push rows Auto fields s ∙ (λ i. record s {
+  files = append-nil (each File (of_key s.key (λ (fields : List (List ℕ)). Some (field fields 1))) rows) i;
+  chans = append-nil (each Chan (of_key s.key (chan_in (2 ^ s.chans_log2))) rows) i;
+  clocks = append-nil (each Clock (of_key s.key clock_in) rows) i;
+  polys = append-nil (each Poly (of_key s.key poly_in) rows) i;
+})
+
+filled-Station : (rows : List Row) (fields : List (List ℕ)) (s : StationFields) → filled (rows ++ row Station fields ∷ []) s ≡ filled rows s
+unfolding filled
+filled-Station rows fields s = filled-push rows Station fields s ∙ (λ i. record s {
+  files = append-nil (each File (of_key s.key (λ (fields : List (List ℕ)). Some (field fields 1))) rows) i;
+  chans = append-nil (each Chan (of_key s.key (chan_in (2 ^ s.chans_log2))) rows) i;
+  clocks = append-nil (each Clock (of_key s.key clock_in) rows) i;
+  polys = append-nil (each Poly (of_key s.key poly_in) rows) i;
+})
+
+filled-Product : (rows : List Row) (fields : List (List ℕ)) (s : StationFields) → filled (rows ++ row Product fields ∷ []) s ≡ filled rows s
+unfolding filled
+filled-Product rows fields s = filled-push rows Product fields s ∙ (λ i. record s {
+  files = append-nil (each File (of_key s.key (λ (fields : List (List ℕ)). Some (field fields 1))) rows) i;
+  chans = append-nil (each Chan (of_key s.key (chan_in (2 ^ s.chans_log2))) rows) i;
+  clocks = append-nil (each Clock (of_key s.key clock_in) rows) i;
+  polys = append-nil (each Poly (of_key s.key poly_in) rows) i;
+})
+
+filled-Take : (rows : List Row) (fields : List (List ℕ)) (s : StationFields) → filled (rows ++ row Take fields ∷ []) s ≡ filled rows s
+unfolding filled
+filled-Take rows fields s = filled-push rows Take fields s ∙ (λ i. record s {
+  files = append-nil (each File (of_key s.key (λ (fields : List (List ℕ)). Some (field fields 1))) rows) i;
+  chans = append-nil (each Chan (of_key s.key (chan_in (2 ^ s.chans_log2))) rows) i;
+  clocks = append-nil (each Clock (of_key s.key clock_in) rows) i;
+  polys = append-nil (each Poly (of_key s.key poly_in) rows) i;
+})
+
+filled-Rate : (rows : List Row) (fields : List (List ℕ)) (s : StationFields) → filled (rows ++ row Rate fields ∷ []) s ≡ filled rows s
+unfolding filled
+filled-Rate rows fields s = filled-push rows Rate fields s ∙ (λ i. record s {
+  files = append-nil (each File (of_key s.key (λ (fields : List (List ℕ)). Some (field fields 1))) rows) i;
+  chans = append-nil (each Chan (of_key s.key (chan_in (2 ^ s.chans_log2))) rows) i;
+  clocks = append-nil (each Clock (of_key s.key clock_in) rows) i;
+  polys = append-nil (each Poly (of_key s.key poly_in) rows) i;
+})
+
+filled-Scan : (rows : List Row) (fields : List (List ℕ)) (s : StationFields) → filled (rows ++ row Scan fields ∷ []) s ≡ filled rows s
+unfolding filled
+filled-Scan rows fields s = filled-push rows Scan fields s ∙ (λ i. record s {
+  files = append-nil (each File (of_key s.key (λ (fields : List (List ℕ)). Some (field fields 1))) rows) i;
+  chans = append-nil (each Chan (of_key s.key (chan_in (2 ^ s.chans_log2))) rows) i;
+  clocks = append-nil (each Clock (of_key s.key clock_in) rows) i;
+  polys = append-nil (each Poly (of_key s.key poly_in) rows) i;
+})
+
+filled-Band : (rows : List Row) (fields : List (List ℕ)) (s : StationFields) → filled (rows ++ row Band fields ∷ []) s ≡ filled rows s
+unfolding filled
+filled-Band rows fields s = filled-push rows Band fields s ∙ (λ i. record s {
+  files = append-nil (each File (of_key s.key (λ (fields : List (List ℕ)). Some (field fields 1))) rows) i;
+  chans = append-nil (each Chan (of_key s.key (chan_in (2 ^ s.chans_log2))) rows) i;
+  clocks = append-nil (each Clock (of_key s.key clock_in) rows) i;
+  polys = append-nil (each Poly (of_key s.key poly_in) rows) i;
+})
+
+filled-File : (rows : List Row) (fields : List (List ℕ)) (s : StationFields)
+    → filled (rows ++ row File fields ∷ []) s ≡ cond (bytes_eq (filled rows s).key (field fields 0)) (with_file fields (filled rows s)) (filled rows s)
+unfolding filled
+filled-File rows fields s = filled-push rows File fields s ∙ by (bytes_eq s.key (field fields 0))
+  where
+    by : (b : Bool) → (let t : StationFields = record s {
+      files = each File (of_key s.key (λ (fields : List (List ℕ)). Some (field fields 1))) rows ++ option_to_list (cond b ((λ (fields : List (List ℕ)). Some (field fields 1)) fields) None);
+      chans = each Chan (of_key s.key (chan_in (2 ^ s.chans_log2))) rows ++ [];
+      clocks = each Clock (of_key s.key clock_in) rows ++ [];
+      polys = each Poly (of_key s.key poly_in) rows ++ [];
+    } in t) ≡ cond b (with_file fields (filled rows s)) (filled rows s)
+    by true = λ i. record s {
+      files = each File (of_key s.key (λ (fields : List (List ℕ)). Some (field fields 1))) rows ++ option_to_list ((λ (fields : List (List ℕ)). Some (field fields 1)) fields);
+      chans = append-nil (each Chan (of_key s.key (chan_in (2 ^ s.chans_log2))) rows) i;
+      clocks = append-nil (each Clock (of_key s.key clock_in) rows) i;
+      polys = append-nil (each Poly (of_key s.key poly_in) rows) i;
+    }
+    by false = λ i. record s {
+      files = append-nil (each File (of_key s.key (λ (fields : List (List ℕ)). Some (field fields 1))) rows) i;
+      chans = append-nil (each Chan (of_key s.key (chan_in (2 ^ s.chans_log2))) rows) i;
+      clocks = append-nil (each Clock (of_key s.key clock_in) rows) i;
+      polys = append-nil (each Poly (of_key s.key poly_in) rows) i;
+    }
+
+filled-Chan : (rows : List Row) (fields : List (List ℕ)) (s : StationFields)
+    → filled (rows ++ row Chan fields ∷ []) s ≡ cond (bytes_eq (filled rows s).key (field fields 0)) (with_chan fields (filled rows s)) (filled rows s)
+unfolding filled
+filled-Chan rows fields s = filled-push rows Chan fields s ∙ by (bytes_eq s.key (field fields 0))
+  where
+    by : (b : Bool) → (let t : StationFields = record s {
+      files = each File (of_key s.key (λ (fields : List (List ℕ)). Some (field fields 1))) rows ++ [];
+      chans = each Chan (of_key s.key (chan_in (2 ^ s.chans_log2))) rows ++ option_to_list (cond b ((chan_in (2 ^ s.chans_log2)) fields) None);
+      clocks = each Clock (of_key s.key clock_in) rows ++ [];
+      polys = each Poly (of_key s.key poly_in) rows ++ [];
+    } in t) ≡ cond b (with_chan fields (filled rows s)) (filled rows s)
+    by true = λ i. record s {
+      files = append-nil (each File (of_key s.key (λ (fields : List (List ℕ)). Some (field fields 1))) rows) i;
+      chans = each Chan (of_key s.key (chan_in (2 ^ s.chans_log2))) rows ++ option_to_list ((chan_in (2 ^ s.chans_log2)) fields);
+      clocks = append-nil (each Clock (of_key s.key clock_in) rows) i;
+      polys = append-nil (each Poly (of_key s.key poly_in) rows) i;
+    }
+    by false = λ i. record s {
+      files = append-nil (each File (of_key s.key (λ (fields : List (List ℕ)). Some (field fields 1))) rows) i;
+      chans = append-nil (each Chan (of_key s.key (chan_in (2 ^ s.chans_log2))) rows) i;
+      clocks = append-nil (each Clock (of_key s.key clock_in) rows) i;
+      polys = append-nil (each Poly (of_key s.key poly_in) rows) i;
+    }
+
+filled-Clock : (rows : List Row) (fields : List (List ℕ)) (s : StationFields)
+    → filled (rows ++ row Clock fields ∷ []) s ≡ cond (bytes_eq (filled rows s).key (field fields 0)) (with_clock fields (filled rows s)) (filled rows s)
+unfolding filled
+filled-Clock rows fields s = filled-push rows Clock fields s ∙ by (bytes_eq s.key (field fields 0))
+  where
+    by : (b : Bool) → (let t : StationFields = record s {
+      files = each File (of_key s.key (λ (fields : List (List ℕ)). Some (field fields 1))) rows ++ [];
+      chans = each Chan (of_key s.key (chan_in (2 ^ s.chans_log2))) rows ++ [];
+      clocks = each Clock (of_key s.key clock_in) rows ++ option_to_list (cond b (clock_in fields) None);
+      polys = each Poly (of_key s.key poly_in) rows ++ [];
+    } in t) ≡ cond b (with_clock fields (filled rows s)) (filled rows s)
+    by true = λ i. record s {
+      files = append-nil (each File (of_key s.key (λ (fields : List (List ℕ)). Some (field fields 1))) rows) i;
+      chans = append-nil (each Chan (of_key s.key (chan_in (2 ^ s.chans_log2))) rows) i;
+      clocks = each Clock (of_key s.key clock_in) rows ++ option_to_list (clock_in fields);
+      polys = append-nil (each Poly (of_key s.key poly_in) rows) i;
+    }
+    by false = λ i. record s {
+      files = append-nil (each File (of_key s.key (λ (fields : List (List ℕ)). Some (field fields 1))) rows) i;
+      chans = append-nil (each Chan (of_key s.key (chan_in (2 ^ s.chans_log2))) rows) i;
+      clocks = append-nil (each Clock (of_key s.key clock_in) rows) i;
+      polys = append-nil (each Poly (of_key s.key poly_in) rows) i;
+    }
+
+filled-Poly : (rows : List Row) (fields : List (List ℕ)) (s : StationFields)
+    → filled (rows ++ row Poly fields ∷ []) s ≡ cond (bytes_eq (filled rows s).key (field fields 0)) (with_poly fields (filled rows s)) (filled rows s)
+unfolding filled
+filled-Poly rows fields s = filled-push rows Poly fields s ∙ by (bytes_eq s.key (field fields 0))
+  where
+    by : (b : Bool) → (let t : StationFields = record s {
+      files = each File (of_key s.key (λ (fields : List (List ℕ)). Some (field fields 1))) rows ++ [];
+      chans = each Chan (of_key s.key (chan_in (2 ^ s.chans_log2))) rows ++ [];
+      clocks = each Clock (of_key s.key clock_in) rows ++ [];
+      polys = each Poly (of_key s.key poly_in) rows ++ option_to_list (cond b (poly_in fields) None);
+    } in t) ≡ cond b (with_poly fields (filled rows s)) (filled rows s)
+    by true = λ i. record s {
+      files = append-nil (each File (of_key s.key (λ (fields : List (List ℕ)). Some (field fields 1))) rows) i;
+      chans = append-nil (each Chan (of_key s.key (chan_in (2 ^ s.chans_log2))) rows) i;
+      clocks = append-nil (each Clock (of_key s.key clock_in) rows) i;
+      polys = each Poly (of_key s.key poly_in) rows ++ option_to_list (poly_in fields);
+    }
+    by false = λ i. record s {
+      files = append-nil (each File (of_key s.key (λ (fields : List (List ℕ)). Some (field fields 1))) rows) i;
+      chans = append-nil (each Chan (of_key s.key (chan_in (2 ^ s.chans_log2))) rows) i;
+      clocks = append-nil (each Clock (of_key s.key clock_in) rows) i;
+      polys = append-nil (each Poly (of_key s.key poly_in) rows) i;
+    }
+
+-- the stations with that of a key changed, one by one
+changed-map : (g f : StationFields → StationFields) (h : StationFields → StationFields) (key : List ℕ) (xs : List StationFields)
+    → ((s : StationFields) → g s ≡ cond (bytes_eq (f s).key key) (h (f s)) (f s)) → map g xs ≡ changed (map f xs) key h
+changed-map g f h key [] each_is = refl
+changed-map g f h key (x ∷ xs) each_is = λ i. each_is x i ∷ changed-map g f h key xs each_is i
+
+-- a word whose rows name a station first
+abbrev keyed_number : ℕ → Bool
+keyed_number n = eqb n 6 || (eqb n 7 || (eqb n 8 || eqb n 9))
+
+abbrev pub is_keyed : Word → Bool
+is_keyed w = keyed_number (number_of w)
+
+-- some row names a station of this key first
+abbrev pub names_key : List ℕ → List Row → Bool
+names_key key rows = list_any (λ r. is_keyed r.word && bytes_eq key (field r.fields 0)) rows
+
+-- each station that rows name is stated by one of them
+abbrev pub AreKnown : List Row → Type 0
+AreKnown rows = (key : List ℕ) → station_with (said_by rows).stations key ≡ None → names_key key rows ≡ false
+
+or_left : (a b : Bool) → (a || b) ≡ false → a ≡ false
+or_left true b h = absurd cc
+or_left false b h = refl
+
+or_right : (a b : Bool) → (a || b) ≡ false → b ≡ false
+or_right true b h = absurd cc
+or_right false b h = h
+
+-- where no row names a key, the rows say nothing of its station
+none-of : {A : Type 0} (v : Word) (read : List (List ℕ) → Option A) (key : List ℕ) (rows : List Row) → is_keyed v ≡ true → names_key key rows ≡ false → each v (of_key key read) rows ≡ []
+unfolding each
+none-of v read key [] keyed none = refl
+none-of {A} v read key (r ∷ rows) keyed none =
+    by (are_one r.word v) refl (bytes_eq key (field r.fields 0)) refl (none-of v read key rows keyed (or_right (is_keyed r.word && bytes_eq key (field r.fields 0)) (names_key key rows) none))
+  where
+    here : (is_keyed r.word && bytes_eq key (field r.fields 0)) ≡ false
+    here = or_left (is_keyed r.word && bytes_eq key (field r.fields 0)) (names_key key rows) none
+
+    by : (a : Bool) → are_one r.word v ≡ a → (b : Bool) → bytes_eq key (field r.fields 0) ≡ b → each v (of_key key read) rows ≡ [] → each v (of_key key read) (r ∷ rows) ≡ []
+    by true one true names rest =
+        let number : number_of r.word ≡ number_of v = (Decides-eqb (number_of r.word) (number_of v)).0 one in
+        let it : is_keyed r.word ≡ true = ap keyed_number number ∙ keyed in
+        let both : (is_keyed r.word && bytes_eq key (field r.fields 0)) ≡ true = (λ i. it i && names i) in
+        let odd : true ≡ false = sym both ∙ here in absurd cc
+    by true one false names rest = rw (one, names) rest
+    by false one b names rest = rw one rest
+
+-- what rows say of a station that no row names
+filled-none : (rows : List Row) (s : StationFields) → names_key s.key rows ≡ false → filled rows s ≡ record s { files = []; chans = []; clocks = []; polys = [] }
+unfolding filled
+filled-none rows s none = λ i. record s {
+  files = none-of File (λ (fields : List (List ℕ)). Some (field fields 1)) s.key rows refl none i;
+  chans = none-of Chan (chan_in (2 ^ s.chans_log2)) s.key rows refl none i;
+  clocks = none-of Clock clock_in s.key rows refl none i;
+  polys = none-of Poly poly_in s.key rows refl none i;
+}
+
+or_false : (b : Bool) → (b || false) ≡ b
+or_false true = refl
+or_false false = refl
+
+or_true : (b : Bool) → (b || true) ≡ true
+or_true true = refl
+or_true false = refl
+
+none_from : {A : Type 0} (o : Option A) → is_some o ≡ false → o ≡ None
+none_from None h = refl
+none_from (Some x) h = absurd cc
+
+-- a stated station has its line's key, and no line says more of it yet
+abbrev IsBare : List (List ℕ) → Option StationFields → Type 0
+IsBare fields None = Unit {0}
+IsBare fields (Some s) = (s.key ≡ field fields 0) × (record s { files = []; chans = []; clocks = []; polys = [] } ≡ s)
+
+station-bare : (fields : List (List ℕ)) → IsBare fields (station_in fields)
+unfolding station_in
+station-bare fields = by (number_within 0 65535 (field fields 1)) (number_within 1 2 (field fields 2)) (number_within 1 64 (field fields 3))
+  where
+    at_frame : (id bits log2 : ℕ) (o : Option ℕ) (b : Bool) → IsBare fields (o >>= (λ n. cond b (Some (record { key = field fields 0; id = id; bits = bits; chans_log2 = log2; frame_bytes = n; legacy = nat_lt 5 (length fields); files = []; chans = []; clocks = []; polys = [] })) None))
+    at_frame id bits log2 None b = tt
+    at_frame id bits log2 (Some n) true = (refl, refl)
+    at_frame id bits log2 (Some n) false = tt
+
+    at_log2 : (id bits chans : ℕ) (o : Option ℕ) → IsBare fields (o >>= (λ log2. frame_bytes_in (nat_lt 5 (length fields)) bits chans (field fields 4) >>= (λ n. cond (name_fits (field fields 0)) (Some (record { key = field fields 0; id = id; bits = bits; chans_log2 = log2; frame_bytes = n; legacy = nat_lt 5 (length fields); files = []; chans = []; clocks = []; polys = [] })) None)))
+    at_log2 id bits chans None = tt
+    at_log2 id bits chans (Some log2) = at_frame id bits log2 (frame_bytes_in (nat_lt 5 (length fields)) bits chans (field fields 4)) (name_fits (field fields 0))
+
+    by : (a b c : Option ℕ) → IsBare fields (a >>= (λ id. b >>= (λ bits. c >>= (λ chans. log2_of chans >>= (λ log2. frame_bytes_in (nat_lt 5 (length fields)) bits chans (field fields 4) >>= (λ n. cond (name_fits (field fields 0)) (Some (record { key = field fields 0; id = id; bits = bits; chans_log2 = log2; frame_bytes = n; legacy = nat_lt 5 (length fields); files = []; chans = []; clocks = []; polys = [] })) None))))))
+    by None b c = tt
+    by (Some id) None c = tt
+    by (Some id) (Some bits) None = tt
+    by (Some id) (Some bits) (Some chans) = at_log2 id bits chans (log2_of chans)
+
+stated : (rows : List Row) (fields : List (List ℕ)) (o : Option StationFields) → IsBare fields o → names_key (field fields 0) rows ≡ false → map (filled rows) (option_to_list o) ≡ option_to_list o
+stated rows fields None bare none = refl
+stated rows fields (Some s) bare none =
+    let none_here : names_key s.key rows ≡ false = rw bare.0 none in
+    ap (λ t. t ∷ []) (filled-none rows s none_here ∙ bare.1)
+
+said-step : (rows : List Row) (w : Word) (fields : List (List ℕ)) → said_by (rows ++ row w fields ∷ []) ≡ record {
+  lags = last (each Lags lags_in rows ++ more w Lags lags_in fields);
+  integration = last (each Integration integration_in rows ++ more w Integration integration_in fields);
+  epoch = last (each Epoch epoch_in rows ++ more w Epoch epoch_in fields);
+  knot = last (each Knot knot_in rows ++ more w Knot knot_in fields);
+  auto = list_any (λ r. are_one r.word Auto) rows || (are_one w Auto || false);
+  rate = last (each Rate rate_in rows ++ more w Rate rate_in fields);
+  stations = map (filled (rows ++ row w fields ∷ [])) (each Station station_in rows ++ more w Station station_in fields);
+  products = each Product (λ (fields' : List (List ℕ)). Some (field fields' 0, field fields' 1)) rows ++ more w Product (λ (fields' : List (List ℕ)). Some (field fields' 0, field fields' 1)) fields;
+  takes = each Take (λ (fields' : List (List ℕ)). Some (field fields' 0)) rows ++ more w Take (λ (fields' : List (List ℕ)). Some (field fields' 0)) fields;
+  scans = each Scan scan_in rows ++ more w Scan scan_in fields;
+  bands = each Band band_in rows ++ more w Band band_in fields;
+}
+unfolding said_by
+said-step rows w fields = λ i. record {
+  lags = last (each-push Lags lags_in rows w fields i);
+  integration = last (each-push Integration integration_in rows w fields i);
+  epoch = last (each-push Epoch epoch_in rows w fields i);
+  knot = last (each-push Knot knot_in rows w fields i);
+  auto = list_any-append (λ r. are_one r.word Auto) rows (row w fields ∷ []) i;
+  rate = last (each-push Rate rate_in rows w fields i);
+  stations = map (filled (rows ++ row w fields ∷ [])) (each-push Station station_in rows w fields i);
+  products = each-push Product (λ (fields' : List (List ℕ)). Some (field fields' 0, field fields' 1)) rows w fields i;
+  takes = each-push Take (λ (fields' : List (List ℕ)). Some (field fields' 0)) rows w fields i;
+  scans = each-push Scan scan_in rows w fields i;
+  bands = each-push Band band_in rows w fields i;
+}
+
+-- Behind rows that stand together, one more row without a fault adds what it says.
+pub said-push : (rows : List Row) (w : Word) (fields : List (List ℕ)) → AreKnown rows → row_fault (said_by rows) w fields ≡ None → said_by (rows ++ row w fields ∷ []) ≡ grown (said_by rows) w fields
+unfolding said_by grown row_fault
+said-push rows Lags fields known h =
+    said-step rows Lags fields ∙ (λ i. record {
+      lags = last-said (each Lags lags_in rows) (lags_in fields) (is_some (last (each Lags lags_in rows))) h i;
+      integration = last (append-nil (each Integration integration_in rows) i);
+      epoch = last (append-nil (each Epoch epoch_in rows) i);
+      knot = last (append-nil (each Knot knot_in rows) i);
+      auto = or_false (list_any (λ r. are_one r.word Auto) rows) i;
+      rate = last (append-nil (each Rate rate_in rows) i);
+      stations = map (λ s. filled-Lags rows fields s i) (append-nil (each Station station_in rows) i);
+      products = append-nil (each Product (λ (fields' : List (List ℕ)). Some (field fields' 0, field fields' 1)) rows) i;
+      takes = append-nil (each Take (λ (fields' : List (List ℕ)). Some (field fields' 0)) rows) i;
+      scans = append-nil (each Scan scan_in rows) i;
+      bands = append-nil (each Band band_in rows) i;
+    })
+said-push rows Integration fields known h =
+    said-step rows Integration fields ∙ (λ i. record {
+      lags = last (append-nil (each Lags lags_in rows) i);
+      integration = last-said (each Integration integration_in rows) (integration_in fields) (is_some (last (each Integration integration_in rows))) h i;
+      epoch = last (append-nil (each Epoch epoch_in rows) i);
+      knot = last (append-nil (each Knot knot_in rows) i);
+      auto = or_false (list_any (λ r. are_one r.word Auto) rows) i;
+      rate = last (append-nil (each Rate rate_in rows) i);
+      stations = map (λ s. filled-Integration rows fields s i) (append-nil (each Station station_in rows) i);
+      products = append-nil (each Product (λ (fields' : List (List ℕ)). Some (field fields' 0, field fields' 1)) rows) i;
+      takes = append-nil (each Take (λ (fields' : List (List ℕ)). Some (field fields' 0)) rows) i;
+      scans = append-nil (each Scan scan_in rows) i;
+      bands = append-nil (each Band band_in rows) i;
+    })
+said-push rows Epoch fields known h =
+    said-step rows Epoch fields ∙ (λ i. record {
+      lags = last (append-nil (each Lags lags_in rows) i);
+      integration = last (append-nil (each Integration integration_in rows) i);
+      epoch = last-said (each Epoch epoch_in rows) (epoch_in fields) (is_some (last (each Epoch epoch_in rows))) h i;
+      knot = last (append-nil (each Knot knot_in rows) i);
+      auto = or_false (list_any (λ r. are_one r.word Auto) rows) i;
+      rate = last (append-nil (each Rate rate_in rows) i);
+      stations = map (λ s. filled-Epoch rows fields s i) (append-nil (each Station station_in rows) i);
+      products = append-nil (each Product (λ (fields' : List (List ℕ)). Some (field fields' 0, field fields' 1)) rows) i;
+      takes = append-nil (each Take (λ (fields' : List (List ℕ)). Some (field fields' 0)) rows) i;
+      scans = append-nil (each Scan scan_in rows) i;
+      bands = append-nil (each Band band_in rows) i;
+    })
+said-push rows Knot fields known h =
+    said-step rows Knot fields ∙ (λ i. record {
+      lags = last (append-nil (each Lags lags_in rows) i);
+      integration = last (append-nil (each Integration integration_in rows) i);
+      epoch = last (append-nil (each Epoch epoch_in rows) i);
+      knot = last-said (each Knot knot_in rows) (knot_in fields) (is_some (last (each Knot knot_in rows))) h i;
+      auto = or_false (list_any (λ r. are_one r.word Auto) rows) i;
+      rate = last (append-nil (each Rate rate_in rows) i);
+      stations = map (λ s. filled-Knot rows fields s i) (append-nil (each Station station_in rows) i);
+      products = append-nil (each Product (λ (fields' : List (List ℕ)). Some (field fields' 0, field fields' 1)) rows) i;
+      takes = append-nil (each Take (λ (fields' : List (List ℕ)). Some (field fields' 0)) rows) i;
+      scans = append-nil (each Scan scan_in rows) i;
+      bands = append-nil (each Band band_in rows) i;
+    })
+said-push rows Auto fields known h =
+    said-step rows Auto fields ∙ (λ i. record {
+      lags = last (append-nil (each Lags lags_in rows) i);
+      integration = last (append-nil (each Integration integration_in rows) i);
+      epoch = last (append-nil (each Epoch epoch_in rows) i);
+      knot = last (append-nil (each Knot knot_in rows) i);
+      auto = or_true (list_any (λ r. are_one r.word Auto) rows) i;
+      rate = last (append-nil (each Rate rate_in rows) i);
+      stations = map (λ s. filled-Auto rows fields s i) (append-nil (each Station station_in rows) i);
+      products = append-nil (each Product (λ (fields' : List (List ℕ)). Some (field fields' 0, field fields' 1)) rows) i;
+      takes = append-nil (each Take (λ (fields' : List (List ℕ)). Some (field fields' 0)) rows) i;
+      scans = append-nil (each Scan scan_in rows) i;
+      bands = append-nil (each Band band_in rows) i;
+    })
+said-push rows Station fields known h =
+    let none : names_key (field fields 0) rows ≡ false = known (field fields 0) (none_from (station_with (said_by rows).stations (field fields 0)) (said_some (station_in fields) (is_some (station_with (said_by rows).stations (field fields 0))) h)) in
+    let stations : map (filled (rows ++ row Station fields ∷ [])) (each Station station_in rows ++ option_to_list (station_in fields)) ≡ map (filled rows) (each Station station_in rows) ++ option_to_list (station_in fields) =
+    (λ i. map (λ s. filled-Station rows fields s i) (each Station station_in rows ++ option_to_list (station_in fields)))
+    ∙ map-append (filled rows) (each Station station_in rows) (option_to_list (station_in fields))
+    ∙ ap (λ xs. map (filled rows) (each Station station_in rows) ++ xs) (stated rows fields (station_in fields) (station-bare fields) none) in
+    said-step rows Station fields ∙ (λ i. record {
+      lags = last (append-nil (each Lags lags_in rows) i);
+      integration = last (append-nil (each Integration integration_in rows) i);
+      epoch = last (append-nil (each Epoch epoch_in rows) i);
+      knot = last (append-nil (each Knot knot_in rows) i);
+      auto = or_false (list_any (λ r. are_one r.word Auto) rows) i;
+      rate = last (append-nil (each Rate rate_in rows) i);
+      stations = stations i;
+      products = append-nil (each Product (λ (fields' : List (List ℕ)). Some (field fields' 0, field fields' 1)) rows) i;
+      takes = append-nil (each Take (λ (fields' : List (List ℕ)). Some (field fields' 0)) rows) i;
+      scans = append-nil (each Scan scan_in rows) i;
+      bands = append-nil (each Band band_in rows) i;
+    })
+said-push rows File fields known h =
+    let stations : map (filled (rows ++ row File fields ∷ [])) (each Station station_in rows ++ []) ≡ changed (map (filled rows) (each Station station_in rows)) (field fields 0) (with_file fields) =
+    ap (map (filled (rows ++ row File fields ∷ []))) (append-nil (each Station station_in rows))
+    ∙ changed-map (filled (rows ++ row File fields ∷ [])) (filled rows) (with_file fields) (field fields 0) (each Station station_in rows) (filled-File rows fields) in
+    said-step rows File fields ∙ (λ i. record {
+      lags = last (append-nil (each Lags lags_in rows) i);
+      integration = last (append-nil (each Integration integration_in rows) i);
+      epoch = last (append-nil (each Epoch epoch_in rows) i);
+      knot = last (append-nil (each Knot knot_in rows) i);
+      auto = or_false (list_any (λ r. are_one r.word Auto) rows) i;
+      rate = last (append-nil (each Rate rate_in rows) i);
+      stations = stations i;
+      products = append-nil (each Product (λ (fields' : List (List ℕ)). Some (field fields' 0, field fields' 1)) rows) i;
+      takes = append-nil (each Take (λ (fields' : List (List ℕ)). Some (field fields' 0)) rows) i;
+      scans = append-nil (each Scan scan_in rows) i;
+      bands = append-nil (each Band band_in rows) i;
+    })
+said-push rows Chan fields known h =
+    let stations : map (filled (rows ++ row Chan fields ∷ [])) (each Station station_in rows ++ []) ≡ changed (map (filled rows) (each Station station_in rows)) (field fields 0) (with_chan fields) =
+    ap (map (filled (rows ++ row Chan fields ∷ []))) (append-nil (each Station station_in rows))
+    ∙ changed-map (filled (rows ++ row Chan fields ∷ [])) (filled rows) (with_chan fields) (field fields 0) (each Station station_in rows) (filled-Chan rows fields) in
+    said-step rows Chan fields ∙ (λ i. record {
+      lags = last (append-nil (each Lags lags_in rows) i);
+      integration = last (append-nil (each Integration integration_in rows) i);
+      epoch = last (append-nil (each Epoch epoch_in rows) i);
+      knot = last (append-nil (each Knot knot_in rows) i);
+      auto = or_false (list_any (λ r. are_one r.word Auto) rows) i;
+      rate = last (append-nil (each Rate rate_in rows) i);
+      stations = stations i;
+      products = append-nil (each Product (λ (fields' : List (List ℕ)). Some (field fields' 0, field fields' 1)) rows) i;
+      takes = append-nil (each Take (λ (fields' : List (List ℕ)). Some (field fields' 0)) rows) i;
+      scans = append-nil (each Scan scan_in rows) i;
+      bands = append-nil (each Band band_in rows) i;
+    })
+said-push rows Clock fields known h =
+    let stations : map (filled (rows ++ row Clock fields ∷ [])) (each Station station_in rows ++ []) ≡ changed (map (filled rows) (each Station station_in rows)) (field fields 0) (with_clock fields) =
+    ap (map (filled (rows ++ row Clock fields ∷ []))) (append-nil (each Station station_in rows))
+    ∙ changed-map (filled (rows ++ row Clock fields ∷ [])) (filled rows) (with_clock fields) (field fields 0) (each Station station_in rows) (filled-Clock rows fields) in
+    said-step rows Clock fields ∙ (λ i. record {
+      lags = last (append-nil (each Lags lags_in rows) i);
+      integration = last (append-nil (each Integration integration_in rows) i);
+      epoch = last (append-nil (each Epoch epoch_in rows) i);
+      knot = last (append-nil (each Knot knot_in rows) i);
+      auto = or_false (list_any (λ r. are_one r.word Auto) rows) i;
+      rate = last (append-nil (each Rate rate_in rows) i);
+      stations = stations i;
+      products = append-nil (each Product (λ (fields' : List (List ℕ)). Some (field fields' 0, field fields' 1)) rows) i;
+      takes = append-nil (each Take (λ (fields' : List (List ℕ)). Some (field fields' 0)) rows) i;
+      scans = append-nil (each Scan scan_in rows) i;
+      bands = append-nil (each Band band_in rows) i;
+    })
+said-push rows Poly fields known h =
+    let stations : map (filled (rows ++ row Poly fields ∷ [])) (each Station station_in rows ++ []) ≡ changed (map (filled rows) (each Station station_in rows)) (field fields 0) (with_poly fields) =
+    ap (map (filled (rows ++ row Poly fields ∷ []))) (append-nil (each Station station_in rows))
+    ∙ changed-map (filled (rows ++ row Poly fields ∷ [])) (filled rows) (with_poly fields) (field fields 0) (each Station station_in rows) (filled-Poly rows fields) in
+    said-step rows Poly fields ∙ (λ i. record {
+      lags = last (append-nil (each Lags lags_in rows) i);
+      integration = last (append-nil (each Integration integration_in rows) i);
+      epoch = last (append-nil (each Epoch epoch_in rows) i);
+      knot = last (append-nil (each Knot knot_in rows) i);
+      auto = or_false (list_any (λ r. are_one r.word Auto) rows) i;
+      rate = last (append-nil (each Rate rate_in rows) i);
+      stations = stations i;
+      products = append-nil (each Product (λ (fields' : List (List ℕ)). Some (field fields' 0, field fields' 1)) rows) i;
+      takes = append-nil (each Take (λ (fields' : List (List ℕ)). Some (field fields' 0)) rows) i;
+      scans = append-nil (each Scan scan_in rows) i;
+      bands = append-nil (each Band band_in rows) i;
+    })
+said-push rows Product fields known h =
+    said-step rows Product fields ∙ (λ i. record {
+      lags = last (append-nil (each Lags lags_in rows) i);
+      integration = last (append-nil (each Integration integration_in rows) i);
+      epoch = last (append-nil (each Epoch epoch_in rows) i);
+      knot = last (append-nil (each Knot knot_in rows) i);
+      auto = or_false (list_any (λ r. are_one r.word Auto) rows) i;
+      rate = last (append-nil (each Rate rate_in rows) i);
+      stations = map (λ s. filled-Product rows fields s i) (append-nil (each Station station_in rows) i);
+      products = each Product (λ (fields' : List (List ℕ)). Some (field fields' 0, field fields' 1)) rows ++ ((field fields 0, field fields 1) ∷ []);
+      takes = append-nil (each Take (λ (fields' : List (List ℕ)). Some (field fields' 0)) rows) i;
+      scans = append-nil (each Scan scan_in rows) i;
+      bands = append-nil (each Band band_in rows) i;
+    })
+said-push rows Take fields known h =
+    said-step rows Take fields ∙ (λ i. record {
+      lags = last (append-nil (each Lags lags_in rows) i);
+      integration = last (append-nil (each Integration integration_in rows) i);
+      epoch = last (append-nil (each Epoch epoch_in rows) i);
+      knot = last (append-nil (each Knot knot_in rows) i);
+      auto = or_false (list_any (λ r. are_one r.word Auto) rows) i;
+      rate = last (append-nil (each Rate rate_in rows) i);
+      stations = map (λ s. filled-Take rows fields s i) (append-nil (each Station station_in rows) i);
+      products = append-nil (each Product (λ (fields' : List (List ℕ)). Some (field fields' 0, field fields' 1)) rows) i;
+      takes = each Take (λ (fields' : List (List ℕ)). Some (field fields' 0)) rows ++ (field fields 0 ∷ []);
+      scans = append-nil (each Scan scan_in rows) i;
+      bands = append-nil (each Band band_in rows) i;
+    })
+said-push rows Rate fields known h =
+    said-step rows Rate fields ∙ (λ i. record {
+      lags = last (append-nil (each Lags lags_in rows) i);
+      integration = last (append-nil (each Integration integration_in rows) i);
+      epoch = last (append-nil (each Epoch epoch_in rows) i);
+      knot = last (append-nil (each Knot knot_in rows) i);
+      auto = or_false (list_any (λ r. are_one r.word Auto) rows) i;
+      rate = last-said (each Rate rate_in rows) (rate_in fields) (is_some (last (each Rate rate_in rows))) h i;
+      stations = map (λ s. filled-Rate rows fields s i) (append-nil (each Station station_in rows) i);
+      products = append-nil (each Product (λ (fields' : List (List ℕ)). Some (field fields' 0, field fields' 1)) rows) i;
+      takes = append-nil (each Take (λ (fields' : List (List ℕ)). Some (field fields' 0)) rows) i;
+      scans = append-nil (each Scan scan_in rows) i;
+      bands = append-nil (each Band band_in rows) i;
+    })
+said-push rows Scan fields known h =
+    said-step rows Scan fields ∙ (λ i. record {
+      lags = last (append-nil (each Lags lags_in rows) i);
+      integration = last (append-nil (each Integration integration_in rows) i);
+      epoch = last (append-nil (each Epoch epoch_in rows) i);
+      knot = last (append-nil (each Knot knot_in rows) i);
+      auto = or_false (list_any (λ r. are_one r.word Auto) rows) i;
+      rate = last (append-nil (each Rate rate_in rows) i);
+      stations = map (λ s. filled-Scan rows fields s i) (append-nil (each Station station_in rows) i);
+      products = append-nil (each Product (λ (fields' : List (List ℕ)). Some (field fields' 0, field fields' 1)) rows) i;
+      takes = append-nil (each Take (λ (fields' : List (List ℕ)). Some (field fields' 0)) rows) i;
+      scans = each Scan scan_in rows ++ option_to_list (scan_in fields);
+      bands = append-nil (each Band band_in rows) i;
+    })
+said-push rows Band fields known h =
+    said-step rows Band fields ∙ (λ i. record {
+      lags = last (append-nil (each Lags lags_in rows) i);
+      integration = last (append-nil (each Integration integration_in rows) i);
+      epoch = last (append-nil (each Epoch epoch_in rows) i);
+      knot = last (append-nil (each Knot knot_in rows) i);
+      auto = or_false (list_any (λ r. are_one r.word Auto) rows) i;
+      rate = last (append-nil (each Rate rate_in rows) i);
+      stations = map (λ s. filled-Band rows fields s i) (append-nil (each Station station_in rows) i);
+      products = append-nil (each Product (λ (fields' : List (List ℕ)). Some (field fields' 0, field fields' 1)) rows) i;
+      takes = append-nil (each Take (λ (fields' : List (List ℕ)). Some (field fields' 0)) rows) i;
+      scans = append-nil (each Scan scan_in rows) i;
+      bands = each Band band_in rows ++ option_to_list (band_in fields);
+    })
+
+find-append : (xs ys : List StationFields) (key : List ℕ) → station_with (xs ++ ys) key ≡ None → station_with xs key ≡ None
+find-append [] ys key h = refl
+find-append (x ∷ xs) ys key h = by (bytes_eq x.key key) refl (find-append xs ys key)
+  where
+    by : (b : Bool) → bytes_eq x.key key ≡ b → (station_with (xs ++ ys) key ≡ None → station_with xs key ≡ None) → station_with (x ∷ xs) key ≡ None
+    by true e rest = let odd : station_with (x ∷ (xs ++ ys)) key ≡ Some x = rw e refl in let both : Some x ≡ None = sym odd ∙ h in absurd cc
+    by false e rest = rw e (rest ((λ i. cond (sym e i) (Some x) (station_with (xs ++ ys) key)) ∙ h))
+
+find-changed : (xs : List StationFields) (k key : List ℕ) (f : StationFields → StationFields) → ((s : StationFields) → (f s).key ≡ s.key) → station_with (changed xs k f) key ≡ None → station_with xs key ≡ None
+find-changed [] k key f keeps_key h = refl
+find-changed (x ∷ xs) k key f keeps_key h = by (bytes_eq x.key key) refl (find-changed xs k key f keeps_key)
+  where
+    y : StationFields
+    y = cond (bytes_eq x.key k) (f x) x
+
+    key_of : (b : Bool) → (cond b (f x) x).key ≡ x.key
+    key_of true = keeps_key x
+    key_of false = refl
+
+    by : (b : Bool) → bytes_eq x.key key ≡ b → (station_with (changed xs k f) key ≡ None → station_with xs key ≡ None) → station_with (x ∷ xs) key ≡ None
+    by true e rest =
+        let test : bytes_eq (cond (bytes_eq x.key k) (f x) x).key key ≡ true = ap (λ n. bytes_eq n key) (key_of (bytes_eq x.key k)) ∙ e in
+        let odd : station_with (changed (x ∷ xs) k f) key ≡ Some (cond (bytes_eq x.key k) (f x) x) = (λ i. cond (test i) (Some (cond (bytes_eq x.key k) (f x) x)) (station_with (changed xs k f) key)) in
+        let both : Some (cond (bytes_eq x.key k) (f x) x) ≡ None = sym odd ∙ h in absurd cc
+    by false e rest =
+        let test : bytes_eq (cond (bytes_eq x.key k) (f x) x).key key ≡ false = ap (λ n. bytes_eq n key) (key_of (bytes_eq x.key k)) ∙ e in
+        rw e (rest ((λ i. cond (sym test i) (Some (cond (bytes_eq x.key k) (f x) x)) (station_with (changed xs k f) key)) ∙ h))
+
+-- a key that no station has behind a row had none before it
+grown-none : (said : Said) (w : Word) (fields : List (List ℕ)) (key : List ℕ) → station_with (grown said w fields).stations key ≡ None → station_with said.stations key ≡ None
+unfolding grown
+grown-none said Lags fields key h = h
+grown-none said Integration fields key h = h
+grown-none said Epoch fields key h = h
+grown-none said Knot fields key h = h
+grown-none said Auto fields key h = h
+grown-none said Station fields key h = find-append said.stations (option_to_list (station_in fields)) key h
+grown-none said File fields key h = find-changed said.stations (field fields 0) key (with_file fields) (λ s. refl) h
+grown-none said Chan fields key h = find-changed said.stations (field fields 0) key (with_chan fields) (λ s. refl) h
+grown-none said Clock fields key h = find-changed said.stations (field fields 0) key (with_clock fields) (λ s. refl) h
+grown-none said Poly fields key h = find-changed said.stations (field fields 0) key (with_poly fields) (λ s. refl) h
+grown-none said Product fields key h = h
+grown-none said Take fields key h = h
+grown-none said Rate fields key h = h
+grown-none said Scan fields key h = h
+grown-none said Band fields key h = h
+
+known_key : (stations : List StationFields) (fields : List (List ℕ)) (fault : StationFields → Option JobKind) (key : List ℕ) → station_fault stations fields fault ≡ None → station_with stations key ≡ None → bytes_eq key (field fields 0) ≡ false
+known_key stations fields fault key h none = by (bytes_eq key (field fields 0)) refl
+  where
+    by : (b : Bool) → bytes_eq key (field fields 0) ≡ b → b ≡ false
+    by false e = refl
+    by true e =
+        let same : key ≡ field fields 0 = name_from key (field fields 0) e in
+        let none_here : station_with stations (field fields 0) ≡ None = ap (station_with stations) (sym same) ∙ none in
+        let refused : station_fault stations fields fault ≡ Some Unknown = ap (λ o. option_map_or fault o (Some Unknown)) none_here in
+        let both : Some Unknown ≡ None = sym refused ∙ h in absurd cc
+
+-- a row without a fault names a station that is stated
+names-known : (said : Said) (w : Word) (fields : List (List ℕ)) (key : List ℕ) → row_fault said w fields ≡ None → station_with said.stations key ≡ None → (is_keyed w && bytes_eq key (field fields 0)) ≡ false
+unfolding row_fault
+names-known said Lags fields key h none = refl
+names-known said Integration fields key h none = refl
+names-known said Epoch fields key h none = refl
+names-known said Knot fields key h none = refl
+names-known said Auto fields key h none = refl
+names-known said Station fields key h none = refl
+names-known said File fields key h none = known_key said.stations fields (λ s. None) key h none
+names-known said Chan fields key h none = known_key said.stations fields (chan_fault fields) key h none
+names-known said Clock fields key h none = known_key said.stations fields (clock_fault fields) key h none
+names-known said Poly fields key h none = known_key said.stations fields (poly_fault fields) key h none
+names-known said Product fields key h none = refl
+names-known said Take fields key h none = refl
+names-known said Rate fields key h none = refl
+names-known said Scan fields key h none = refl
+names-known said Band fields key h none = refl
+
+pub known-push : (rows : List Row) (w : Word) (fields : List (List ℕ)) → AreKnown rows → row_fault (said_by rows) w fields ≡ None → AreKnown (rows ++ row w fields ∷ [])
+known-push rows w fields known h = λ key none.
+    let before : station_with (said_by rows).stations key ≡ None =
+    grown-none (said_by rows) w fields key (ap (λ said. station_with said.stations key) (sym (said-push rows w fields known h)) ∙ none) in
+    list_any-append (λ r. is_keyed r.word && bytes_eq key (field r.fields 0)) rows (row w fields ∷ [])
+    ∙ (λ i. known key before i || (names-known (said_by rows) w fields key h before i || false))
+
+pub known-none : AreKnown []
+known-none = λ key none. refl

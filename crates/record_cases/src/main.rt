@@ -1,0 +1,96 @@
+//! Cases of the reader of record files. Each line of standard input makes a text, and is printed with what the text is
+//! read to, or the fault. The head of the file `stdin` says what the lines mean.
+#![tactic(auto)]
+
+use anyhow::{Context, Result, bail};
+use hex::decode;
+use std::alloc::Global;
+use std::io::{BufRead, BufReader};
+use vis_records::{Vis, read_all};
+
+fn main(rt: HostRuntime) -> Result<()> {
+    let mut text = Vec::new(rt.alloc());
+    for line in BufReader::new(rt.alloc(), rt.reader())?.lines(rt.alloc()) {
+        read_line(&rt, rt.alloc(), line?.as_str(), &mut text)?;
+    }
+    Ok(())
+}
+
+fn read_line(rt: &impl Print, alloc: Global, line: &str, text: &mut Vec<u8>) -> Result<()> {
+    if line.is_empty() || line.starts_with('#') {
+        return Ok(());
+    }
+    let (word, rest) = line.split_once(' ').unwrap_or((line, ""));
+    match word {
+        "text" => *text = decode(alloc, rest)?,
+        "more" => text.extend_from_slice(&decode(alloc, rest)?)?,
+        "whole" => print_answer(rt, alloc, line, text)?,
+        "fronts" => print_fronts(rt, alloc, text)?,
+        "byte" => print_changed(rt, alloc, line, rest, text)?,
+        _ => bail!("no such line: {line}"),
+    }
+    Ok(())
+}
+
+// What a text is read to, or the fault.
+fn print_answer(rt: &impl Print, alloc: Global, line: &str, text: &[u8]) -> Result<()> {
+    print!(rt; "{line}: ")?;
+    match read_all(alloc, text) {
+        Ok(vis) => print_file(rt, &vis),
+        Err(fault) => {
+            println!(rt; "{fault}")?;
+            Ok(())
+        }
+    }
+}
+
+// The sizes of a file, and its cells.
+fn print_file(rt: &impl Print, vis: &Vis) -> Result<()> {
+    let head = vis.head();
+    let (stations, products, scans) = (
+        head.stations().len(),
+        head.products().len(),
+        head.scans().len(),
+    );
+    print!(rt;
+        "lags {} integration {} rate {}",
+        head.lags(),
+        head.integration(),
+        head.rate()
+    )?;
+    print!(rt; " stations {stations} products {products} scans {scans} cells")?;
+    for cell in vis.cells() {
+        print!(rt; " {} {} {}", cell.re, cell.im, cell.count)?;
+    }
+    println!(rt; "")?;
+    Ok(())
+}
+
+// The fault of each front of the text that is shorter than the text.
+fn print_fronts(rt: &impl Print, alloc: Global, text: &[u8]) -> Result<()> {
+    for n in 0..text.len() {
+        let front = text.get(..n).context("no such front")?;
+        match read_all(alloc, front) {
+            Ok(_) => println!(rt; "{n} bytes: a file")?,
+            Err(fault) => println!(rt; "{n} bytes: {fault}")?,
+        }
+    }
+    Ok(())
+}
+
+// The answer to the text with another byte at a place.
+fn print_changed(
+    rt: &impl Print,
+    alloc: Global,
+    line: &str,
+    rest: &str,
+    text: &[u8],
+) -> Result<()> {
+    let (place, byte) = rest.split_once(' ').context("a place and a byte")?;
+    let mut changed = text.to_vec(alloc)?;
+    let there = changed
+        .get_mut(place.parse::<usize>()?)
+        .context("no such place")?;
+    *there = u8::from_str_radix(byte, 16)?;
+    print_answer(rt, alloc, line, &changed)
+}

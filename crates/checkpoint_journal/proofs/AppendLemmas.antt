@@ -1,15 +1,15 @@
 -- What the two steps of an append leave of a journal.
 use Rattle.std.specs.Prelude.{option_map, option_and_then}
-use Rattle.std.proofs.Common.{◌≡◌, ◌≢◌, ◌⊎◌, inl, inr, ⊎_elim, ◌∙◌, ℕ, ◌+◌, ◌-◌, ◌<◌, ◌≤◌, false, List, [], ◌∷◌, ◌++◌, length, get_or, take, drop, Option, Some, None, refl, sym, ap, subst, arith, take-append-drop, length-append, append_assoc}
+use Rattle.std.proofs.Common.{◌≡◌, ◌≢◌, ◌∙◌, ℕ, ◌+◌, ◌<◌, ◌≤◌, false, List, [], ◌∷◌, ◌++◌, length, get_or, take, drop, Option, Some, None, refl, sym, ap, subst, arith, length-append, append_assoc}
 use Rattle.std.proofs.lemmas.List.{take_at, drop_at, drop_more, drop-drop, drop-take, take-take, take_all, append-nil, length-take, length-drop, take-append-le}
-use Rattle.dev_traits.specs.Images.{put_at, Torn}
+use Rattle.dev_traits.specs.Images.{put_at}
 use Rattle.checkpoint_journal.specs.Image.{behind, is_blank, reading, row_of, gate_at}
-use Rattle.checkpoint_journal.specs.Runs.{KeepsBodies, KeepsFront, OneMore, AddsBody, put_over, IsDue}
+use Rattle.checkpoint_journal.specs.Runs.{put_over, IsDue}
 use Rattle.checkpoint_journal.specs.Standing.{Keeps}
-use Rattle.checkpoint_journal.proofs.RowLemmas.{row_of-closed, row_of-open, row_of-end}
-use Rattle.checkpoint_journal.proofs.FindLemmas.{eq_or_ne, begun_of, reading-begun, reading-front}
+use Rattle.checkpoint_journal.proofs.RowLemmas.{row_of-closed, row_of-open}
+use Rattle.checkpoint_journal.proofs.FindLemmas.{begun_of, reading-begun, reading-front}
 use Rattle.checkpoint_journal.proofs.PartLemmas.{RowParts, row_len, row_parts, behind-some, begun_means}
-use Rattle.checkpoint_journal.proofs.WriteLemmas.{put_at-inside, front_at, torn_byte}
+use Rattle.checkpoint_journal.proofs.WriteLemmas.{put_at-inside, front_at}
 
 some_lists : (a b : List ℕ) → Some a ≡ Some b → a ≡ b
 some_lists a b e = cc

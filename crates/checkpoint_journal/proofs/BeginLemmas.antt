@@ -1,11 +1,11 @@
 -- The three parts of a journal's begin, each between two syncs.
 use Rattle.std.specs.Prelude.{option_map, is_some}
-use Rattle.std.proofs.Common.{◌≡◌, ◌∙◌, ℕ, ◌+◌, ◌≤◌, List, [], ◌∷◌, ◌++◌, length, get_or, Option, Some, None, true, sym, ap, refl, arith, subst}
+use Rattle.std.proofs.Common.{◌≡◌, ◌∙◌, ℕ, ◌+◌, List, [], ◌∷◌, ◌++◌, length, get_or, Option, Some, None, true, sym, refl}
 use Rattle.dev_traits.specs.Images.{put_at, Torn}
 use Rattle.dev_traits.specs.Told.{WhereTold}
 use Rattle.dev_traits.specs.Moments.{Goes, Runs, IsDurable}
 use Rattle.dev_traits.proofs.Moments.{runs_of, torn_same}
-use Rattle.checkpoint_journal.specs.Image.{is_blank, reading}
+use Rattle.checkpoint_journal.specs.Image.{is_blank}
 use Rattle.checkpoint_journal.specs.Runs.{Changes, KeepsBodies, KeepsFront, KeepsBlank, IsClosedHead}
 use Rattle.checkpoint_journal.proofs.RunLemmas.{changes_of, told_value}
 use Rattle.checkpoint_journal.proofs.ToldLemmas.{told_mapped}

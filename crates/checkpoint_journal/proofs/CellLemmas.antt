@@ -2,7 +2,6 @@
 use Rattle.std.proofs.Common.{◌≡◌, ◌∙◌, ℕ, ℤ, ◌+◌, ◌-◌, List, length, take, drop, refl, ap}
 use Rattle.std.specs.Int.{w64, cast_signed}
 use Rattle.byteorder.specs.Endian.{little_number}
-use Rattle.corr_model.specs.declared.cell.Cell.{Cell}
 use Rattle.checkpoint_journal.specs.Cells.{cell_from}
 use Rattle.checkpoint_journal.proofs.NumberLemmas.{little_from-drop}
 

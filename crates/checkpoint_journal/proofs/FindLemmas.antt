@@ -1,12 +1,12 @@
 -- What is found in an image, from its parts.
-use Rattle.std.specs.Prelude.{option_and_then, slice_get, not, nat_le, ◌||◌, if◌then◌else◌, ◌==◌, IsSome}
-use Rattle.std.proofs.Common.{◌≡◌, ◌≢◌, ◌⊎◌, inl, inr, ⊎_elim, ◌∙◌, ℕ, zero, suc, ◌+◌, ◌-◌, ◌<◌, ◌≤◌, Bool, true, false, List, [], ◌∷◌, ◌++◌, length, get_or, take, drop, Option, Some, None, refl, sym, ap, subst, arith, take-append-drop, length-append}
-use Rattle.std.proofs.lemmas.List.{drop_more, take_at, drop_at, length-take, length-drop, get_or-take, get_or-drop, get_or_default}
-use Rattle.std.proofs.lemmas.Grind.{same_number_lists, common_steps}
+use Rattle.std.specs.Prelude.{option_and_then, slice_get, if◌then◌else◌, ◌==◌}
+use Rattle.std.proofs.Common.{◌≡◌, ◌≢◌, ◌⊎◌, inl, inr, ◌∙◌, ℕ, zero, suc, ◌+◌, ◌-◌, ◌<◌, ◌≤◌, Bool, true, false, List, [], ◌∷◌, ◌++◌, length, get_or, take, drop, Option, Some, None, refl, sym, ap, arith, take-append-drop}
+use Rattle.std.proofs.lemmas.List.{length-take, get_or-take}
+use Rattle.std.proofs.lemmas.Grind.{same_number_lists}
 use Rattle.std.proofs.lemmas.Bool.Decides.{nat_tests}
 use Rattle.checkpoint_journal.specs.declared.fault.Differs.{Differs}
 use Rattle.checkpoint_journal.specs.Image.{behind, is_blank, row_of, reading}
-use Rattle.checkpoint_journal.specs.Difference.{IsFirstDifference, IsCutShort, IsDifference}
+use Rattle.checkpoint_journal.specs.Difference.{IsDifference}
 use Rattle.checkpoint_journal.specs.Standing.{Keeps}
 use Rattle.checkpoint_journal.specs.Finding.{SameTo, SameUpTo, FindsRow, IsOther}
 

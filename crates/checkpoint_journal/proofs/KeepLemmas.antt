@@ -1,19 +1,19 @@
 -- The two parts of an append, each between two syncs.
 use Rattle.std.specs.Prelude.{option_map, is_some}
 use Rattle.std.proofs.Common.{◌≡◌, ◌≢◌, ◌⊎◌, inl, inr, ⊎_elim, ◌∙◌, ℕ, ◌+◌, ◌<◌, ◌≤◌, List, [], ◌∷◌, ◌++◌, length, get_or, take, drop, Option, Some, None, refl, sym, ap, subst, arith, length-append}
-use Rattle.std.proofs.lemmas.List.{take_at, drop_at, length-take, append_cancel_left}
+use Rattle.std.proofs.lemmas.List.{take_at, drop_at, length-take}
 use Rattle.dev_traits.specs.Images.{put_at, Torn}
 use Rattle.dev_traits.specs.Told.{WhereTold}
 use Rattle.dev_traits.specs.Moments.{Goes, Runs, IsDurable}
 use Rattle.dev_traits.proofs.Moments.{runs_of}
 use Rattle.checkpoint_journal.specs.Image.{reading}
 use Rattle.checkpoint_journal.specs.Standing.{Keeps}
-use Rattle.checkpoint_journal.specs.Runs.{Changes, StepTold, KeepsBodies, KeepsFront, OneMore, AddsBody, put_over, IsDue}
-use Rattle.checkpoint_journal.proofs.RunLemmas.{changes_of, told_value, read_steps}
+use Rattle.checkpoint_journal.specs.Runs.{Changes, StepTold, KeepsFront, OneMore, AddsBody, put_over, IsDue}
+use Rattle.checkpoint_journal.proofs.RunLemmas.{changes_of, told_value}
 use Rattle.checkpoint_journal.proofs.ToldLemmas.{told_mapped}
 use Rattle.checkpoint_journal.proofs.FindLemmas.{eq_or_ne}
 use Rattle.checkpoint_journal.proofs.WriteLemmas.{front_joined, front_same_one, torn_byte}
-use Rattle.checkpoint_journal.proofs.AppendLemmas.{Due, due_of, behind_closed, at_gate, over_gate, put_byte}
+use Rattle.checkpoint_journal.proofs.AppendLemmas.{due_of, behind_closed, at_gate, over_gate, put_byte}
 
 module _ (id sizes : List ℕ) (k gate size : ℕ) (text : List ℕ) (sized : length text ≡ size) where
   -- the body and a closed gate stand behind the gate

@@ -13,3 +13,6 @@ pub mod ReadLemmas
 pub mod RowLemmas
 pub mod RunLemmas
 pub mod ToldLemmas
+pub mod RowBodies
+pub mod ReadCells
+pub mod BodyLemmas

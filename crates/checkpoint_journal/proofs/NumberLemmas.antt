@@ -1,6 +1,6 @@
 -- Numbers by the places of their bytes.
-use Rattle.std.proofs.Common.{◌≡◌, ◌∙◌, ℕ, zero, suc, ◌+◌, ◌-◌, ◌*◌, ◌<◌, ◌≤◌, List, length, get_or, take, drop, refl, sym, ap, arith, subst}
-use Rattle.std.proofs.lemmas.List.{get_or-drop, get_or-take, take_rest}
+use Rattle.std.proofs.Common.{◌≡◌, ◌∙◌, ℕ, zero, suc, ◌+◌, ◌-◌, ◌<◌, List, length, get_or, take, drop, refl, sym, ap, arith}
+use Rattle.std.proofs.lemmas.List.{get_or-drop, take_rest}
 use Rattle.byteorder.specs.Endian.{little_from}
 
 -- bytes that agree at the places of a number give the same number

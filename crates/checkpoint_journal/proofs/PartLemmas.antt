@@ -1,14 +1,13 @@
 -- A row of gates by its parts: what stands behind a closed gate plays no part.
-use Rattle.std.specs.Prelude.{option_map, option_and_then}
+use Rattle.std.specs.Prelude.{option_map}
 use Rattle.std.specs.List.{sum_by}
-use Rattle.std.proofs.Common.{◌≡◌, ◌≢◌, ◌⊎◌, inl, inr, ⊎_elim, ◌∙◌, ℕ, zero, suc, ◌+◌, ◌-◌, ◌<◌, ◌≤◌, true, false, if◌then◌else◌, ◌==◌, List, [], ◌∷◌, ◌++◌, length, get_or, take, drop, Option, Some, None, refl, sym, ap, subst, arith, take-append-drop, length-append, append_assoc}
-use Rattle.std.proofs.lemmas.List.{take_at, drop_at, drop_more, append-nil, drop-drop, drop-take, take-take, length-take, length-drop, get_or-drop, get_or-take}
+use Rattle.std.proofs.Common.{◌≡◌, ◌≢◌, ◌⊎◌, inl, inr, ◌∙◌, ℕ, suc, ◌+◌, ◌<◌, ◌≤◌, false, if◌then◌else◌, ◌==◌, List, [], ◌∷◌, ◌++◌, length, get_or, take, drop, Option, Some, None, refl, sym, ap, subst, arith}
+use Rattle.std.proofs.lemmas.List.{drop-drop, drop-take, take-take, length-drop, get_or-drop}
 use Rattle.std.proofs.lemmas.List.Sums.{sum_by-cons}
 use Rattle.std.proofs.lemmas.Bool.Decides.{nat_tests}
-use Rattle.checkpoint_journal.specs.Image.{behind, is_blank, reading, row_of, gate_at}
-use Rattle.checkpoint_journal.specs.Standing.{Keeps}
+use Rattle.checkpoint_journal.specs.Image.{behind, is_blank, row_of}
 use Rattle.checkpoint_journal.proofs.RowLemmas.{row_of-closed, row_of-open, row_of-end, row_of-nothing}
-use Rattle.checkpoint_journal.proofs.FindLemmas.{eq_or_ne, reading-begun, reading-front}
+use Rattle.checkpoint_journal.proofs.FindLemmas.{eq_or_ne}
 
 -- the bytes of so many gates and bodies
 abbrev pub row_len : List ℕ → ℕ → ℕ

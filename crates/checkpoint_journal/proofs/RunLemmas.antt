@@ -1,6 +1,6 @@
 -- Runs of calls on a disk, one after another.
 use Rattle.std.specs.Prelude.{is_some}
-use Rattle.std.proofs.Common.{◌≡◌, ◌∙◌, ℕ, List, refl, Option, Some, None, Bool, false, sym, ap, subst, arith}
+use Rattle.std.proofs.Common.{◌≡◌, ◌∙◌, ℕ, List, refl, Option, Some, None, sym, ap, subst, arith}
 use Rattle.dev_traits.specs.Images.{Same}
 use Rattle.dev_traits.specs.Moments.{Goes, Runs, IsDurable}
 use Rattle.dev_traits.specs.Told.{WhereTold}

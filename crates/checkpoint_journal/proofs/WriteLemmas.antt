@@ -1,11 +1,9 @@
 -- What a write or a cut leaves of a journal's file.
-use Rattle.std.specs.Prelude.{option_map}
-use Rattle.std.proofs.Common.{◌≡◌, ◌≢◌, ◌⊎◌, inl, inr, ⊎_elim, ◌∙◌, ℕ, zero, suc, ◌+◌, ◌-◌, ◌<◌, ◌≤◌, max, min, true, false, List, [], ◌∷◌, ◌++◌, length, get_or, take, drop, replicate, Option, Some, None, refl, sym, ap, subst, arith, take-append-drop, length-append, append_assoc}
-use Rattle.std.proofs.lemmas.List.{take_at, drop_at, take_all, drop_all, append-nil, length-take, length-drop, get_or-take, get_or-drop, drop_more, take-take}
-use Rattle.std.proofs.lemmas.Grind.{same_number_lists, common_steps}
+use Rattle.std.proofs.Common.{◌≡◌, ◌≢◌, ◌⊎◌, ⊎_elim, ◌∙◌, ℕ, ◌+◌, ◌-◌, ◌<◌, ◌≤◌, true, List, [], ◌∷◌, ◌++◌, length, get_or, take, drop, replicate, Some, refl, sym, ap, arith, take-append-drop, length-append, append_assoc}
+use Rattle.std.proofs.lemmas.List.{take_at, drop_at, take_all, drop_all, append-nil, length-take, length-drop, get_or-take, get_or-drop, drop_more}
+use Rattle.std.proofs.lemmas.Grind.{same_number_lists}
 use Rattle.std.proofs.lemmas.Bool.Decides.{nat_tests}
 use Rattle.dev_traits.specs.Images.{put_at, Torn, Shorn}
-use Rattle.dev_traits.specs.Told.{WhereTold}
 use Rattle.checkpoint_journal.specs.Image.{is_blank, reading, row_of}
 use Rattle.checkpoint_journal.specs.Runs.{KeepsBodies, KeepsFront, KeepsBlank, IsClosedHead}
 use Rattle.checkpoint_journal.specs.Standing.{Keeps}

@@ -18,6 +18,10 @@ cell_from bytes at = record {
   count = little_from (at + 16) 8 bytes;
 }
 
+-- so many cells, one after another from a place on
+abbrev pub cells_at : List ℕ → ℕ → ℕ → List Cell
+cells_at bytes at n = map (λ (i : ℕ). cell_from bytes (at + 24 * i)) (range_with_len 0 n)
+
 -- the cells that a body stands for
 abbrev pub body_cells : List ℕ → List Cell
-body_cells bytes = map (λ (i : ℕ). cell_from bytes (24 * i)) (range_with_len 0 (length bytes / 24))
+body_cells bytes = cells_at bytes 0 (length bytes / 24)

@@ -1,5 +1,5 @@
 -- Where an image that has no reading differs from this job's form.
-use Rattle.std.specs.Prelude.{◌≡◌, ◌≢◌, ◌⊎◌, ℕ, ◌+◌, ◌<◌, List, ◌∷◌, length, take, slice_get, Option, Some, None}
+use Rattle.std.specs.Prelude.{◌≡◌, ◌≢◌, ◌⊎◌, ℕ, ◌<◌, List, ◌∷◌, length, take, slice_get, None}
 use Rattle.checkpoint_journal.specs.declared.fault.Differs.{Differs}
 
 -- the first place of a front at which the image has another byte, or none

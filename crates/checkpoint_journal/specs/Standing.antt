@@ -1,5 +1,5 @@
 -- What a journal knows of its file, and when it stands on a disk.
-use Rattle.std.specs.Prelude.{◌≡◌, ℕ, ◌+◌, ◌≤◌, ◌<◌, ◌^◌, Bool, false, List, length, Option, Some}
+use Rattle.std.specs.Prelude.{◌≡◌, ℕ, ◌+◌, ◌≤◌, Bool, false, List, length, Option, Some}
 use Rattle.dev_traits.specs.Told.{WhereTold}
 use Rattle.dev_traits.specs.Moments.{IsDurable}
 use Rattle.piece_plan.specs.Epochs.{JobSizes}

@@ -11,11 +11,13 @@ ghost use Rattle.checkpoint_journal.specs.Finding.{ReadsMany, HasPlace, Opens};
 ghost use Rattle.checkpoint_journal.specs.Faults.{CountsFault, IsRefused, IsUnread};
 ghost use Rattle.checkpoint_journal.specs.Standing.{JournalState, journal_state, Stands, StandsOn};
 
+use crate::body::{gate_of, read_body};
 use crate::finding::Finding;
 use crate::reader::find;
 use crate::writer::{begin, keep};
-use crate::{AppendFault, Identity, OpenFault};
+use crate::{AppendFault, Identity, OpenFault, ReadFault};
 use atomic_sums::EpochSums;
+use corr_model::Cell;
 use dev_traits::{Disk, Failed};
 use piece_plan::JobPlan;
 use std::alloc::{AllocError, Global};
@@ -127,6 +129,43 @@ impl Journal {
                 self.failed = true;
                 Err(AppendFault::Disk)
             }
+        }
+    }
+
+    /// Reads the cells of a kept epoch into `out`, which has a place for each: by group and then by lag. Nothing is
+    /// written. Where the disk fails, the journal is as before, and `out` has any cells. Epochs that are read in order
+    /// cost one walk over the gates in all. It takes no memory.
+    pub fn read_epoch<D: Disk>(
+        &mut self,
+        disk: &mut D,
+        plan: &JobPlan,
+        i: u64,
+        out: &mut [Cell],
+    ) -> Result<(), ReadFault>
+        requires stands { StandsOn plan.now self.old
+            (D.seen disk.old) (D.may_leave disk.old (D.moment disk.old)) }
+        requires kept { i < self.old.kept }
+        requires cells { cells_of_epoch plan.now i ≡ Some (length out.old) }
+        ensures cells { OnOk result ((id : List ℕ)
+            → Stands id plan.now self.old (D.seen disk.old) (D.may_leave disk.old (D.moment disk.old))
+            → WhereTold (D.seen disk.old) (λ image. ReadsBody id (body_sizes plan.now) image i out.new)) }
+        ensures stands { (id : List ℕ)
+            → Stands id plan.now self.old (D.seen disk.old) (D.may_leave disk.old (D.moment disk.old))
+            → Stands id plan.now self.new (D.seen disk.new) (D.may_leave disk.new (D.moment disk.new)) }
+        ensures kept { self.new.kept ≡ self.old.kept }
+        ensures next { OnOk result (self.new.next ≡ i) }
+        ensures as_before { OnErr result (self.new ≡ self.old) }
+        ensures looks { Looks D.seen D.moment D.may_leave disk.old disk.new }
+        ensures counts { Counts (D.faults disk.old) (D.faults disk.new) result }
+    {
+        let gate = gate_of(plan, self.head, self.next, self.place, i);
+        match read_body(disk, gate + 1, out, &mut self.buffer) {
+            Ok(()) => {
+                self.next = i;
+                self.place = gate;
+                Ok(())
+            }
+            Err(Failed) => Err(ReadFault::Disk),
         }
     }
 

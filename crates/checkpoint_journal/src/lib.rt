@@ -6,6 +6,7 @@
 //! (`docs/FORMATS.md` has the file byte by byte.)
 #![tactic(auto)]
 
+mod body;
 mod cells;
 mod fault;
 mod finding;

@@ -1,9 +1,9 @@
-use Rattle.std.proofs.Common.{◌≡◌, ℕ, List, [], ◌∷◌, ◌++◌, refl, subst, sym, true, ◌∙◌}
+use Rattle.std.proofs.Common.{◌≡◌, [], ◌∷◌, ◌++◌, refl, subst, sym, ◌∙◌}
 use Rattle.dev_traits.specs.Told.{WhereTold}
 use Rattle.dev_traits.proofs.ToldLemmas.{WhereTold-weaker}
 use Rattle.checkpoint_journal.specs.declared.finding.Finding.{Finding}
-use Rattle.checkpoint_journal.specs.Image.{body_sizes, is_blank}
-use Rattle.checkpoint_journal.specs.Runs.{KeepsBodies, Looks}
+use Rattle.checkpoint_journal.specs.Image.{body_sizes}
+use Rattle.checkpoint_journal.specs.Runs.{KeepsBodies}
 use Rattle.checkpoint_journal.specs.Standing.{Keeps}
 use Rattle.checkpoint_journal.specs.Finding.{Finds, IsOther}
 use Rattle.checkpoint_journal.proofs.RunLemmas.{looks_of, looks_both, changes_looks, changes_both, durable_looks}

@@ -1,5 +1,4 @@
-use Rattle.std.proofs.Common.{◌≡◌, ◌-◌, ◌≤◌, length, get_or, Some, None, arith, ℕ}
-use Rattle.dev_traits.specs.Told.{WhereTold}
+use Rattle.std.proofs.Common.{◌≡◌, ◌-◌, length, get_or, Some, None}
 use Rattle.checkpoint_journal.specs.Difference.{IsDifference}
 use Rattle.checkpoint_journal.specs.Finding.{SameUpTo}
 use Rattle.checkpoint_journal.proofs.ToldLemmas.{told_three, told_both}

@@ -1,4 +1,4 @@
-use Rattle.std.proofs.Common.{◌≡◌, ◌+◌, ◌<◌, length, get_or, sym, subst, arith, ℕ, Option, Some, None}
+use Rattle.std.proofs.Common.{◌≡◌, length, get_or, sym, subst, arith, ℕ, Option}
 use Rattle.dev_traits.specs.Told.{WhereTold}
 use Rattle.checkpoint_journal.specs.Image.{body_sizes}
 use Rattle.checkpoint_journal.specs.Difference.{IsDifference}

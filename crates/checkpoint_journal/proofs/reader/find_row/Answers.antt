@@ -1,6 +1,5 @@
-use Rattle.std.proofs.Common.{◌≡◌, ◌∙◌, ◌+◌, ◌<◌, ◌≤◌, ◌≢◌, length, get_or, drop, sym, ap, subst, rules, arith, Some, None, List, ℕ}
+use Rattle.std.proofs.Common.{◌≡◌, ◌∙◌, ◌+◌, ◌<◌, ◌≢◌, length, get_or, drop, sym, subst, rules, arith, Some, None, ℕ}
 use Rattle.std.proofs.lemmas.List.{length-map}
-use Rattle.dev_traits.specs.Told.{WhereTold}
 use Rattle.piece_plan.specs.Epochs.{epochs_of}
 use Rattle.checkpoint_journal.specs.Image.{body_sizes}
 use Rattle.checkpoint_journal.specs.Finding.{FindsRow}

@@ -1,5 +1,4 @@
 use Rattle.std.proofs.Common.{◌≡◌, ◌+◌, ◌-◌, ◌<◌, ◌≤◌, length, take, drop, sym, subst, arith}
-use Rattle.dev_traits.specs.Told.{WhereTold}
 use Rattle.checkpoint_journal.specs.Finding.{SameTo, SameUpTo, Compares}
 use Rattle.checkpoint_journal.proofs.RunLemmas.{looks_both}
 use Rattle.checkpoint_journal.proofs.ToldLemmas.{told_both, told_again}

@@ -1,5 +1,4 @@
-use Rattle.std.proofs.Common.{rules, ◌≡◌, length, arith}
-use Rattle.checkpoint_journal.proofs.RunLemmas.{looks_of}
+use Rattle.std.proofs.Common.{rules}
 use Rattle.checkpoint_journal.proofs.ReadLemmas.{told_read}
 use Rattle.checkpoint_journal.proofs.reader.load.Goals as goal
 

@@ -1,5 +1,5 @@
-use Rattle.std.proofs.Common.{◌∙◌, ℕ, List, refl}
-use Rattle.checkpoint_journal.specs.Runs.{Changes, KeepsBodies}
+use Rattle.std.proofs.Common.{refl}
+use Rattle.checkpoint_journal.specs.Runs.{KeepsBodies}
 use Rattle.checkpoint_journal.proofs.RunLemmas.{changes_both}
 use Rattle.checkpoint_journal.proofs.BeginLemmas.{part_blank, part_identity, part_open, bodies_joined, told_new, told_begun}
 use Rattle.checkpoint_journal.proofs.writer.begin.Goals as goal

@@ -1,4 +1,4 @@
-use Rattle.std.proofs.Common.{◌≡◌, ◌∙◌, ◌+◌, ◌*◌, ◌<◌, ◌++◌, take, drop, length, ap, sym, arith, ℕ, List}
+use Rattle.std.proofs.Common.{◌≡◌, ◌∙◌, ◌+◌, ◌*◌, ◌<◌, ◌++◌, take, length, ap, sym, arith, ℕ, List}
 use Rattle.corr_model.specs.Records.{cell_text}
 use Rattle.checkpoint_journal.proofs.TextLemmas.{body_text-more}
 use Rattle.checkpoint_journal.proofs.writer.fill.Goals as goal

@@ -1,4 +1,4 @@
-use Rattle.std.proofs.Common.{◌≡◌, ◌+◌, ◌*◌, length, inl, refl, arith}
+use Rattle.std.proofs.Common.{◌*◌, length, inl, refl}
 use Rattle.checkpoint_journal.specs.Cells.{body_text}
 use Rattle.checkpoint_journal.specs.Runs.{AddsBody}
 use Rattle.checkpoint_journal.proofs.RunLemmas.{changes_both}

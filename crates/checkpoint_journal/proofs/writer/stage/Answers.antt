@@ -1,4 +1,4 @@
-use Rattle.std.proofs.Common.{◌≡◌, ◌+◌, ◌*◌, ◌≤◌, length, arith, [], ◌∷◌}
+use Rattle.std.proofs.Common.{◌≡◌, ◌+◌, ◌*◌, length, arith, [], ◌∷◌}
 use Rattle.dev_traits.specs.Images.{Torn}
 use Rattle.dev_traits.proofs.Moments.{runs_of, runs_both}
 use Rattle.checkpoint_journal.specs.Cells.{body_text}

@@ -1,5 +1,5 @@
 use Rattle.std.specs.Prelude.{option_map}
-use Rattle.std.proofs.Common.{◌≡◌, ◌∙◌, ◌+◌, ◌*◌, ◌≤◌, ◌++◌, take, drop, length, ap, sym, arith, rules, ℕ, List}
+use Rattle.std.proofs.Common.{◌≡◌, ◌∙◌, ◌+◌, ◌*◌, ◌≤◌, ◌++◌, take, length, ap, sym, arith, rules, ℕ, List}
 use Rattle.std.proofs.lemmas.List.{length-take}
 use Rattle.dev_traits.specs.Images.{Torn}
 use Rattle.dev_traits.proofs.Moments.{runs_of, runs_both}

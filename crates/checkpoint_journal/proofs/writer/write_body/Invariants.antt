@@ -1,5 +1,5 @@
 use Rattle.std.specs.Prelude.{option_map, is_some}
-use Rattle.std.proofs.Common.{◌≡◌, ◌≤◌, ◌-◌, take, length}
+use Rattle.std.proofs.Common.{◌≡◌, ◌≤◌, ◌-◌, take}
 use Rattle.dev_traits.specs.Moments.{Runs}
 use Rattle.checkpoint_journal.specs.Cells.{body_text}
 use Rattle.checkpoint_journal.specs.Runs.{KeepsFront, put_over}

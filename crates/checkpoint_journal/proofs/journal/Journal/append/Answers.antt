@@ -1,5 +1,4 @@
-use Rattle.std.specs.Prelude.{option_map}
-use Rattle.std.proofs.Common.{◌≡◌, ◌∙◌, ◌+◌, ◌*◌, ◌<◌, ◌≤◌, length, arith, ℕ, List, Some, ap, sym, subst}
+use Rattle.std.proofs.Common.{◌≡◌, ◌∙◌, ◌+◌, ◌*◌, ◌<◌, length, arith, ℕ, Some, ap, sym, subst}
 use Rattle.dev_traits.specs.Told.{WhereTold}
 use Rattle.checkpoint_journal.specs.Image.{body_sizes, cells_of_epoch}
 use Rattle.checkpoint_journal.specs.Runs.{IsDue}

@@ -1,6 +1,6 @@
 -- The names of the stations' channels.
-use Rattle.std.proofs.Common.{◌≡◌, ◌≢◌, ℕ, zero, suc, ◌+◌, ◌<◌, ◌≤◌, Bool, true, false, cond, ◌||◌, List, [], ◌∷◌, ◌++◌, length, map, get_or, set, Option, Some, None, is_some, refl, sym, ap, subst, ◌∙◌, arith, bytes_eq}
-use Rattle.std.specs.List.{All, list_any}
+use Rattle.std.proofs.Common.{◌≡◌, ℕ, zero, suc, ◌<◌, Bool, true, false, cond, ◌||◌, List, [], ◌∷◌, ◌++◌, length, get_or, set, Some, None, is_some, refl, sym, ap, subst, ◌∙◌, arith, bytes_eq}
+use Rattle.std.specs.List.{All}
 use Rattle.std.proofs.lemmas.List.Folds.{list_any-append}
 use Rattle.std.proofs.lemmas.List.Elements.{All-head, All-tail, All-push, All-set}
 use Rattle.vex_reader.specs.File.{named, put}
@@ -8,7 +8,7 @@ use Rattle.job_text.specs.declared.places.ChanPlace.{ChanPlace}
 use Rattle.job_text.specs.Job.{StationFields}
 use Rattle.job_text.specs.Ranges.{IsName, IsStationOf, IsChanOf}
 use Rattle.job_text.specs.Faults.{has_channel}
-use Rattle.job_text.specs.Places.{ArePlaces, AreIndexed}
+use Rattle.job_text.specs.Places.{AreIndexed}
 use Rattle.job_text.proofs.NameLemmas.{name_from, is_some-push}
 use Rattle.job_text.proofs.StationLemmas.{ArePlaces-set, ArePlaces-push}
 

@@ -1,15 +1,15 @@
 -- Whether a second is among those of some entries, by the entry in force at it.
 use Rattle.std.proofs.Common.{◌≡◌, ◌≢◌, ◌<◌, ℕ, Bool, true, false, List, length, get_or, refl, sym, ◌∙◌, ap, arith, IsTrue, Decides, FitsSigned, eqb}
-use Rattle.std.specs.Prelude.{Option, Some, None, ℤ, ◌<ℤ◌, ◌≤ℤ◌, ◌↔◌, ◌++◌, ◌∷◌, [], if◌then◌else◌}
-use Rattle.std.specs.List.{All, Contains, list_any}
+use Rattle.std.specs.Prelude.{Option, Some, ℤ, ◌<ℤ◌, ◌≤ℤ◌, if◌then◌else◌}
+use Rattle.std.specs.List.{All, list_any}
 use Rattle.std.specs.Ordering.{int_eq}
 use Rattle.std.proofs.lemmas.Int.{ints, to_z-of_z}
 use mir.Val.{of_z, to_z}
 use mir.Syntax.{w64}
 use Rattle.std.proofs.lemmas.Bool.Decides.{Decides-int_eq, Decides-eqb, same_from_decides}
-use Rattle.std.proofs.lemmas.List.Folds.{list_any_none, list_any_at, Any-from_list_any}
-use Rattle.std.proofs.lemmas.List.Elements.{All-weaker, All-from_get_or, All-get_or, All-contains}
-use Rattle.entry_list.specs.Latest.{IsInForce, IsLatest}
+use Rattle.std.proofs.lemmas.List.Folds.{list_any_none, list_any_at}
+use Rattle.std.proofs.lemmas.List.Elements.{All-weaker}
+use Rattle.entry_list.specs.Latest.{IsLatest}
 use Rattle.job_text.specs.Faults.{is_taken}
 
 -- a test that a fact decides fails where the fact does not hold

@@ -1,8 +1,10 @@
 -- The schedule of a job keeps what each schedule keeps.
-use Rattle.std.proofs.Common.{◌≡◌, ◌≢◌, ℕ, ◌<◌, ◌≤◌, ◌^◌, true, List, [], ◌∷◌, map, Option, Some, None, is_some, refl, sym, ap, ◌∙◌, arith}
-use Rattle.std.specs.Prelude.{pos, ◌≤ℤ◌, IfSome, IsSome, unwrap_or}
-use Rattle.std.specs.List.{All, AllPairs}
+use Rattle.std.proofs.Common.{◌≡◌, ℕ, ◌+◌, ◌<◌, ◌≤◌, ◌^◌, List, [], ◌∷◌, ◌++◌, length, get_or, take, map, slice_get, Option, Some, None, refl, sym, ap, ◌∙◌, arith}
+use Rattle.std.specs.Prelude.{IfSome, IsSome, unwrap_or}
+use Rattle.std.specs.List.{All}
 use Rattle.std.proofs.lemmas.Int.{ints}
+use Rattle.std.proofs.lemmas.List.{map_more}
+use Rattle.std.proofs.lemmas.Option.{get_or_from_slice_get}
 use Rattle.std.proofs.lemmas.List.Elements.{All-nil, All-cons, All-head, All-tail}
 use Rattle.vex_schedule.specs.declared.scan.Chan.{Chan as ScanChan}
 use Rattle.vex_schedule.specs.declared.scan.Pass.{Pass}
@@ -17,6 +19,13 @@ use Rattle.job_text.specs.Inline.{chan_of, pass_of, scan_of, scans_of}
 All-map : {A B : Type 0} (P : A → Type 0) (Q : B → Type 0) (f : A → B) (xs : List A) → ((x : A) → P x → Q (f x)) → All P xs → All Q (map f xs)
 All-map P Q f [] h each = All-nil Q
 All-map P Q f (x ∷ xs) h each = All-cons Q (f x) (map f xs) (h x (All-head P x xs each)) (All-map P Q f xs h (All-tail P x xs each))
+
+-- a list read so far as it is mapped, with one more
+pub map-more : {A B : Type 0} (f : A → B) (xs : List A) (i : ℕ) (x : A) (made more : List B) (y : B) → i < length xs → slice_get xs i ≡ Some x
+    → made ≡ map f (take i xs) → y ≡ f x → more ≡ made ++ y ∷ [] → more ≡ map f (take (i + 1) xs)
+map-more f xs i x made more y less is so_far same pushed =
+    let here : get_or xs i x ≡ x = get_or_from_slice_get xs i x x is in
+    pushed ∙ (λ j. so_far j ++ same j ∷ []) ∙ ap (λ z. map f (take i xs) ++ f z ∷ []) (sym here) ∙ sym (map_more f xs i x less)
 
 map-both : {A B C : Type 0} (g : B → C) (f : A → B) (h : A → C) (xs : List A) → ((x : A) → g (f x) ≡ h x) → map g (map f xs) ≡ map h xs
 map-both g f h [] same = refl

@@ -8,3 +8,8 @@ pub mod TextLemmas
 pub mod ReadLemmas
 pub mod WholeLemmas
 pub mod InlineLemmas
+pub mod DraftLemmas
+pub mod SoundLemmas
+pub mod JobLemmas
+pub mod RowLemmas
+pub mod AnswerLemmas

@@ -1,5 +1,5 @@
 -- Pairs of names as the keys of a set.
-use Rattle.std.proofs.Common.{◌≡◌, ◌≢◌, ℕ, Bool, true, false, ◌&&◌, ◌||◌, List, [], ◌∷◌, map, refl, sym, ap, ◌∙◌, bytes_eq, Decides}
+use Rattle.std.proofs.Common.{◌≡◌, ◌≢◌, ℕ, Bool, true, false, ◌&&◌, ◌||◌, List, [], ◌∷◌, map, refl, ap, bytes_eq, Decides}
 use Rattle.std.specs.Global.{Vec}
 use Rattle.std.specs.List.{list_any, IsDistinct, AllByRecursion, AllPairs}
 use Rattle.std.proofs.lemmas.Slice.Eq.{bytes_eq-Decides}

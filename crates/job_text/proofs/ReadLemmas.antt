@@ -1,5 +1,5 @@
 -- The lines of a job read one behind the other.
-use Rattle.std.proofs.Common.{◌≡◌, ℕ, ◌+◌, ◌<◌, ◌≤◌, ◌⊎◌, inl, inr, Bool, true, false, cond, not, ◌&&◌, List, [], ◌∷◌, ◌++◌, length, Option, Some, None, Result, Ok, Err, option_map, option_to_list, filter_map, refl, sym, ap, ◌∙◌, arith, append_assoc}
+use Rattle.std.proofs.Common.{◌≡◌, ℕ, ◌+◌, Bool, true, false, cond, not, ◌&&◌, List, [], ◌∷◌, ◌++◌, length, Option, Some, None, option_map, option_to_list, refl, sym, ap, ◌∙◌, arith, append_assoc}
 use Rattle.std.specs.List.{cons_option}
 use Rattle.std.specs.Option.{option_map_or}
 use Rattle.std.proofs.lemmas.List.{append-nil}
@@ -9,10 +9,10 @@ use Rattle.job_lines.specs.declared.word.Word.{Word}
 use Rattle.job_text.specs.declared.fault.JobKind.{JobKind}
 use Rattle.job_text.specs.declared.fault.JobKind.TheVariants.{Line, Unknown}
 use Rattle.job_text.specs.declared.fault.JobFault.{JobFault}
-use Rattle.job_text.specs.Said.{Said, said_by, each, filled}
+use Rattle.job_text.specs.Said.{Said, said_by}
 use Rattle.job_text.specs.Faults.{row_fault, word_fault, fields_fault, line_fault}
-use Rattle.job_text.specs.Growing.{grown, grown_by, GrowsAt}
-use Rattle.job_text.specs.Answer.{faults_behind, first_fault, rows_in, Reads, out_of_memory}
+use Rattle.job_text.specs.Growing.{grown_by}
+use Rattle.job_text.specs.Answer.{faults_behind, first_fault, rows_in}
 use Rattle.job_text.proofs.SaidLemmas.{AreKnown, known-none, known-push, said-push}
 
 -- the fault of a row, none where there is no row
@@ -93,20 +93,3 @@ module _ {inline : Bool} {all : List (List ℕ)} {said : Said} {number : ℕ} {l
         all_rows = h.all_rows ∙ ap (λ xs. h.rows ++ rows_in xs) is ∙ ap (λ xs. h.rows ++ xs) (rows-cons line more) ∙ (let e : (h.rows ++ option_to_list (row_of line)) ++ rows_in more ≡ h.rows ++ (option_to_list (row_of line) ++ rows_in more) = simp append_assoc in sym e);
         count = omega (arith, h.count, ap length is);
       }
-
-  pub reading-fails : (line : List ℕ) (more : List (List ℕ)) (fault : JobFault) → left ≡ line ∷ more
-      → (fault ≡ out_of_memory) ⊎ (option_map (at_number (number + 1)) (line_fault inline said line) ≡ Some fault)
-      → (fault ≡ out_of_memory) ⊎ (first_fault 1 (faults_behind inline [] all) ≡ Some fault)
-  reading-fails line more fault is (inl memory) = inl memory
-  reading-fails line more fault is (inr refused) =
-      inr (h.faults ∙ ap (λ xs. first_fault (number + 1) (faults_behind inline h.rows xs)) is ∙ by (line_fault inline (said_by h.rows) line) (ap (λ s. option_map (at_number (number + 1)) (line_fault inline s line)) (sym h.says) ∙ refused))
-    where
-      by : (o : Option JobKind) → option_map (at_number (number + 1)) o ≡ Some fault → first_fault (number + 1) (o ∷ faults_behind inline (h.rows ++ option_to_list (row_of line)) more) ≡ Some fault
-      by None odd = absurd cc
-      by (Some kind) same = same
-
-  pub reading-ends : left ≡ [] → (first_fault 1 (faults_behind inline [] all) ≡ None) × (said ≡ said_by (rows_in all))
-  reading-ends is = (
-    h.faults ∙ ap (λ xs. first_fault (number + 1) (faults_behind inline h.rows xs)) is,
-    h.says ∙ ap said_by (sym (h.all_rows ∙ ap (λ xs. h.rows ++ rows_in xs) is ∙ append-nil h.rows)),
-  )

@@ -1,5 +1,5 @@
 -- What one more row adds to what rows say.
-use Rattle.std.proofs.Common.{◌≡◌, ◌≢◌, ℕ, ◌^◌, Bool, true, false, cond, ◌&&◌, ◌||◌, eqb, nat_lt, List, [], ◌∷◌, ◌++◌, length, map, Option, Some, None, is_some, is_none, option_to_list, filter_map, fold, refl, sym, ap, ◌∙◌, bytes_eq, find}
+use Rattle.std.proofs.Common.{◌≡◌, ℕ, ◌^◌, Bool, true, false, cond, ◌&&◌, ◌||◌, eqb, nat_lt, List, [], ◌∷◌, ◌++◌, length, map, Option, Some, None, is_some, option_to_list, filter_map, fold, refl, sym, ap, ◌∙◌, bytes_eq}
 use Rattle.std.specs.List.{list_any, cons_option}
 use Rattle.std.specs.Option.{option_map_or}
 use Rattle.std.proofs.lemmas.List.{map-append, append-nil}
@@ -11,7 +11,7 @@ use Rattle.job_lines.specs.Rows.{Row}
 use Rattle.job_lines.specs.declared.word.Word.{Word}
 use Rattle.job_lines.specs.declared.word.Word.TheVariants.{Lags, Integration, Epoch, Knot, Auto, Station, File, Chan, Clock, Poly, Product, Take, Rate, Scan, Band}
 use Rattle.job_text.specs.declared.fault.JobKind.{JobKind}
-use Rattle.job_text.specs.declared.fault.JobKind.TheVariants.{Unknown, Double, Range}
+use Rattle.job_text.specs.declared.fault.JobKind.TheVariants.{Unknown}
 use Rattle.job_text.specs.Job.{StationFields}
 use Rattle.job_text.specs.Values.{◌>>=◌, name_fits, number_within, log2_of, frame_bytes_in, field, lags_in, integration_in, epoch_in, knot_in, station_in, chan_in, clock_in, poly_in, rate_in, scan_in, band_in}
 use Rattle.job_text.specs.Said.{Said, said_by, each, last, of_key, filled}

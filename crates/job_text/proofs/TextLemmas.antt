@@ -1,8 +1,8 @@
 -- The lines of a text and their fields: how many there are, and which bytes they have.
-use Rattle.std.proofs.Common.{◌≡◌, ◌==◌, ℕ, zero, suc, ◌+◌, ◌-◌, ◌<◌, ◌≤◌, Bool, true, false, cond, ◌&&◌, ◌||◌, nat_le, nat_lt, eqb, List, [], ◌∷◌, length, take, drop, filter, map, get_or, refl, sym, ap, ◌∙◌, arith}
-use Rattle.std.specs.List.{All, list_all, slice_split, onto_first, before_first}
+use Rattle.std.proofs.Common.{◌≡◌, ◌==◌, ℕ, zero, suc, ◌+◌, ◌<◌, ◌≤◌, Bool, true, false, cond, ◌&&◌, nat_lt, List, [], ◌∷◌, length, get_or, refl, arith}
+use Rattle.std.specs.List.{All, list_all, slice_split, onto_first}
 use Rattle.std.specs.Str.{IsUtf8, IsAscii}
-use Rattle.std.specs.Str.Lines.{lines, lines_of_parts, strip_carriage_return}
+use Rattle.std.specs.Str.Lines.{lines, lines_of_parts}
 use Rattle.std.proofs.lemmas.Str.{IsUtf8-from_ascii}
 use Rattle.std.proofs.lemmas.List.Elements.{All-nil, All-cons, All-head, All-tail, All-filter, All-weaker, All-get_or}
 use Rattle.std.proofs.lemmas.Bool.Decides.{nat_tests}

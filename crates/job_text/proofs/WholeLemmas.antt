@@ -1,5 +1,5 @@
 -- A whole job against the text that it is read from.
-use Rattle.std.proofs.Common.{◌≡◌, ℕ, ◌<◌, ◌≤◌, Bool, true, false, cond, not, ◌&&◌, ◌||◌, nat_lt, List, [], ◌∷◌, length, map, Option, Some, None, Result, Ok, Err, is_some, ok_or, filter_map, refl, sym, ap, subst, ◌∙◌, arith}
+use Rattle.std.proofs.Common.{◌≡◌, ℕ, ◌<◌, ◌≤◌, Bool, true, false, cond, not, ◌&&◌, ◌||◌, nat_lt, List, [], ◌∷◌, length, map, Option, Some, None, Ok, is_some, ok_or, filter_map, refl, sym, ap, subst, ◌∙◌, arith}
 use Rattle.std.specs.Prelude.{unwrap_or}
 use Rattle.std.proofs.lemmas.List.{length-map}
 use Rattle.std.specs.List.{cons_option}
@@ -14,7 +14,7 @@ use Rattle.job_text.specs.declared.fault.JobKind.TheVariants.{Missing}
 use Rattle.job_text.specs.Job.{JobFields}
 use Rattle.job_text.specs.Values.{◌>>=◌, station_in, scan_in}
 use Rattle.job_text.specs.Said.{Said, said_by, each, filled}
-use Rattle.job_text.specs.Answer.{faults_behind, first_fault, rows_in, is_whole, job_by, job_in, answer_behind, out_of_memory, Gives}
+use Rattle.job_text.specs.Answer.{faults_behind, first_fault, rows_in, is_whole, job_by, job_in, answer_behind}
 use Rattle.job_text.proofs.TextLemmas.{length-lines, both_left, both_right}
 
 length-filter_map : {A B : Type 0} (f : A → Option B) (xs : List A) → length (filter_map f xs) ≤ length xs

@@ -72,7 +72,7 @@ abbrev pub Gives : Result JobFields JobFault → Result JobFields JobFault → T
 Gives (Ok job) wanted = wanted ≡ Ok job
 Gives (Err fault) wanted = (fault ≡ out_of_memory) ⊎ (wanted ≡ Err fault)
 
--- what the lines of a text say, or the first fault of one
-abbrev pub Reads : Bool → List (List ℕ) → Result Said JobFault → Type 0
-Reads inline all (Ok said) = (first_fault 1 (faults_behind inline [] all) ≡ None) × (said ≡ said_by (rows_in all))
-Reads inline all (Err fault) = (fault ≡ out_of_memory) ⊎ (first_fault 1 (faults_behind inline [] all) ≡ Some fault)
+-- the lines of a text were read: this is what they say; or one was refused, and its fault is the first
+abbrev pub Reads : Bool → List (List ℕ) → Result (Unit {0}) JobFault → Said → Type 0
+Reads inline all (Ok _) said = (first_fault 1 (faults_behind inline [] all) ≡ None) × (said ≡ said_by (rows_in all))
+Reads inline all (Err fault) said = (fault ≡ out_of_memory) ⊎ (first_fault 1 (faults_behind inline [] all) ≡ Some fault)

@@ -1,5 +1,5 @@
 -- The faults of a job's lines, each by the lines before it.
-use Rattle.std.specs.Prelude.{ℕ, ◌^◌, Bool, false, not, ◌&&◌, ◌||◌, ◌==◌, if◌then◌else◌, is_some, is_none, List, [], ◌∷◌, map, find, bytes_eq, Option, Some, None, ℤ}
+use Rattle.std.specs.Prelude.{ℕ, ◌^◌, Bool, false, not, ◌&&◌, if◌then◌else◌, is_some, is_none, List, [], ◌∷◌, find, bytes_eq, Option, Some, None, ℤ}
 use Rattle.std.specs.Option.{option_map_or}
 use Rattle.std.specs.List.{list_any}
 use Rattle.std.specs.Ordering.{int_eq}

@@ -1,5 +1,5 @@
 -- What one more row adds to what rows say.
-use Rattle.std.specs.Prelude.{◌≡◌, ◌⊎◌, ℕ, ◌^◌, Bool, true, List, [], ◌∷◌, ◌++◌, map, bytes_eq, option_to_list, option_map, Option, Some, None, Result, Ok, Err, if◌then◌else◌}
+use Rattle.std.specs.Prelude.{◌≡◌, ◌⊎◌, ℕ, ◌^◌, true, List, [], ◌∷◌, ◌++◌, map, bytes_eq, option_to_list, option_map, Option, Some, None, Result, Ok, Err, if◌then◌else◌}
 use Rattle.job_lines.specs.Rows.{Row}
 use Rattle.job_lines.specs.declared.word.Word.{Word}
 use Rattle.job_lines.specs.declared.word.Word.TheVariants.{Lags, Integration, Epoch, Knot, Auto, Station, File, Chan, Clock, Poly, Product, Take, Rate, Scan, Band}
@@ -9,7 +9,6 @@ use Rattle.job_text.specs.declared.fault.JobFault.{JobFault}
 use Rattle.job_text.specs.Job.{StationFields}
 use Rattle.job_text.specs.Values.{field, lags_in, integration_in, epoch_in, knot_in, station_in, chan_in, clock_in, poly_in, rate_in, scan_in, band_in}
 use Rattle.job_text.specs.Said.{Said}
-use Rattle.job_text.specs.Faults.{row_fault}
 
 -- the stations with that of a key changed
 abbrev pub changed : List StationFields → List ℕ → (StationFields → StationFields) → List StationFields
@@ -27,6 +26,10 @@ with_clock fields s = record s { clocks = s.clocks ++ option_to_list (clock_in f
 
 abbrev pub with_poly : List (List ℕ) → StationFields → StationFields
 with_poly fields s = record s { polys = s.polys ++ option_to_list (poly_in fields) }
+
+-- a thing under its name
+abbrev pub under : {A : Type 0} → List ℕ → Option A → Option (List ℕ × A)
+under name thing = option_map (λ x. (name, x)) thing
 
 unfoldable pub grown : Said → Word → List (List ℕ) → Said
 grown said Lags fields = record said { lags = lags_in fields }
@@ -61,7 +64,12 @@ abbrev pub grown_by : Said → Option Row → Said
 grown_by said None = said
 grown_by said (Some row) = grown said row.word row.fields
 
--- the same, where a fault is told with the number of its line
-abbrev pub GrowsAt : {S : Type 0} → Option JobKind → S → ℕ → Result S JobFault → Type 0
-GrowsAt fault grown number (Ok new) = (fault ≡ None) × (new ≡ grown)
-GrowsAt fault grown number (Err e) = (e ≡ record { kind = Memory; line = 0 }) ⊎ (option_map (λ kind. record { kind = kind; line = number }) fault ≡ Some e)
+-- the same of a line, whose fault is told with its number
+abbrev pub TakesAt : {S : Type 0} → Option JobKind → S → ℕ → Result (Unit {0}) JobFault → S → Type 0
+TakesAt fault grown number (Ok _) new = (fault ≡ None) × (new ≡ grown)
+TakesAt fault grown number (Err e) new = (e ≡ record { kind = Memory; line = 0 }) ⊎ (option_map (λ kind. record { kind = kind; line = number }) fault ≡ Some e)
+
+-- a fault of this kind in a line; want of memory is at none
+abbrev pub fault_in : JobKind → ℕ → JobFault
+fault_in Memory number = record { kind = Memory; line = 0 }
+fault_in kind number = record { kind = kind; line = number }

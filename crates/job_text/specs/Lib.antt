@@ -10,3 +10,4 @@ pub mod KindName
 pub mod Frame
 pub mod Sound
 pub mod Inline
+pub mod Numbers

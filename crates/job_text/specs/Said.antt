@@ -1,5 +1,5 @@
 -- What the rows of a job say together.
-use Rattle.std.specs.Prelude.{ℕ, ◌^◌, Bool, List, [], ◌++◌, ◌∷◌, map, filter_map, fold, bytes_eq, Option, Some, None, if◌then◌else◌}
+use Rattle.std.specs.Prelude.{ℕ, ◌^◌, Bool, List, map, filter_map, fold, bytes_eq, Option, Some, None, if◌then◌else◌}
 use Rattle.std.specs.List.{list_any}
 use Rattle.job_lines.specs.Words.{are_one}
 use Rattle.job_lines.specs.Rows.{Row}

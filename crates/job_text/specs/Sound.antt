@@ -2,6 +2,9 @@
 use Rattle.std.specs.Prelude.{◌≡◌, ℕ, ◌%◌, ◌^◌, ◌≤◌, ◌<◌, List, IfSome}
 use Rattle.std.specs.List.{All}
 use Rattle.job_text.specs.declared.places.Band.{Band}
+use Rattle.job_lines.specs.declared.word.Word.{Word}
+use Rattle.job_lines.specs.declared.word.Word.TheVariants.{Product, Scan}
+use Rattle.job_text.specs.Values.{field, scan_in}
 use Rattle.job_text.specs.Said.{Said}
 use Rattle.job_text.specs.Ranges.{IsName, IsSpan, AreDistinct}
 use Rattle.vex_reader.specs.File.{names}
@@ -18,3 +21,9 @@ pub record IsSaid (said : Said) : Type 0 where
   pub bands : All (λ (b : List ℕ × Band). b.1.hertz < 2 ^ 40) said.bands
   pub scan_names : AreDistinct (names said.scans)
   pub band_names : AreDistinct (names said.bands)
+
+-- what a row says that is not told by numbers alone: its product has two names, and its scan is one
+abbrev pub IsSoundRow : Word → List (List ℕ) → Type 0
+IsSoundRow Product fields = IsName (field fields 0) × IsName (field fields 1)
+IsSoundRow Scan fields = IfSome (scan_in fields) IsSpan
+IsSoundRow _ fields = Unit {0}

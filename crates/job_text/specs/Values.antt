@@ -1,5 +1,5 @@
 -- What the fields behind a word say, none where they say nothing that is in its range.
-use Rattle.std.specs.Prelude.{ℕ, ◌+◌, ◌-◌, ◌*◌, ◌%◌, ◌^◌, ℤ, pos, negsuc, unsigned_abs, Bool, ◌&&◌, ◌||◌, ◌==◌, nat_lt, nat_le, if◌then◌else◌, List, [], ◌∷◌, length, drop, slice_index_or, codes, bytes_eq, Option, Some, None, option_and_then, Result, Ok, Err}
+use Rattle.std.specs.Prelude.{ℕ, ◌+◌, ◌-◌, ◌*◌, ◌%◌, ◌^◌, ℤ, pos, negsuc, unsigned_abs, Bool, ◌&&◌, ◌==◌, nat_lt, nat_le, if◌then◌else◌, List, [], ◌∷◌, length, drop, slice_index_or, codes, bytes_eq, Option, Some, None, option_and_then}
 use Rattle.std.specs.Result.{result_ok}
 use Rattle.num_time.specs.Numerals.{decimal_of}
 use Rattle.num_time.specs.Times.{vex_second_of}

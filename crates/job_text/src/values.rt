@@ -4,7 +4,7 @@ ghost use Rattle.corr_model.specs.Delay.{IsClock};
 ghost use Rattle.job_text.specs.Ranges.{IsName, IsSpan};
 ghost use Rattle.num_time.specs.Times.{IsSecond};
 ghost use Rattle.vdif_frame.specs.Shape.{head_bytes};
-ghost use Rattle.job_text.specs.Values.{field, whole_of, second_of, bounded, number_within, name_fits, chan_in, lags_in, log2_of, frame_bytes_in, clock_in, wholes_of, poly_in, scan_in, band_in};
+ghost use Rattle.job_text.specs.Values.{field, whole_of, second_of, bounded, number_within, name_fits, chan_in, lags_in, integration_in, epoch_in, knot_in, rate_in, log2_of, frame_bytes_in, clock_in, wholes_of, poly_in, scan_in, band_in};
 
 use crate::places::{Band, ChanPlace, ScanSpan};
 use delay_poly::{Poly, PolyEntry};
@@ -81,6 +81,37 @@ pub(crate) fn lags_in(fields: &[&[u8]]) -> Option<u32>
 {
     let lags = number_within(2, 1024, field(fields, 0))? as u32;
     if lags % 2 == 0 { Some(lags) } else { None }
+}
+
+/// The samples of an integration.
+pub(crate) fn integration_in(fields: &[&[u8]]) -> Option<u64>
+    ensures { result ≡ integration_in (map (λ field. field.now) fields.now) }
+{
+    number_within(1, 1 << 36, field(fields, 0))
+}
+
+/// The samples of an epoch.
+pub(crate) fn epoch_in(fields: &[&[u8]]) -> Option<u32>
+    ensures { result ≡ epoch_in (map (λ field. field.now) fields.now) }
+{
+    let samples = number_within(1, 4_194_304, field(fields, 0))?;
+    Some(samples as u32)
+}
+
+/// The samples from one knot to the next.
+pub(crate) fn knot_in(fields: &[&[u8]]) -> Option<u32>
+    ensures { result ≡ knot_in (map (λ field. field.now) fields.now) }
+{
+    let samples = number_within(1, 1 << 24, field(fields, 0))?;
+    Some(samples as u32)
+}
+
+/// The samples a second.
+pub(crate) fn rate_in(fields: &[&[u8]]) -> Option<u32>
+    ensures { result ≡ rate_in (map (λ field. field.now) fields.now) }
+{
+    let samples = number_within(1, (1 << 32) - 1, field(fields, 0))?;
+    Some(samples as u32)
 }
 
 /// The power of two that a number of channels is.

@@ -1,4 +1,4 @@
-use Rattle.std.proofs.Common.{◌≡◌, ◌∙◌, FitsSigned, w64, rules}
+use Rattle.std.proofs.Common.{FitsSigned, w64, rules}
 use Rattle.std.proofs.lemmas.Int.{to_z-of_z}
 use Rattle.job_text.proofs.EntryLemmas.{same_second, taken_by, none_by}
 use Rattle.job_text.proofs.entries.is_taken.Goals as goal

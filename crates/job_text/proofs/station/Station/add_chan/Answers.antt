@@ -1,5 +1,4 @@
-use Rattle.std.proofs.Common.{◌≡◌, ◌∙◌, ◌++◌, ◌∷◌, [], None, refl}
-use Rattle.vex_reader.specs.File.{named}
+use Rattle.std.proofs.Common.{◌≡◌, ◌∙◌, ◌++◌, ◌∷◌, [], refl}
 use Rattle.job_text.proofs.NameLemmas.{put-new}
 use Rattle.job_text.proofs.StationLemmas.{IsStationOf-chan}
 use Rattle.job_text.proofs.station.Station.add_chan.Goals as goal

@@ -1,4 +1,4 @@
-use Rattle.std.proofs.Common.{◌≡◌, ap, rules}
+use Rattle.std.proofs.Common.{rules}
 use Rattle.job_text.proofs.station.Station.take_chan.Goals as goal
 
 pub returns-clause-chan : goal.returns-clause-chan

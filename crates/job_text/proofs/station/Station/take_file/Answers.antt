@@ -1,4 +1,3 @@
-use Rattle.std.proofs.Common.{◌≡◌, ◌++◌, ◌∷◌, [], sym, ◌∙◌}
 use Rattle.std.specs.Str.{IsUtf8}
 use Rattle.job_text.proofs.StationLemmas.{IsStationOf-file}
 use Rattle.job_text.proofs.station.Station.take_file.Goals as goal

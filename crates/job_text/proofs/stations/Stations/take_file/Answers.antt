@@ -1,7 +1,7 @@
-use Rattle.std.proofs.Common.{◌≡◌, ◌<◌, ◌++◌, ◌∷◌, [], length, get_or, map, None, sym, ap, ◌∙◌}
+use Rattle.std.proofs.Common.{◌≡◌, ◌<◌, length, get_or, map, None, ap, ◌∙◌}
 use Rattle.job_text.specs.Values.{field}
 use Rattle.job_text.specs.Growing.{with_file}
-use Rattle.job_text.proofs.StationLemmas.{grown-here, refused-here}
+use Rattle.job_text.proofs.StationLemmas.{grown-here}
 use Rattle.job_text.proofs.ChannelLemmas.{AreIndexed-set}
 use Rattle.job_text.proofs.stations.Stations.take_file.Goals as goal
 

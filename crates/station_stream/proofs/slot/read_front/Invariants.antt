@@ -1,0 +1,15 @@
+use Rattle.std.proofs.Common.{◌≡◌, ◌≤◌, ◌-◌, length, take, drop}
+use Rattle.dev_traits.specs.Files.{bytes_of}
+use Rattle.dev_traits.specs.Told.{WhereTold}
+use Rattle.station_stream.proofs.slot.read_front.Given as goal
+
+abbrev pub invariant-loop-done : goal.invariant-loop-done
+invariant-loop-done g l = record {
+  within : l.done ≤ length l.buf;
+  same : g.F.Shelf.told l.shelf ≡ g.F.Shelf.told l.initial.shelf;
+  faults : g.F.Shelf.faults l.shelf ≡ g.F.Shelf.faults l.initial.shelf;
+  front : WhereTold (g.F.Shelf.told l.initial.shelf) (λ files. take l.done l.buf ≡ take l.done (drop l.at (bytes_of (files l.name))));
+}
+
+abbrev pub decreases-loop-done : goal.decreases-loop-done
+decreases-loop-done g l = length l.buf - l.done

@@ -1,0 +1,11 @@
+pub mod Ranges
+pub mod Part
+pub mod Recorded
+pub mod Codes
+pub mod Stream
+pub mod Window
+pub mod Faults
+pub mod Levels
+pub mod Place
+pub mod Standing
+pub mod Holding

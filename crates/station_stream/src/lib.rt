@@ -1,0 +1,29 @@
+//! The values of a station's channels in a window of a scan: its recorded samples, taken as many samples on as the whole
+//! delay says and turned by the sector of the delay. It stands on `frame_index` for the places of frames, on `delay_track`
+//! for delays, on `sample_unpack` and `fringe_rotator` for levels and sectors, and on a `Shelf` for the files.
+//!
+//! A stream keeps one byte for a sample. It is loaded frame by frame: a frame is looked up and read once for the samples
+//! that lie in it one behind the other. Where the shelf tells its content, the values are those of the definition in
+//! `specs/Part`; a fault of a read comes only where the shelf had one. (Thompson, Moran and Swenson, chapters 8 and 9.)
+#![tactic(auto)]
+
+mod chan;
+mod codes;
+mod fault;
+mod frame;
+mod part;
+mod place;
+mod recording;
+mod samples;
+mod slot;
+mod stream;
+mod window;
+
+pub use chan::StationChan;
+pub use fault::StreamFault;
+pub use part::StationPart;
+pub use recording::Recording;
+pub use stream::Stream;
+
+#[cfg(test)]
+mod tests;

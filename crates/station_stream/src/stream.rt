@@ -1,0 +1,104 @@
+//! Streams.
+ghost use Rattle.std.specs.Prelude.{◌≡◌, ◌<◌, ◌≤ℤ◌, ◌<ℤ◌, ◌-ℤ◌, ℕ, ℤ, pos, unsigned_abs, length, IfOk, IfSome};
+ghost use Rattle.dev_traits.specs.Told.{WhereTold};
+ghost use Rattle.corr_model.specs.Cell.{AreSmall};
+ghost use Rattle.station_stream.specs.Part.{IsIndexed, part_value};
+ghost use Rattle.station_stream.specs.Stream.{stream_value};
+ghost use Rattle.station_stream.specs.Faults.{CountsReads};
+
+use crate::codes::value_at;
+use crate::window::channels;
+use crate::{StationPart, StreamFault};
+use dev_traits::Shelf;
+use frame_index::Index;
+use std::alloc::Global;
+use std::marker::Model;
+
+/// The values of a station's channels at the samples from one up to, not including, another.
+#[derive(Drop)]
+pub struct Stream {
+    from: i64,
+    to: i64,
+    chans: Vec<Vec<u8>>,
+    ghost begin: { pos 0 ≤ℤ from },
+}
+
+impl Model for Stream {
+    ghost use Rattle.std.specs.Prelude.{map};
+    ghost use Rattle.station_stream.specs.Stream.{StreamFields};
+    ghost use Rattle.station_stream.specs.Codes.{value_of};
+
+    ghost Value = { StreamFields };
+
+    ghost view = { λ s. record {
+      from = s.from;
+      to = s.to;
+      values = map (λ chan. map value_of chan.items) s.chans.items;
+    } };
+}
+
+impl Stream {
+    /// Reads the values of a station's channels at the samples from `from` up to, not including, `to` of a scan.
+    pub fn load<F: Shelf>(
+        alloc: Global,
+        shelf: &mut F,
+        index: &Index,
+        part: &StationPart<'_>,
+        from: i64,
+        to: i64,
+    ) -> Result<Stream, StreamFault>
+        requires indexed { WhereTold (F.told shelf.old) (λ told. IsIndexed told part.now index.now) }
+        requires begin { pos 0 ≤ℤ from }
+        requires order { from ≤ℤ to }
+        requires end { to ≤ℤ pos part.now.track.samples }
+        ensures same { F.told shelf.new ≡ F.told shelf.old }
+        ensures window { IfOk result (λ s. (s.from ≡ from) × ((s.to ≡ to) × (length s.values ≡ length part.now.chans.now))) }
+        ensures values { IfOk result (λ s. WhereTold (F.told shelf.old) (λ told. (chan : ℕ) (n : ℤ) → from ≤ℤ n → n <ℤ to
+            → stream_value s chan n ≡ part_value told part.now chan n)) }
+        ensures counts { CountsReads (F.faults shelf.old) (F.faults shelf.new) result }
+    {
+        let count = (to - from) as usize;
+        let chans = channels(alloc, shelf, index, part, from as u64, count)?;
+        Ok(Stream { from, to, chans })
+    }
+
+    /// The first sample of the window.
+    pub fn from(&self) -> i64
+        ensures { result ≡ self.now.from }
+    {
+        self.from
+    }
+
+    /// The sample at which the window ends, the first one behind it.
+    pub fn to(&self) -> i64
+        ensures { result ≡ self.now.to }
+    {
+        self.to
+    }
+
+    /// The number of the station's channels.
+    pub fn chans(&self) -> usize
+        ensures { result ≡ length self.now.values }
+    {
+        self.chans.len()
+    }
+
+    /// The value of a channel, by its place among the station's, at sample `n`; None where the station has none there.
+    pub fn z(&self, chan: u32, n: i64) -> Option<(i8, i8)>
+        requires chan { chan < length self.now.values }
+        requires begin { self.now.from ≤ℤ n }
+        requires end { n <ℤ self.now.to }
+        ensures value { result ≡ stream_value self.now chan n }
+        ensures small { IfSome result AreSmall }
+    {
+        value_at(&self.chans[chan as usize], self.place(n))
+    }
+
+    // The place of sample `n` in the list of a channel.
+    fn place(&self, n: i64) -> usize
+        requires { self.now.from ≤ℤ n }
+        ensures { result ≡ unsigned_abs (n -ℤ self.now.from) }
+    {
+        (n - self.from) as usize
+    }
+}

@@ -1,12 +1,12 @@
 -- The text of a record file, integration by integration.
-use Rattle.std.proofs.Common.{◌≡◌, ℕ, zero, suc, max, ◌%◌, ◌^◌, ◌+◌, ◌-◌, ◌*◌, ◌<◌, ◌≤◌, List, [], ◌∷◌, ◌++◌, length, get_or, map, Option, Some, refl, sym, ap, ◌∙◌, subst, arith, append_assoc, length-append}
+use Rattle.std.proofs.Common.{◌≡◌, ℕ, zero, suc, max, ◌%◌, ◌^◌, ◌+◌, ◌*◌, ◌<◌, ◌≤◌, List, [], ◌∷◌, ◌++◌, length, get_or, map, Option, Some, refl, sym, ap, ◌∙◌, subst, arith, length-append}
 use Rattle.std.specs.List.{All, fold, flat_map, range_with_len, enumerate_from, slice_get}
 use Rattle.std.specs.Int.{byte_at}
 use Rattle.std.proofs.Math.Nat.{mod-add-mod}
 use Rattle.std.specs.Option.{option_map, option_map_or}
 use Rattle.std.proofs.lemmas.List.{length-map, get_or-map}
 use Rattle.std.proofs.lemmas.List.Folds.{flat_map-map}
-use Rattle.std.proofs.lemmas.List.FromFn.{length-map-range_with_len, length-range_with_len, get_or-range_with_len, length-enumerate_from, get_or-enumerate_from, fill_by_all}
+use Rattle.std.proofs.lemmas.List.FromFn.{length-range_with_len, get_or-range_with_len, length-enumerate_from, get_or-enumerate_from, fill_by_all}
 use Rattle.std.proofs.lemmas.Option.{slice_get-get_or, slice_get-map, slice_get_read, same_Some}
 use Rattle.corr_model.specs.declared.cell.Cell.{Cell}
 use Rattle.corr_model.specs.declared.records.RecordAt.{RecordAt}
@@ -14,8 +14,8 @@ use Rattle.corr_model.specs.Records.{Head, HeadScan, IsHead, IsHeadScan, head_te
 use Rattle.corr_model.proofs.RecordLemmas.{records_text-none, vis_text-parts, places_of-scans}
 use Rattle.vis_records.specs.declared.head.VisScan.{VisScan}
 use Rattle.vis_records.specs.Heads.{scan_of, baseline_of}
-use Rattle.vis_writer.specs.Cells.{CellsOf, widest, IsFull, all_cells, scan_cells, integrations_of, records_of, cells_of, integrations_at, cells_at}
-use Rattle.vis_writer.specs.Texts.{integration_text, scan_text_by, text_at, scans_text}
+use Rattle.vis_writer.specs.Cells.{CellsOf, widest, IsFull, all_cells, scan_cells, integrations_of, records_of, cells_of, integrations_at}
+use Rattle.vis_writer.specs.Texts.{scan_text_by, text_at, scans_text}
 use Rattle.vis_writer.proofs.Rows.{flat_map-next, records_text-append, length-rows, length-baseline_places}
 
 pub length-product_places : (head : Head) (number : ℕ) (s : HeadScan) (m : ℕ) → length (product_places head number s m) ≡ records_of head s

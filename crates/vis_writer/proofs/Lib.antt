@@ -5,4 +5,4 @@ pub mod FileLemmas
 pub mod FillLemmas
 pub mod PlanHead
 pub mod PlanText
-pub mod DirectLemmas
+pub mod OneScanLemmas

@@ -1,15 +1,14 @@
 -- The cells of a plan, by number and in their order.
 use Rattle.std.specs.Prelude.{flat_map}
-use Rattle.std.proofs.Common.{◌≡◌, ℕ, ◌+◌, ◌<◌, List, [], ◌∷◌, length, get_or, map, Option, Some, refl, sym, ap, ◌∙◌, arith}
-use Rattle.std.specs.List.{enumerate_from, slice_get, range_with_len}
+use Rattle.std.proofs.Common.{◌≡◌, ℕ, ◌+◌, ◌<◌, List, [], ◌∷◌, length, get_or, map, Option, refl, sym, ap, ◌∙◌, arith}
+use Rattle.std.specs.List.{enumerate_from, range_with_len}
 use Rattle.std.specs.Option.{option_map_or}
 use Rattle.std.proofs.lemmas.List.{length-map, get_or-map, same_lists}
 use Rattle.std.proofs.lemmas.List.Folds.{flat_map-map}
 use Rattle.std.proofs.lemmas.List.FromFn.{length-enumerate_from, get_or-enumerate_from}
 use Rattle.std.proofs.lemmas.Option.{slice_get-get_or}
-use Rattle.corr_model.specs.declared.cell.Cell.{Cell}
 use Rattle.corr_model.specs.Plan.{Files}
-use Rattle.corr_model.specs.Records.{HeadScan, vis_text}
+use Rattle.corr_model.specs.Records.{vis_text}
 use Rattle.job_plan.specs.declared.plan.ScanPlan.{ScanPlan}
 use Rattle.job_plan.specs.declared.plan.Plan.{Plan}
 use Rattle.job_plan.specs.Values.{rotated}

@@ -1,9 +1,7 @@
 -- Calls that take cells and append records, in turns.
-use Rattle.std.proofs.Common.{◌≡◌, ℕ, ◌+◌, ◌<◌, ◌≤◌, List, [], ◌++◌, Option, Some, None, Result, Ok, Err, refl, sym, ap, ◌∙◌, subst, arith}
-use Rattle.std.specs.Prelude.{OnOk, OnErr}
+use Rattle.std.proofs.Common.{◌≡◌, ℕ, ◌+◌, ◌<◌, List, [], ◌++◌, Option, Some, None, Result, Ok, Err, refl, sym, ap, ◌∙◌, subst, arith}
 use Rattle.std.specs.List.{flat_map, range_with_len}
 use Rattle.std.proofs.lemmas.Result.{on_ok_weaker, on_err_weaker}
-use Rattle.dev_traits.specs.Fault.{HasRisen}
 use Rattle.dev_traits.specs.Told.{more, PrefixMore, WhereTold}
 use Rattle.dev_traits.proofs.Appended.{more-more, more-nil, PrefixMore-after, PrefixMore-wider, PrefixMore-none}
 use Rattle.sink_text.specs.Appends.{Appends}

@@ -2,4 +2,4 @@ pub mod Cells
 pub mod Writes
 pub mod PlanCells
 pub mod Texts
-pub mod DirectLaws
+pub mod OneScanLaws

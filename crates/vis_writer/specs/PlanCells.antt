@@ -1,7 +1,6 @@
 -- The cells of a plan, by the numbers of scans and integrations.
-use Rattle.std.specs.Prelude.{ℕ, ◌<◌, List, [], Option, None, Some, slice_get}
+use Rattle.std.specs.Prelude.{ℕ, ◌<◌, List, [], slice_get}
 use Rattle.std.specs.Option.{option_map_or}
-use Rattle.corr_model.specs.declared.cell.Cell.{Cell}
 use Rattle.corr_model.specs.Cell.{Samples}
 use Rattle.corr_model.specs.Plan.{Files}
 use Rattle.job_plan.specs.declared.plan.StationPlan.{StationPlan}
@@ -21,17 +20,6 @@ cells_by plan values number m =
 -- the cells of a plan, from what the files hold
 abbrev pub cells_from : Plan → Files → CellsOf
 cells_from plan files = cells_by plan (rotated plan files)
-
--- the cells of a scan from its values, none where one of them is not there
-abbrev pub cells_of_both : {V : Type 0} → Plan → (V → Samples) → ℕ → Option ScanPlan → Option V → List Cell
-cells_of_both plan samples m (Some scan) (Some v) = integration_cells plan (samples v) scan m
-cells_of_both plan samples m (Some scan) None = []
-cells_of_both plan samples m None v = []
-
--- the cells of a plan, from the values of each of its scans in turn
-abbrev pub cells_of_values : {V : Type 0} → Plan → (V → Samples) → List V → CellsOf
-cells_of_values plan samples values number m =
-    cells_of_both plan samples m (slice_get plan.scans number) (slice_get values number)
 
 -- a station's key, and a baseline as two numbers
 abbrev pub key_of : StationPlan → List ℕ

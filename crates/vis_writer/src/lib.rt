@@ -5,19 +5,19 @@
 //! no call but `head_of_plan` takes memory.
 #![tactic(auto)]
 
-mod direct;
 mod fault;
 mod head;
 pub mod laws;
+mod one_scan;
 mod plan_cells;
 mod records;
 mod source;
 mod writer;
 
-pub use direct::Direct;
 pub use fault::WriteFault;
 pub use head::head_of_plan;
+pub use one_scan::OneScan;
 pub use plan_cells::fill_integration;
-pub use records::widest;
+pub use records::{record_count, widest};
 pub use source::CellSource;
-pub use writer::write_records;
+pub use writer::{sunk, write_records, write_scan_at};

@@ -4,7 +4,7 @@ ghost use Rattle.corr_model.specs.Records.{IsHead, vis_text};
 ghost use Rattle.vis_records.specs.Heads.{scan_of};
 ghost use Rattle.vis_writer.specs.Cells.{all_cells, integrations_of, cells_of, widest};
 ghost use Rattle.vis_writer.specs.Writes.{Writes, of_sink};
-ghost use Rattle.vis_writer.specs.Texts.{integration_text, scan_text_by, scans_text};
+ghost use Rattle.vis_writer.specs.Texts.{integration_text, scan_text_by, scans_text, text_at};
 
 use crate::records::{record_count, write_products};
 use crate::{CellSource, WriteFault};
@@ -41,11 +41,27 @@ fn write_scans<C: CellSource, S: Sink>(
     requires room { widest head.now ≤ length buffer.old }
     ensures { Writes C.head C.cells C.steady C.fails (λ of. scans_text head.now of) source.old source.new (S.told out.old) (S.told out.new) (S.faults out.old) (S.faults out.new) result }
 {
-    let scans = head.scans();
-    for number in 0..scans.len() {
-        write_scan(head, number as u32, &scans[number], source, buffer, out)?;
+    for number in 0..head.scans().len() {
+        write_scan_at(head, number as u32, source, buffer, out)?;
     }
     Ok(())
+}
+
+/// Appends the records of one scan of the head, by its number. `buffer` has room for the cells of an integration.
+pub fn write_scan_at<C: CellSource, S: Sink>(
+    head: &VisHead,
+    number: u32,
+    source: &mut C,
+    buffer: &mut [Cell],
+    out: &mut S,
+) -> Result<(), WriteFault<C::Fault>>
+    requires head { C.head source.old ≡ head.now }
+    requires inside { number < length head.now.scans }
+    requires room { widest head.now ≤ length buffer.old }
+    ensures { Writes C.head C.cells C.steady C.fails (λ of. text_at head.now of number) source.old source.new (S.told out.old) (S.told out.new) (S.faults out.old) (S.faults out.new) result }
+{
+    let scan = &head.scans()[number as usize];
+    write_scan(head, number, scan, source, buffer, out)
 }
 
 // Appends the records of a scan, whose number in the head this is.
@@ -93,8 +109,8 @@ fn write_integration<C: CellSource, S: Sink>(
     }
 }
 
-// The sink's answer.
-fn sunk<F>(written: Result<(), SinkFault>) -> Result<(), WriteFault<F>>
+/// The sink's answer as one of both.
+pub fn sunk<F>(written: Result<(), SinkFault>) -> Result<(), WriteFault<F>>
     ensures { result ≡ of_sink written }
 {
     match written {

@@ -1,6 +1,5 @@
-use Rattle.std.proofs.Common.{◌≡◌, ◌*◌, ◌+◌, ◌≤◌, length, ◌∙◌, ap, sym, arith, rules}
-use Rattle.job_plan.specs.Output.{product_cells}
-use Rattle.vis_writer.proofs.FillLemmas.{filled-next, row_fits}
+use Rattle.std.proofs.Common.{◌≡◌, ◌*◌, ◌+◌, ◌≤◌, length, ◌∙◌, ap, arith}
+use Rattle.vis_writer.proofs.FillLemmas.{row_fits}
 use Rattle.vis_writer.proofs.plan_cells.fill_integration.Goals as goal
 
 pub slice_bounds-fill_product-end : goal.slice_bounds-fill_product-end

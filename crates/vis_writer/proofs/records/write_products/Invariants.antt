@@ -1,4 +1,4 @@
-use Rattle.std.proofs.Common.{◌≡◌, ◌*◌, length}
+use Rattle.std.proofs.Common.{◌≡◌}
 use Rattle.corr_model.specs.Records.{baseline_places}
 use Rattle.vis_records.specs.Heads.{scan_of}
 use Rattle.dev_traits.specs.Told.{more}

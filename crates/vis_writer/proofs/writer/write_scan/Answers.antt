@@ -2,7 +2,7 @@ use Rattle.std.proofs.Common.{◌≡◌, ℕ, List, Err, rules, arith}
 use Rattle.vis_records.specs.Heads.{scan_of}
 use Rattle.vis_writer.specs.Cells.{CellsOf, integrations_of}
 use Rattle.vis_writer.specs.Texts.{integration_text}
-use Rattle.vis_writer.proofs.WritesLemmas.{Writes-none, Writes-next, Writes-cut}
+use Rattle.vis_writer.proofs.WritesLemmas.{Writes-next, Writes-cut}
 use Rattle.vis_writer.proofs.writer.write_scan.Goals as goal
 
 pub returns-in_err-write_integration : goal.returns-in_err-write_integration

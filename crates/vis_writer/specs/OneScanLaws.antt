@@ -1,22 +1,18 @@
 -- The cells of a plan are as many as its head says.
-use Rattle.std.specs.Prelude.{◌≡◌, ℕ, zero, suc, ◌+◌, ◌*◌, ◌<◌, List, [], ◌∷◌, ◌++◌, length, map, flat_map, slice_get, Option, Some, None, refl}
-use Rattle.std.specs.List.{range_with_len}
+use Rattle.std.specs.Prelude.{◌≡◌, ℕ, zero, suc, ◌*◌, ◌<◌, List, [], ◌∷◌, length, map, flat_map, slice_get, Option, Some, None, refl}
 use Rattle.std.specs.Option.{option_map, option_map_or}
-use Rattle.std.proofs.Common.{sym, ap, ◌∙◌, subst, arith, length-append}
+use Rattle.std.proofs.Common.{sym, ap, ◌∙◌, arith, length-append}
 use Rattle.std.proofs.lemmas.List.{length-map}
 use Rattle.std.proofs.lemmas.List.FromFn.{length-map-range_with_len}
-use Rattle.std.proofs.lemmas.Option.{slice_get-map, slice_get_within, slice_get-get_or}
-use Rattle.corr_model.specs.declared.cell.Cell.{Cell}
+use Rattle.std.proofs.lemmas.Option.{slice_get-map, slice_get_within}
 use Rattle.corr_model.specs.Cell.{Samples}
-use Rattle.job_plan.specs.declared.plan.ProductPlan.{ProductPlan}
-use Rattle.job_plan.specs.declared.plan.BaselinePlan.{BaselinePlan}
 use Rattle.job_plan.specs.declared.plan.ScanPlan.{ScanPlan}
 use Rattle.job_plan.specs.declared.plan.Plan.{Plan}
 use Rattle.job_plan.specs.Output.{head_of, head_scan, product_names, cell_of, lag_of, cells_of, product_cells, integration_cells}
 use Rattle.corr_model.specs.Records.{HeadScan}
 use Rattle.vis_writer.specs.Cells.{IsFull, integrations_at, integrations_of, cells_at}
 use Rattle.vis_writer.specs.Cells as counts
-use Rattle.vis_writer.specs.PlanCells.{cells_of_both, cells_of_values, pair_of}
+use Rattle.vis_writer.specs.PlanCells.{cells_by, pair_of}
 use Rattle.vis_writer.specs.Writes.{Composes}
 
 -- rows of one length
@@ -46,8 +42,8 @@ pub scan-seen : (plan : Plan) (number : ℕ) (scan : ScanPlan) → slice_get pla
     → slice_get (head_of plan).scans number ≡ Some (head_scan scan)
 scan-seen plan number scan there = slice_get-map head_scan plan.scans number ∙ ap (option_map head_scan) there
 
-pub direct-within : (plan : Plan) (number m : ℕ) → m < integrations_at (head_of plan) number → number < length plan.scans
-direct-within plan number m inside = by (slice_get plan.scans number) refl
+pub scan-within : (plan : Plan) (number m : ℕ) → m < integrations_at (head_of plan) number → number < length plan.scans
+scan-within plan number m inside = by (slice_get plan.scans number) refl
   where
     by : (o : Option ScanPlan) → slice_get plan.scans number ≡ o → number < length plan.scans
     by (Some scan) there = slice_get_within plan.scans number scan there
@@ -57,22 +53,19 @@ direct-within plan number m inside = by (slice_get plan.scans number) refl
         (slice_get-map head_scan plan.scans number ∙ ap (option_map head_scan) there) in
         absurd (omega (arith, inside, none))
 
-pub direct-integrations : (plan : Plan) (number : ℕ) (scan : ScanPlan) → slice_get plan.scans number ≡ Some scan
+pub scan-integrations : (plan : Plan) (number : ℕ) (scan : ScanPlan) → slice_get plan.scans number ≡ Some scan
     → integrations_at (head_of plan) number ≡ integrations_of (head_of plan) (head_scan scan)
-direct-integrations plan number scan there =
+scan-integrations plan number scan there =
     ap (λ (o : Option HeadScan). option_map_or (integrations_of (head_of plan)) o 0) (scan-seen plan number scan there)
 
-pub direct-cells : (plan : Plan) (number : ℕ) (scan : ScanPlan) → slice_get plan.scans number ≡ Some scan
+pub scan-cells : (plan : Plan) (number : ℕ) (scan : ScanPlan) → slice_get plan.scans number ≡ Some scan
     → cells_at (head_of plan) number ≡ length plan.products * (length scan.baselines * plan.lags)
-direct-cells plan number scan there =
+scan-cells plan number scan there =
     ap (λ (o : Option HeadScan). option_map_or (counts.cells_of (head_of plan)) o 0) (scan-seen plan number scan there) ∙ counted plan scan
 
-pub values-at : {V : Type 0} (plan : Plan) (samples : V → Samples) (values : List V) (number m : ℕ) (scan : ScanPlan) (v : V)
-    → slice_get plan.scans number ≡ Some scan → slice_get values number ≡ Some v
-    → cells_of_values plan samples values number m ≡ integration_cells plan (samples v) scan m
-values-at plan samples values number m scan v there here =
-    ap (λ (o : Option ScanPlan). cells_of_both plan samples m o (slice_get values number)) there
-    ∙ ap (cells_of_both plan samples m (Some scan)) here
+pub cells-at : (plan : Plan) (values : ScanPlan → Samples) (number m : ℕ) (scan : ScanPlan) → slice_get plan.scans number ≡ Some scan
+    → cells_by plan values number m ≡ integration_cells plan (values scan) scan m
+cells-at plan values number m scan there = ap (λ (o : Option ScanPlan). option_map_or (λ (s : ScanPlan). integration_cells plan (values s) s m) o []) there
 
 -- a thing inside a list is there
 some-within : {X : Type 0} (xs : List X) (i : ℕ) → i < length xs → slice_get xs i ≡ None → ⊥
@@ -81,23 +74,19 @@ some-within (x ∷ xs) zero h none = cc
 some-within (x ∷ xs) (suc i) h none = some-within xs i (omega (arith, h)) none
 
 -- each integration of the plan's head has its cells
-pub direct_full : {V : Type 0} (plan : Plan) (samples : V → Samples) (values : List V) → length values ≡ length plan.scans
-    → IsFull (head_of plan) (cells_of_values plan samples values)
-direct_full {V = V} plan samples values each = λ number m inside. by number m inside (slice_get plan.scans number) refl (slice_get values number) refl
+pub plan_full : (plan : Plan) (values : ScanPlan → Samples) → IsFull (head_of plan) (cells_by plan values)
+plan_full plan values = λ number m inside. by number m inside (slice_get plan.scans number) refl
   where
-    by : (number m : ℕ) → m < integrations_at (head_of plan) number
-        → (o : Option ScanPlan) → slice_get plan.scans number ≡ o → (v : Option V) → slice_get values number ≡ v
-        → length (cells_of_values plan samples values number m) ≡ cells_at (head_of plan) number
-    by number m inside (Some scan) there (Some v) here =
-        ap length (values-at plan samples values number m scan v there here)
-        ∙ length-integration_cells plan (samples v) scan m
-        ∙ sym (direct-cells plan number scan there)
-    by number m inside (Some scan) there None here =
-        absurd (some-within values number (let within = direct-within plan number m inside in omega (arith, within, each)) here)
-    by number m inside None there v here = absurd (some-within plan.scans number (direct-within plan number m inside) there)
+    by : (number m : ℕ) → m < integrations_at (head_of plan) number → (o : Option ScanPlan) → slice_get plan.scans number ≡ o
+        → length (cells_by plan values number m) ≡ cells_at (head_of plan) number
+    by number m inside (Some scan) there =
+        ap length (cells-at plan values number m scan there)
+        ∙ length-integration_cells plan (values scan) scan m
+        ∙ sym (scan-cells plan number scan there)
+    by number m inside None there = absurd (some-within plan.scans number (scan-within plan number m inside) there)
 
-pub direct_composes : {C F : Type 0} → Composes {C = C} {F = F} (λ old new. new ≡ old) (λ old new fault. ⊥)
-direct_composes = record {
+pub one_scan_composes : {C F : Type 0} → Composes {C = C} {F = F} (λ old new. new ≡ old) (λ old new fault. ⊥)
+one_scan_composes = record {
   none = λ source. refl;
   both = λ old mid new first second. second ∙ first;
   last = λ old mid new fault first second. second;

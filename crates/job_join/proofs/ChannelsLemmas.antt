@@ -1,5 +1,5 @@
 -- The channels of a job.
-use Rattle.std.proofs.Common.{◌≡◌, ℕ, ◌+◌, ◌<◌, Bool, true, false, not, cond, List, [], ◌∷◌, ◌++◌, take, length, get_or, map, fold, flat_map, filter_map, None, Some, Option, ap, refl, sym, ◌∙◌, bytes_eq, eqb, is_some, ◌||◌, ◌&&◌, slice_get, arith}
+use Rattle.std.proofs.Common.{◌≡◌, ℕ, ◌+◌, ◌<◌, Bool, true, false, not, cond, List, [], ◌∷◌, ◌++◌, take, length, get_or, fold, flat_map, filter_map, None, Some, Option, ap, refl, sym, ◌∙◌, bytes_eq, eqb, is_some, ◌||◌, ◌&&◌, slice_get}
 use Rattle.std.specs.List.{list_any, cons_option}
 use Rattle.std.proofs.lemmas.Bool.{eq-eqb}
 use Rattle.std.proofs.lemmas.List.{append-nil, append_assoc, take_more}
@@ -12,7 +12,7 @@ use Rattle.vex_schedule.specs.declared.scan.Chan.{Chan}
 use Rattle.job_join.specs.declared.stands.Here.{Here}
 use Rattle.job_join.specs.Standing.{Stand, is_among}
 use Rattle.job_join.specs.Channels.{first_uses, chan_with, same_side, is_same_band, differ, are_different}
-use Rattle.job_join.specs.Places.{stand_of, stands_of, chans_under}
+use Rattle.job_join.specs.Places.{stands_of, chans_under}
 use Rattle.job_join.proofs.Sets.{is_some_put}
 
 -- ---- first uses

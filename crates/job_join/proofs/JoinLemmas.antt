@@ -1,5 +1,5 @@
 -- What is found of the scans as the program holds them is what is found of the schedule.
-use Rattle.std.proofs.Common.{◌≡◌, ℕ, ◌+◌, ◌<◌, ◌==◌, Bool, true, false, not, cond, List, [], ◌∷◌, ◌++◌, map, filter, fold, max, flat_map, find, None, Some, Option, option_map, unwrap_or, ap, refl, sym, ◌∙◌, bytes_eq, is_some, ◌||◌, ◌&&◌, slice_get, arith}
+use Rattle.std.proofs.Common.{◌≡◌, ℕ, ◌+◌, Bool, true, false, not, cond, List, [], ◌∷◌, ◌++◌, map, filter, fold, max, flat_map, find, None, Some, Option, option_map, unwrap_or, ap, refl, sym, ◌∙◌, bytes_eq, is_some, ◌||◌, ◌&&◌, slice_get}
 use Rattle.std.specs.List.{list_any, position, position_from}
 use Rattle.std.specs.Option.{option_or}
 use Rattle.std.proofs.lemmas.List.{map-id}
@@ -16,7 +16,7 @@ use Rattle.job_join.specs.Channels.{channels_of, chans_in}
 use Rattle.job_join.specs.Joined.{first_there}
 use Rattle.job_join.specs.Differing.{rate_differs, channel_differs, product_differs}
 use Rattle.job_join.specs.Spans.{end_sample, samples_of}
-use Rattle.job_join.specs.Places.{stand_of, stands_of, Visit, visit_in, visit_of, has_key, first_rate, rate_among, has_other_rate, has_other_band, has_unlike_product}
+use Rattle.job_join.specs.Places.{stand_of, stands_of, Visit, visit_in, visit_of, has_key, rate_among, has_other_rate, has_other_band, has_unlike_product}
 use Rattle.job_join.proofs.Sets.{any-map}
 
 module _ {X Y : Type 0} (p : Y → Bool) (f : X → Y) where
@@ -102,7 +102,7 @@ unfolding samples_of
 samples_of-stands job rate scan hs same =
     sym (fold-map (λ most (s : Stand). max most (end_sample rate s.pass)) stand_of 0 hs) ∙ ap (fold (λ most (s : Stand). max most (end_sample rate s.pass)) 0) same
 
-map-map : {X Y Z : Type 0} (g : Y → Z) (f : X → Y) (xs : List X) → map g (map f xs) ≡ map (λ x. g (f x)) xs
+pub map-map : {X Y Z : Type 0} (g : Y → Z) (f : X → Y) (xs : List X) → map g (map f xs) ≡ map (λ x. g (f x)) xs
 map-map g f [] = refl
 map-map g f (x ∷ xs) = ap (λ ys. g (f x) ∷ ys) (map-map g f xs)
 

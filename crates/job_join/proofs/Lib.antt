@@ -5,6 +5,11 @@ pub mod StandsLemmas
 pub mod ChannelsLemmas
 pub mod JoinLemmas
 pub mod LimitsLemmas
+pub mod HeldLemmas
+pub mod MeasuresLemmas
+pub mod ReadyLemmas
+pub mod ReachLemmas
+pub mod ModelledLemmas
 pub mod PlansLemmas
 pub mod RangesLists
 pub mod RangesBaselines
@@ -17,3 +22,5 @@ pub mod RangesParts
 pub mod RangesModelled
 pub mod RangesScans
 pub mod Ranges
+pub mod RefusalLemmas
+pub mod JoinedLemmas

@@ -1,18 +1,13 @@
 -- The lists of a plan.
-use Rattle.std.proofs.Common.{◌≡◌, ℕ, ◌+◌, ◌<◌, ◌≤◌, ◌==◌, ◌&&◌, ◌||◌, nat_lt, Bool, true, false, cond, List, [], ◌∷◌, ◌++◌, map, filter, flat_map, take, length, get_or, None, Some, Option, unwrap_or, slice_get, ap, refl, sym, ◌∙◌, arith}
+use Rattle.std.proofs.Common.{◌≡◌, ℕ, ◌+◌, ◌<◌, nat_lt, Bool, true, false, cond, List, [], ◌∷◌, ◌++◌, map, filter, flat_map, take, length, get_or, None, Some, unwrap_or, slice_get, ap, refl, sym, ◌∙◌, arith}
 use Rattle.std.specs.List.{position, position_or_len}
 use Rattle.std.proofs.lemmas.Bool.{ltb-true}
 use Rattle.std.proofs.lemmas.List.{map-append, append-nil, append_assoc, take_more, map_more}
 use Rattle.std.proofs.lemmas.List.Concat.{flat_map-append}
 use Rattle.std.proofs.lemmas.List.Elements.{filter_more}
 use Rattle.std.proofs.lemmas.Option.{slice_get_within, get_or_from_slice_get}
-use Rattle.vex_schedule.specs.declared.scan.Scan.{Scan}
 use Rattle.job_plan.specs.declared.plan.BaselinePlan.{BaselinePlan}
-use Rattle.job_text.specs.Job.{JobFields}
 use Rattle.job_join.specs.declared.stands.Here.{Here}
-use Rattle.job_join.specs.Standing.{Stand, stands_in}
-use Rattle.job_join.specs.Limits.{baselines_in}
-use Rattle.job_join.specs.Places.{stand_of, stands_of}
 use Rattle.job_join.specs.Planned.{pair_of, is_pair, pairs_with, pairs_in}
 
 -- one more thing is made

@@ -8,7 +8,7 @@ use Rattle.vex_schedule.specs.Sound.{IsScan, IsPass, AreScans}
 use Rattle.job_plan.specs.Ranges.{IsPlan, IsStation, IsProductPlan}
 use Rattle.job_text.specs.Job.{JobFields}
 use Rattle.job_text.specs.Ranges.{IsJob, shape_of}
-use Rattle.job_join.specs.Standing.{taken, rate_of}
+use Rattle.job_join.specs.Standing.{taken, rate_of, unknown_station}
 use Rattle.job_join.specs.Channels.{channels_of}
 use Rattle.job_join.specs.Joined.{refusal_of, station_plan, product_plan, plan_by, plan_of}
 use Rattle.job_join.proofs.RangesAccepted.{IsAccepted, accepted, IsWithin, within}
@@ -18,17 +18,16 @@ use Rattle.job_join.proofs.RangesRates.{rate_of-All, taken-All}
 use Rattle.job_join.proofs.RangesScans.{IsTaken, scans-there}
 use Rattle.job_join.proofs.RangesStations.{station-there, frames-whole, product-there}
 
--- the rate of a job that is not refused is not 0
-pub rate_of-some : (job : JobFields) (scans : List Scan) → IsJob job → AreScans scans → refusal_of job scans ≡ None → 0 < rate_of job scans
-rate_of-some job scans is are none =
-    rate_of-All (λ rate. 0 < rate) job scans (accepted job scans none).stations is.some_station
+-- the rate of a job all of whose stations stand somewhere is not 0
+pub rate_of-known : (job : JobFields) (scans : List Scan) → IsJob job → AreScans scans → unknown_station job scans ≡ None → 0 < rate_of job scans
+rate_of-known job scans is are known =
+    rate_of-All (λ rate. 0 < rate) job scans known is.some_station
     (All-weaker IsScan (λ scan. All (λ p. 0 < p.rate) scan.passes)
     (λ scan its. All-weaker IsPass (λ p. 0 < p.rate) (λ p pass. pass.rate) scan.passes its.passes) scans are.each)
 
--- where all rates have 32 bits, so has the job's
-pub rate_of-bounded : (job : JobFields) (scans : List Scan) → IsJob job → All (λ scan. All (λ p. p.rate < 2 ^ 32) scan.passes) scans → refusal_of job scans ≡ None
-    → rate_of job scans < 2 ^ 32
-rate_of-bounded job scans is bounded none = rate_of-All (λ rate. rate < 2 ^ 32) job scans (accepted job scans none).stations is.some_station bounded
+-- nor that of a job that is not refused
+pub rate_of-some : (job : JobFields) (scans : List Scan) → IsJob job → AreScans scans → refusal_of job scans ≡ None → 0 < rate_of job scans
+rate_of-some job scans is are none = rate_of-known job scans is are (accepted job scans none).stations
 
 scans-taken : (job : JobFields) (scans : List Scan) → AreScans scans → refusal_of job scans ≡ None → All (IsTaken job (rate_of job scans)) (taken job scans)
 scans-taken job scans are none = λ k d less.

@@ -58,7 +58,7 @@ pub record IsWithin (job : JobFields) (rate : ℕ) (scans : List Scan) : Type 0 
   pub cells : All (λ scan. length (baselines_in job scan) * length job.products * job.lags ≤ 4194304) scans
   pub load : length job.stations * length (channels_of job) * job.epoch ≤ 268435456
 
-abbrev IsHeld : Measure → Type 0
+abbrev pub IsHeld : Measure → Type 0
 IsHeld m = All (λ value. value ≤ m.most) m.values
 
 not_past : (m : Measure) → past m ≡ None → IsHeld m
@@ -66,7 +66,7 @@ not_past m none =
     All-weaker (λ value. nat_lt m.most value ≡ false) (λ value. value ≤ m.most) (λ value less. ltb-false m.most value less) m.values
     (find-None (λ value. nat_lt m.most value) m.values (option_map-none _ _ none))
 
-held : (ms : List Measure) → slice_get (filter_map past ms) 0 ≡ None → All IsHeld ms
+pub held : (ms : List Measure) → slice_get (filter_map past ms) 0 ≡ None → All IsHeld ms
 held ms none =
     All-weaker (λ m. past m ≡ None) IsHeld not_past ms (filter_map-none past ms (first-none (filter_map past ms) none))
 

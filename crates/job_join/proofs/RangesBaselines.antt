@@ -39,7 +39,7 @@ AreRising xs = AllPairs (λ (s t : Stand). s.number < t.number) xs
 abbrev pub Comes : BaselinePlan → BaselinePlan → Type 0
 Comes b c = IsBefore (b.a, b.b) (c.a, c.b)
 
-baselines_in-rows : (job : JobFields) (scan : Scan) → baselines_in job scan ≡ rows job.auto (stands_in job scan) (stands_in job scan)
+pub baselines_in-rows : (job : JobFields) (scan : Scan) → baselines_in job scan ≡ rows job.auto (stands_in job scan) (stands_in job scan)
 unfolding baselines_in
 baselines_in-rows job scan = refl
 

@@ -34,7 +34,7 @@ samples_in-rise rate from to start order =
     (mul-le (unsigned_abs from) rate (unsigned_abs to) rate (omega (arith, ints)) (omega arith))
 
 -- a part does not end before it begins
-part-order : (rate : ℕ) (pass : Pass) → IsPass pass → first_sample rate pass ≤ end_sample rate pass
+pub part-order : (rate : ℕ) (pass : Pass) → IsPass pass → first_sample rate pass ≤ end_sample rate pass
 unfolding first_sample end_sample
 part-order rate pass is = by pass.samples
   where
@@ -43,7 +43,7 @@ part-order rate pass is = by pass.samples
     by (Some n) = omega arith
 
 -- a part does not end behind its scan
-parts-end : (job : JobFields) (rate : ℕ) (scan : Scan) → All (λ s. end_sample rate s.pass ≤ samples_of job rate scan) (stands_in job scan)
+pub parts-end : (job : JobFields) (rate : ℕ) (scan : Scan) → All (λ s. end_sample rate s.pass ≤ samples_of job rate scan) (stands_in job scan)
 unfolding samples_of
 parts-end job rate scan = fold-max (λ (s : Stand). end_sample rate s.pass) 0 (stands_in job scan)
 

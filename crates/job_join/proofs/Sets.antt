@@ -1,10 +1,8 @@
 -- Sets of names.
 use Rattle.std.proofs.Common.{◌≡◌, ℕ, ◌+◌, ◌<◌, Bool, true, false, cond, List, [], ◌∷◌, take, length, get_or, None, Some, Option, ap, refl, sym, ◌∙◌, bytes_eq, is_some, ◌||◌, slice_get, map, ◌++◌, arith}
 use Rattle.std.specs.List.{list_any}
-use Rattle.std.proofs.lemmas.Cmp.{nat_list_eq_equiv}
 use Rattle.std.proofs.lemmas.List.{get_or-map, length-map, map_more}
 use Rattle.std.proofs.lemmas.Option.{slice_get_within, get_or_from_slice_get}
-use Rattle.std.proofs.lemmas.List.Folds.{list_any_more}
 use Rattle.std.proofs.lemmas.Slice.Eq.{bytes_eq-Decides}
 use Rattle.vex_reader.specs.File.{named, names, put}
 
@@ -46,17 +44,6 @@ is_some_put xs ys name q is =
     by true (Some x) = refl
     by false None = refl
     by false (Some x) = refl
-
--- one more that is looked at
-pub any-turn : {X : Type 0} (p : X → Bool) (xs : List X) (i : ℕ) (x : X) (a b c : Bool) → i < length xs → x ≡ get_or xs i x
-    → a ≡ (c || list_any p (take i xs)) → b ≡ (a || p x) → b ≡ (c || list_any p (take (i + 1) xs))
-any-turn p xs i x a b c less is so_far new =
-    new ∙ ap (λ t. t || p x) so_far ∙ assoc c (list_any p (take i xs)) (p x)
-    ∙ ap (λ t. c || t) (ap (λ y. list_any p (take i xs) || p y) is ∙ sym (list_any_more p xs i x less))
-  where
-    assoc : (a b c : Bool) → ((a || b) || c) ≡ (a || (b || c))
-    assoc true b c = refl
-    assoc false b c = refl
 
 -- a name is among those of some things where a thing stands under it
 pub any-names : {A : Type 0} (xs : List (List ℕ × A)) (name : List ℕ) → list_any (λ other. bytes_eq other name) (names xs) ≡ is_some (named xs name)

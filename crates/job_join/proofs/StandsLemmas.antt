@@ -154,9 +154,6 @@ module _ {X Y : Type 0} (h : X → Option Y) where
 contains-place : {X : Type 0} (xs : List X) (x : X) → Contains xs x → (k : ℕ) × (slice_get xs k ≡ Some x)
 contains-place xs x there = (there.0, slice_get-get_or xs there.0 x there.1 ∙ ap Some there.2)
 
-place-contains : {X : Type 0} (xs : List X) (k : ℕ) (x : X) → slice_get xs k ≡ Some x → Contains xs x
-place-contains xs k x is = (k, slice_get_within xs k x is, get_or_from_slice_get xs k x x is)
-
 -- ---- things that differ
 
 module _ {X K : Type 0} (f : X → K) where

@@ -1,5 +1,5 @@
 -- Whether a scan is taken.
-use Rattle.std.proofs.Common.{◌≡◌, ℕ, ◌<◌, List, [], ◌∷◌, length, is_some, arith, ◌∙◌}
+use Rattle.std.proofs.Common.{◌≡◌, ℕ, ◌<◌, List, [], ◌∷◌, length, is_some, arith}
 use Rattle.vex_reader.specs.File.{named, names}
 use Rattle.vex_schedule.specs.declared.scan.Scan.{Scan}
 use Rattle.job_join.specs.Standing.{is_taken}

@@ -3,12 +3,16 @@ use Rattle.std.specs.Prelude.{◌≡◌, ℕ, List, [], ◌∷◌, map, max, fol
 use Rattle.vex_reader.specs.File.{names}
 use Rattle.vex_schedule.specs.declared.scan.Scan.{Scan}
 use Rattle.job_text.specs.Job.{JobFields}
+use Rattle.job_text.specs.Ranges.{IsJob}
 use Rattle.job_join.specs.declared.fault.JoinFault.{JoinFault}
-use Rattle.job_join.specs.declared.fault.JoinFault.TheVariants.{UnknownScan, UnknownStation, RateDiffers, ChannelDiffers, ProductDiffers, FrameRate}
+use Rattle.job_join.specs.declared.fault.JoinFault.TheVariants.{UnknownScan, UnknownStation, RateDiffers, ChannelDiffers, ProductDiffers, FrameRate, NoModel, NoClock, Limit}
 use Rattle.job_join.specs.declared.places.Place.{Place}
 use Rattle.job_join.specs.declared.joining.Joining.{Joining}
 use Rattle.job_join.specs.Standing.{rate_of, unknown_scan, unknown_station}
 use Rattle.job_join.specs.Channels.{channels_of}
+use Rattle.job_join.specs.declared.fault.Quantity.{Quantity}
+use Rattle.job_join.specs.Modelled.{no_model, no_clock}
+use Rattle.job_join.specs.Limits.{limit}
 use Rattle.job_join.specs.Differing.{rate_differs, channel_differs, product_differs, frame_rate}
 use Rattle.job_join.specs.Joined.{first_there}
 use Rattle.job_join.specs.declared.stands.Here.{Here}
@@ -19,8 +23,9 @@ use Rattle.job_join.specs.Places.{visit_in, visit_of}
 abbrev pub scans_of : Joining → List Scan
 scans_of j = map (λ (p : Place). p.scan.now) j.places.items
 
--- each scan is held with the job's stations in it, and the channels and the rate are the job's
+-- the job is in its ranges, each scan is held with the job's stations in it, and the channels and the rate are the job's
 pub record IsJoining (j : Joining) : Type 0 where
+  pub job : IsJob j.job.now
   pub visits : map visit_of j.places.items ≡ map (visit_in j.job.now) (scans_of j)
   pub channels : names j.channels ≡ channels_of j.job.now
   pub rate : j.rate ≡ rate_of j.job.now (scans_of j)
@@ -34,6 +39,14 @@ early_of job scans = first_there (
     ∷ option_map ChannelDiffers (channel_differs job scans)
     ∷ option_map ProductDiffers (product_differs job scans)
     ∷ option_map FrameRate (frame_rate job scans)
+    ∷ [])
+
+-- the first cause among the others
+abbrev pub late_of : JobFields → List Scan → Option JoinFault
+late_of job scans = first_there (
+    option_map NoModel (no_model job scans)
+    ∷ option_map NoClock (no_clock job scans)
+    ∷ option_map (λ (l : Quantity × ℕ). Limit l.0 l.1) (limit job scans)
     ∷ [])
 
 -- as far as the stations of a scan go

@@ -8,4 +8,7 @@ pub mod Joined
 pub mod Places
 pub mod Joining
 pub mod Planned
+pub mod Measured
 pub mod KindName
+pub mod Reach
+pub mod Needs

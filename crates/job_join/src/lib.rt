@@ -7,16 +7,23 @@
 mod channels;
 mod fault;
 mod frames;
+mod join;
 mod joining;
 mod limits;
 mod lists;
+mod measures;
+mod modelled;
 mod names;
 mod parts;
 mod places;
 mod plans;
 mod rates;
+mod reach;
+mod refusal;
+mod scans;
 mod spans;
 mod stands;
 mod takes;
 
 pub use fault::{JoinFault, Quantity};
+pub use join::join_job;

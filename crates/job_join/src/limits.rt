@@ -1,37 +1,153 @@
 //! The greatest sizes of a job.
-ghost use Rattle.std.specs.Prelude.{◌≡◌, ◌^◌, ◌<◌, ◌&&◌, nat_lt, map, find, None, Some, if◌then◌else◌};
+ghost use Rattle.std.specs.Prelude.{◌≡◌, ◌∷◌, [], ◌≤◌, ◌<◌, ◌+◌, ◌*◌, ◌^◌, ℕ, length, map, fold, None, option_map};
 ghost use Rattle.std.specs.Int.{div_ceil};
+ghost use Rattle.std.specs.List.{All};
 ghost use Rattle.job_join.specs.Standing.{taken};
+ghost use Rattle.job_join.specs.Channels.{channels_of};
 ghost use Rattle.job_join.specs.Spans.{samples_of};
-ghost use Rattle.job_join.specs.declared.joining.Joining.{Joining};
-ghost use Rattle.job_join.specs.Joining.{scans_of, IsJoining, held_samples};
+ghost use Rattle.job_join.specs.Limits.{baselines_in, scan_epochs, measure, past, limit};
+ghost use Rattle.job_join.specs.Joining.{scans_of, IsJoining};
+ghost use Rattle.job_join.specs.Measured.{first_past, job_measures, length_measures, size_measures};
 
+use crate::fault::Quantity;
 use crate::joining::Joining;
-use crate::places::Place;
-use crate::spans::samples_of;
+use crate::measures::{all_epochs, cells_over, samples_over, seconds_over};
+use crate::parts::{epoch, products, stations};
 
-// So many samples of a scan that is taken, where they are more than `most`.
-fn samples_past(place: &Place, rate: u32, most: u128) -> Option<u128>
-    ensures { result ≡ (if place.now.taken then (if nat_lt most (held_samples rate place.now) then Some (held_samples rate place.now) else None) else None) }
+// A quantity with its value, where that is past its greatest.
+fn past(quantity: Quantity, most: u128, value: u128) -> Option<(Quantity, u128)>
+    ensures { result ≡ past (measure quantity most (value ∷ [])) }
 {
-    if !place.taken {
-        return None;
+    if most < value {
+        Some((quantity, value))
+    } else {
+        None
     }
-    let samples = samples_of(&place.stands, rate);
-    if most < samples { Some(samples) } else { None }
 }
 
-/// The samples of the first scan that is taken and has more than `most`.
-#[tactic(auto, unfolding(crate::specs::Standing::taken))]
-pub(crate) fn samples_over(j: &Joining, most: u128) -> Option<u128>
-    requires { IsJoining j.now }
-    ensures { result ≡ find (λ n. nat_lt most n) (map (samples_of j.now.job.now j.now.rate) (taken j.now.job.now (scans_of j.now))) }
+// A quantity with the first of its values past its greatest.
+fn with_first(quantity: Quantity, value: Option<u128>) -> Option<(Quantity, u128)>
+    ensures { result ≡ option_map (λ (v : ℕ). (quantity, v)) value }
 {
-    for i in 0..j.places.len() {
-        match samples_past(&j.places[i], j.rate, most) {
-            None => {}
-            Some(samples) => return Some(samples),
-        }
+    match value {
+        None => None,
+        Some(value) => Some((quantity, value)),
     }
-    None
+}
+
+// The stations, past their greatest number.
+fn stations_past(j: &Joining) -> Option<(Quantity, u128)>
+    ensures { result ≡ past (measure Quantity.Stations 32 (length j.now.job.now.stations ∷ [])) }
+{
+    past(Quantity::Stations, 32, stations(j.job).len() as u128)
+}
+
+// The products, past their greatest number.
+fn products_past(j: &Joining) -> Option<(Quantity, u128)>
+    ensures { result ≡ past (measure Quantity.Products 256 (length j.now.job.now.products ∷ [])) }
+{
+    past(Quantity::Products, 256, products(j.job).len() as u128)
+}
+
+// The channels, past their greatest number.
+fn channels_past(j: &Joining) -> Option<(Quantity, u128)>
+    requires { IsJoining j.now }
+    ensures { result ≡ past (measure Quantity.Channels 64 (length (channels_of j.now.job.now) ∷ [])) }
+{
+    past(Quantity::Channels, 64, j.channels.len() as u128)
+}
+
+// The samples of the first scan that has too many.
+fn samples_past(j: &Joining) -> Option<(Quantity, u128)>
+    requires { IsJoining j.now }
+    ensures { result ≡ past (measure Quantity.Samples (2 ^ 40) (map (samples_of j.now.job.now j.now.rate) (taken j.now.job.now (scans_of j.now)))) }
+{
+    with_first(Quantity::Samples, samples_over(j, 1 << 40))
+}
+
+// The seconds of the first scan that takes too many.
+fn seconds_past(j: &Joining) -> Option<(Quantity, u128)>
+    requires joining { IsJoining j.now }
+    requires rate { 0 < j.now.rate }
+    ensures { result ≡ past (measure Quantity.Seconds (2 ^ 27) (map (λ scan. div_ceil (samples_of j.now.job.now j.now.rate scan) j.now.rate) (taken j.now.job.now (scans_of j.now)))) }
+{
+    with_first(Quantity::Seconds, seconds_over(&j.places, j.rate, 1 << 27))
+}
+
+// The cells of the first scan that has too many.
+fn cells_past(j: &Joining) -> Option<(Quantity, u128)>
+    requires joining { IsJoining j.now }
+    requires stations { length j.now.job.now.stations ≤ 32 }
+    requires products { length j.now.job.now.products ≤ 256 }
+    ensures { result ≡ past (measure Quantity.Cells 4194304 (map (λ scan. length (baselines_in j.now.job.now scan) * length j.now.job.now.products * j.now.job.now.lags) (taken j.now.job.now (scans_of j.now)))) }
+{
+    with_first(Quantity::Cells, cells_over(&j.places, j.job, 4_194_304))
+}
+
+// The samples of all channels of all stations in an epoch, past their greatest number.
+fn load_past(j: &Joining) -> Option<(Quantity, u128)>
+    requires joining { IsJoining j.now }
+    requires stations { length j.now.job.now.stations ≤ 32 }
+    requires channels { length (channels_of j.now.job.now) ≤ 64 }
+    ensures { result ≡ past (measure Quantity.Load 268435456 (length j.now.job.now.stations * length (channels_of j.now.job.now) * j.now.job.now.epoch ∷ [])) }
+{
+    let stations = stations(j.job).len() as u128;
+    let channels = j.channels.len() as u128;
+    let load = stations * channels * u128::from(epoch(j.job));
+    past(Quantity::Load, 268_435_456, load)
+}
+
+// The epochs of all scans, past their greatest number.
+fn epochs_past(j: &Joining) -> Option<(Quantity, u128)>
+    requires joining { IsJoining j.now }
+    requires stations { length j.now.job.now.stations ≤ 32 }
+    requires samples { All (λ scan. samples_of j.now.job.now j.now.rate scan ≤ 2 ^ 40) (taken j.now.job.now (scans_of j.now)) }
+    ensures { result ≡ past (measure Quantity.Epochs (2 ^ 32) (fold ◌+◌ 0 (map (scan_epochs j.now.job.now j.now.rate) (taken j.now.job.now (scans_of j.now))) ∷ [])) }
+{
+    let epochs = all_epochs(&j.places, j.job, j.rate);
+    past(Quantity::Epochs, 1 << 32, epochs)
+}
+
+// The first number of things of a job that is past its greatest.
+fn counts(j: &Joining) -> Option<(Quantity, u128)>
+    requires { IsJoining j.now }
+    ensures { result ≡ first_past (job_measures j.now.job.now) }
+{
+    stations_past(j).or(products_past(j)).or(channels_past(j))
+}
+
+// The first length of a scan that is past its greatest, the samples before the seconds.
+fn lengths(j: &Joining) -> Option<(Quantity, u128)>
+    requires joining { IsJoining j.now }
+    requires rate { 0 < j.now.rate }
+    ensures { result ≡ first_past (length_measures j.now.job.now j.now.rate (taken j.now.job.now (scans_of j.now))) }
+{
+    samples_past(j).or(seconds_past(j))
+}
+
+// The first of the sizes that a correlation keeps that is past its greatest.
+fn sizes(j: &Joining) -> Option<(Quantity, u128)>
+    requires joining { IsJoining j.now }
+    requires counts { first_past (job_measures j.now.job.now) ≡ None }
+    requires lengths { first_past (length_measures j.now.job.now j.now.rate (taken j.now.job.now (scans_of j.now))) ≡ None }
+    ensures { result ≡ first_past (size_measures j.now.job.now j.now.rate (taken j.now.job.now (scans_of j.now))) }
+{
+    cells_past(j).or(load_past(j)).or(epochs_past(j))
+}
+
+/// The first quantity that is past its greatest, with its value.
+pub(crate) fn limit(j: &Joining) -> Option<(Quantity, u128)>
+    requires joining { IsJoining j.now }
+    requires rate { 0 < j.now.rate }
+    ensures { result ≡ limit j.now.job.now (scans_of j.now) }
+{
+    let counts = counts(j);
+    if counts.is_some() {
+        return counts;
+    }
+    let lengths = lengths(j);
+    if lengths.is_some() {
+        return lengths;
+    }
+    sizes(j)
 }

@@ -1,5 +1,5 @@
 //! The lists of a plan.
-ghost use Rattle.std.specs.Prelude.{◌≡◌, ◌<◌, ◌/◌, ◌^◌, ◌++◌, ◌∷◌, ◌||◌, ◌&&◌, ◌==◌, [], ℕ, List, nat_lt, map, filter, flat_map, length, bytes_eq, unwrap_or, if◌then◌else◌, IfOk, OnOk};
+ghost use Rattle.std.specs.Prelude.{◌≡◌, ◌<◌, ◌/◌, ◌^◌, ◌++◌, ◌∷◌, [], ℕ, List, map, length, bytes_eq, unwrap_or, if◌then◌else◌, IfOk, OnOk};
 ghost use Rattle.std.specs.List.{All, position};
 ghost use Rattle.vex_reader.specs.File.{named, names};
 ghost use Rattle.vdif_frame.specs.Shape.{samples_per_frame};
@@ -7,7 +7,6 @@ ghost use Rattle.job_text.specs.Job.{StationFields};
 ghost use Rattle.job_text.specs.Ranges.{shape_of};
 ghost use Rattle.job_join.specs.Joined.{station_plan, stay_plan, product_plan};
 ghost use Rattle.job_join.specs.declared.stands.Here.{Here};
-ghost use Rattle.job_join.specs.declared.joining.Joining.{Joining};
 ghost use Rattle.job_join.specs.Places.{stand_of};
 ghost use Rattle.job_join.specs.Planned.{IsShort, pair_of, is_pair, pairs_with, pairs_in};
 

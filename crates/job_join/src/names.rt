@@ -1,7 +1,7 @@
 //! Names that stand in a set.
 ghost use Rattle.std.specs.Prelude.{◌≡◌, ◌||◌, ℕ, List, bytes_eq, is_some, OnOk, IfOk};
 ghost use Rattle.std.specs.List.{list_any};
-ghost use Rattle.vex_reader.specs.File.{named, put};
+ghost use Rattle.vex_reader.specs.File.{named};
 ghost use Rattle.vex_schedule.specs.declared.scan.Scan.{Scan};
 ghost use Rattle.vex_schedule.specs.declared.scan.Pass.{Pass};
 

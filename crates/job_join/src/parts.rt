@@ -1,5 +1,5 @@
 //! The parts of a job.
-ghost use Rattle.std.specs.Prelude.{◌≡◌};
+ghost use Rattle.std.specs.Prelude.{◌≡◌, ◌<◌};
 ghost use Rattle.vex_reader.specs.File.{names};
 ghost use Rattle.job_text.specs.Ranges.{IsJob};
 
@@ -23,7 +23,8 @@ pub(crate) fn takes(job: &Job) -> &Named<()>
 
 /// The products, each by its two channels.
 pub(crate) fn products(job: &Job) -> &Pairs
-    ensures { result.now ≡ job.now.products }
+    ensures value { result.now ≡ job.now.products }
+    ensures ranges { IsJob job.now }
 {
     &job.products
 }
@@ -37,14 +38,16 @@ pub(crate) fn knot(job: &Job) -> u32
 
 /// The samples in an epoch.
 pub(crate) fn epoch(job: &Job) -> u32
-    ensures { result ≡ job.now.epoch }
+    ensures value { result ≡ job.now.epoch }
+    ensures some { 0 < result }
 {
     job.epoch
 }
 
 /// The samples in an integration.
 pub(crate) fn integration(job: &Job) -> u64
-    ensures { result ≡ job.now.integration }
+    ensures value { result ≡ job.now.integration }
+    ensures some { 0 < result }
 {
     job.integration
 }

@@ -1,5 +1,5 @@
 //! The scans of a schedule, with the job's stations in them.
-ghost use Rattle.std.specs.Prelude.{◌≡◌, ◌||◌, ℕ, List, None, Some, bytes_eq, is_some, not, map, All, IfOk, OnOk};
+ghost use Rattle.std.specs.Prelude.{◌≡◌, ◌||◌, ℕ, List, bytes_eq, is_some, not, map, IfOk, OnOk};
 ghost use Rattle.std.specs.List.{list_any, position};
 ghost use Rattle.vex_reader.specs.File.{named};
 ghost use Rattle.vex_schedule.specs.Sound.{IsScan, AreScans};

@@ -1,12 +1,12 @@
 //! The parts of a plan.
-ghost use Rattle.std.specs.Prelude.{◌≡◌, ◌<◌, ◌/◌, ◌^◌, ℕ, List, map, bytes_eq, option_copied, unwrap_or, IfOk};
+ghost use Rattle.std.specs.Prelude.{◌≡◌, ◌<◌, ◌/◌, ◌^◌, ℕ, List, map, bytes_eq, option_copied, IfOk};
 ghost use Rattle.std.specs.List.{position};
 ghost use Rattle.vex_reader.specs.File.{named, names};
 ghost use Rattle.vdif_frame.specs.Shape.{samples_per_frame};
 ghost use Rattle.job_text.specs.Ranges.{shape_of};
 ghost use Rattle.job_join.specs.Spans.{first_sample, end_sample};
 ghost use Rattle.job_join.specs.Channels.{chan_with};
-ghost use Rattle.job_join.specs.Joined.{recorded_of, station_plan, band_of, stay_plan, number_of, product_plan};
+ghost use Rattle.job_join.specs.Joined.{recorded_of, station_plan, band_of, stay_plan};
 ghost use Rattle.job_join.specs.Places.{stand_of};
 
 use crate::channels::chan_with;
@@ -14,7 +14,7 @@ use crate::frames::{samples_per_frame, shape_of};
 use crate::spans::{end_sample, first_sample};
 use crate::stands::{Here, number};
 use item_list::ItemList;
-use job_plan::{Band, ProductPlan, Recorded, StationPlan, StayPlan};
+use job_plan::{Band, Recorded, StationPlan, StayPlan};
 use job_text::Station;
 use num_time::Name;
 use std::alloc::{AllocError, Global};
@@ -147,4 +147,17 @@ pub(crate) fn channel_numbers(
         number(alloc, &mut numbers, name, i)?;
     }
     Ok(numbers)
+}
+
+/// The names of some channels.
+pub(crate) fn channel_names(alloc: Global, channels: &Named<()>) -> Result<Vec<Name>, AllocError>
+    ensures { IfOk result (λ all. all.items ≡ names channels.now) }
+{
+    let mut all = Vec::new(alloc);
+    for i in 0..channels.len() {
+        let (name, _) = channels.at(i);
+        let name = Name::new(alloc, name)?;
+        all.push(name)?;
+    }
+    Ok(all)
 }

@@ -1,11 +1,10 @@
 //! The stations of a job in the scans of a schedule.
-ghost use Rattle.std.specs.Prelude.{◌≡◌, ◌++◌, ℕ, List, None, Some, Option, option_to_list, bytes_eq, option_map, filter_map, if◌then◌else◌, IfOk, OnOk};
+ghost use Rattle.std.specs.Prelude.{◌≡◌, ◌++◌, ℕ, List, None, Some, option_to_list, bytes_eq, option_map, filter_map, if◌then◌else◌, IfOk, OnOk};
 ghost use Rattle.std.specs.List.{position};
 ghost use Rattle.std.specs.Option.{option_or};
 ghost use Rattle.vex_reader.specs.File.{named};
 ghost use Rattle.vex_schedule.specs.Sound.{IsScan};
 ghost use Rattle.job_text.specs.Job.{StationFields};
-ghost use Rattle.job_text.specs.Ranges.{IsJob};
 ghost use Rattle.job_join.specs.Standing.{stands_in};
 ghost use Rattle.job_join.specs.Places.{stand_of, stands_of, found_at};
 

@@ -1,5 +1,5 @@
 //! The scans that a job takes.
-ghost use Rattle.std.specs.Prelude.{◌≡◌, ◌||◌, ℕ, List, bytes_eq, is_some, OnOk, IfOk};
+ghost use Rattle.std.specs.Prelude.{◌≡◌, IfOk};
 ghost use Rattle.vex_reader.specs.File.{names};
 ghost use Rattle.job_join.specs.Standing.{is_taken, unknown_scan};
 

@@ -1,4 +1,4 @@
-use Rattle.std.proofs.Common.{◌≡◌, ap, ◌∙◌, Option}
+use Rattle.std.proofs.Common.{ap, ◌∙◌, Option}
 use Rattle.std.specs.List.{list_any}
 use Rattle.vex_schedule.specs.declared.scan.Chan.{Chan}
 use Rattle.job_join.specs.declared.stands.Here.{Here}

@@ -1,4 +1,4 @@
-use Rattle.std.proofs.Common.{◌≡◌, ℕ, List, drop}
+use Rattle.std.proofs.Common.{◌≡◌, drop}
 use Rattle.std.specs.List.{list_any}
 use Rattle.job_join.specs.Places.{stands_of}
 use Rattle.job_join.proofs.ChannelsLemmas.{is_unlike}

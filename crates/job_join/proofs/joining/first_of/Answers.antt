@@ -1,4 +1,3 @@
-use Rattle.std.proofs.Common.{◌∙◌}
 use Rattle.job_join.proofs.JoinLemmas.{first_there-or}
 use Rattle.job_join.proofs.joining.first_of.Goals as goal
 

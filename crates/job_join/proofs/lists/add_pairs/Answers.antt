@@ -1,4 +1,4 @@
-use Rattle.std.proofs.Common.{◌≡◌, arith}
+use Rattle.std.proofs.Common.{arith}
 use Rattle.job_join.proofs.PlansLemmas.{pairs-turn}
 use Rattle.job_join.proofs.lists.add_pairs.Goals as goal
 

@@ -1,4 +1,4 @@
-use Rattle.std.proofs.Common.{◌≡◌, arith}
+use Rattle.std.proofs.Common.{arith}
 use Rattle.job_join.proofs.PlansLemmas.{firsts-turn}
 use Rattle.job_join.proofs.lists.pairs_in.Goals as goal
 

@@ -1,7 +1,6 @@
-use Rattle.std.proofs.Common.{◌≡◌, ◌<◌, ◌^◌, ◌∷◌, [], ◌++◌, ℕ, List, map, bytes_eq, unwrap_or, ap, sym, ◌∙◌, arith, subst}
-use Rattle.std.specs.List.{position}
+use Rattle.std.proofs.Common.{◌≡◌, ◌^◌, ◌∷◌, [], ◌++◌, ℕ, List, map, bytes_eq, unwrap_or, ap, ◌∙◌, arith}
 use Rattle.std.proofs.lemmas.List.{take_all}
-use Rattle.vex_reader.specs.File.{named, names}
+use Rattle.vex_reader.specs.File.{names}
 use Rattle.job_plan.specs.declared.plan.ProductPlan.{ProductPlan}
 use Rattle.job_join.specs.Joined.{product_plan, number_of}
 use Rattle.job_join.proofs.PlansLemmas.{map-turn, position-few}
@@ -28,4 +27,4 @@ loop-i-preserved c =
 
 pub returns : goal.returns
 returns c =
-    c.loop-i.invariant ∙ ap (map (product_plan (names c.args.j.now.channels))) (take_all c.loop-i.i c.products-pairs.result.now (omega arith) ∙ c.products-pairs.ensures)
+    c.loop-i.invariant ∙ ap (map (product_plan (names c.args.j.now.channels))) (take_all c.loop-i.i c.products-pairs.result.now (omega arith) ∙ c.products-pairs.ensures.value)

@@ -1,8 +1,8 @@
-use Rattle.std.proofs.Common.{◌≡◌, ap, sym, ◌∙◌, rules, filter_map}
+use Rattle.std.proofs.Common.{rules}
 use Rattle.std.proofs.lemmas.List.Sorted.{IsPermutation-map, IsNonDecreasingBy-from_sort_by_key}
 use Rattle.job_join.specs.declared.stands.Here.{Here}
 use Rattle.job_join.specs.Standing.{Stand}
-use Rattle.job_join.specs.Places.{stand_of, stands_of, found_at}
+use Rattle.job_join.specs.Places.{stand_of, stands_of}
 use Rattle.job_join.proofs.StandsLemmas.{stands_in-found, IsNonDecreasingBy-map}
 use Rattle.job_join.proofs.stands.stands_in.Goals as goal
 

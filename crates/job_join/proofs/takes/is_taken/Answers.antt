@@ -1,4 +1,4 @@
-use Rattle.std.proofs.Common.{◌∙◌, sym, arith}
+use Rattle.std.proofs.Common.{arith}
 use Rattle.job_join.proofs.TakesLemmas.{is_taken-some}
 use Rattle.job_join.proofs.takes.is_taken.Goals as goal
 

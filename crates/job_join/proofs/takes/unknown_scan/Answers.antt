@@ -1,10 +1,10 @@
-use Rattle.std.proofs.Common.{◌≡◌, ◌<◌, ℕ, Bool, true, false, not, List, [], length, get_or, bytes_eq, is_some, sym, ap, ◌∙◌, arith}
+use Rattle.std.proofs.Common.{◌≡◌, ◌<◌, ℕ, Bool, true, false, not, List, [], length, get_or, bytes_eq, sym, ap, ◌∙◌, arith}
 use Rattle.std.specs.List.{list_any, position}
 use Rattle.std.proofs.lemmas.List.{length-map}
-use Rattle.vex_reader.specs.File.{named, names}
+use Rattle.vex_reader.specs.File.{names}
 use Rattle.vex_schedule.specs.declared.scan.Scan.{Scan}
 use Rattle.job_join.specs.Standing.{unknown_scan}
-use Rattle.job_join.proofs.Firsts.{first-start, first-skip, first-found, first-none}
+use Rattle.job_join.proofs.Firsts.{first-start, first-skip, first-found}
 use Rattle.job_join.proofs.Sets.{get_or-names}
 use Rattle.job_join.proofs.takes.unknown_scan.Goals as goal
 

@@ -1,7 +1,6 @@
-use Rattle.std.proofs.Common.{◌≡◌, option_map, ap, sym, ◌∙◌}
+use Rattle.std.proofs.Common.{option_map, ap, sym, ◌∙◌}
 use Rattle.job_join.specs.declared.fault.JoinFault.TheVariants.{UnknownScan}
 use Rattle.job_join.specs.Standing.{unknown_scan}
-use Rattle.job_join.specs.Joining.{scans_of}
 use Rattle.job_join.proofs.joining.Joining.early.Goals as goal
 
 pub returns : goal.returns

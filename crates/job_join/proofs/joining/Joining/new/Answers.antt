@@ -18,7 +18,8 @@ returns-clause-joining c =
     let places : List Place = c.in_ok-places.places.items in
     let held : map (λ (p : Place). p.scan.now) places ≡ scans = scans-held job scans places c.in_ok-places.ensures in
     record {
+      job = c.products.ensures.ranges;
       visits = c.in_ok-places.ensures ∙ ap (map (visit_in job)) (sym held);
-      channels = c.in_ok-channels.ensures ∙ ap (λ ps. first_uses [] (flat_map (λ (p : List ℕ × List ℕ). p.0 ∷ p.1 ∷ []) ps)) c.products.ensures;
+      channels = c.in_ok-channels.ensures ∙ ap (λ ps. first_uses [] (flat_map (λ (p : List ℕ × List ℕ). p.0 ∷ p.1 ∷ []) ps)) c.products.ensures.value;
       rate = c.rate_of-rate.ensures ∙ ap (λ ps. rate_among (map visit_of ps)) c.deref.ensures.value ∙ rate_of-places job scans places c.in_ok-places.ensures ∙ ap (rate_of job) (sym held);
     }

@@ -1,4 +1,4 @@
-use Rattle.std.proofs.Common.{◌≡◌, option_map, ap, ◌∙◌}
+use Rattle.std.proofs.Common.{option_map, ap, ◌∙◌}
 use Rattle.std.specs.List.{position}
 use Rattle.job_join.specs.declared.fault.JoinFault.TheVariants.{RateDiffers}
 use Rattle.job_join.specs.declared.joining.Joining.{Joining}

@@ -1,4 +1,4 @@
-use Rattle.std.proofs.Common.{◌≡◌, not, option_map, ap, sym, ◌∙◌}
+use Rattle.std.proofs.Common.{not, option_map, ap, sym, ◌∙◌}
 use Rattle.std.specs.List.{list_any, position}
 use Rattle.job_text.specs.Job.{StationFields}
 use Rattle.job_join.specs.declared.fault.JoinFault.TheVariants.{UnknownStation}

@@ -1,13 +1,12 @@
-use Rattle.std.proofs.Common.{◌≡◌, ◌<◌, ℕ, List, Some, None, Option, nat_lt, length, get_or, map, sym, ap, ◌∙◌, arith}
+use Rattle.std.proofs.Common.{◌≡◌, ◌<◌, ℕ, nat_lt, length, get_or, sym, ap, ◌∙◌, arith}
 use Rattle.std.proofs.lemmas.List.{get_or-map, length-map}
-use Rattle.vex_schedule.specs.declared.scan.Scan.{Scan}
 use Rattle.job_join.specs.declared.joining.Joining.{Joining}
 use Rattle.job_join.specs.declared.places.Place.{Place}
 use Rattle.job_join.specs.Standing.{is_taken, taken}
 use Rattle.job_join.specs.Spans.{samples_of}
 use Rattle.job_join.specs.Joining.{scans_of}
 use Rattle.job_join.proofs.LimitsLemmas.{visit_of-at, taken_value, taken-found, taken-skip, past-held}
-use Rattle.job_join.proofs.limits.samples_over.Goals as goal
+use Rattle.job_join.proofs.measures.samples_over.Goals as goal
 
 pub loop-i-preserved : goal.loop-i-preserved
 loop-i-preserved c =

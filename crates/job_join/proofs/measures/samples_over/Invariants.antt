@@ -2,7 +2,7 @@ use Rattle.std.proofs.Common.{◌≡◌, nat_lt, map, filter, find, drop}
 use Rattle.job_join.specs.Standing.{is_taken}
 use Rattle.job_join.specs.Spans.{samples_of}
 use Rattle.job_join.specs.Joining.{scans_of}
-use Rattle.job_join.proofs.limits.samples_over.Given as goal
+use Rattle.job_join.proofs.measures.samples_over.Given as goal
 
 abbrev pub invariant-loop-i : goal.invariant-loop-i
 invariant-loop-i l =

@@ -1,0 +1,78 @@
+//! A job and a schedule, joined.
+ghost use Rattle.std.specs.Prelude.{◌≡◌, None, IfOk};
+ghost use Rattle.vex_schedule.specs.Sound.{AreScans};
+ghost use Rattle.job_join.specs.Joined.{refusal_of, plan_of, joined, Gives};
+ghost use Rattle.job_join.specs.Joining.{scans_of, IsJoining};
+
+use crate::fault::JoinFault;
+use crate::joining::Joining;
+use crate::lists::{product_plans, station_plans};
+use crate::parts::{epoch, integration, knot, lags};
+use crate::plans::{channel_names, channel_numbers};
+use crate::refusal::refusal;
+use crate::scans::scan_plans;
+use item_list::ItemList;
+use job_plan::{Plan, Plan0};
+use job_text::Job;
+use std::alloc::{AllocError, Global};
+use vex_schedule::{Scan, ScanList};
+
+// The samples in a second.
+fn rate_in(j: &Joining) -> u32
+    ensures { result ≡ j.now.rate }
+{
+    j.rate
+}
+
+// The plan of a job and the scans of a schedule that go together.
+fn plan_of(alloc: Global, j: &Joining) -> Result<Plan0, AllocError>
+    requires joining { IsJoining j.now }
+    requires scans { AreScans (scans_of j.now) }
+    requires accepted { refusal_of j.now.job.now (scans_of j.now) ≡ None }
+    ensures { IfOk result (λ plan. plan ≡ plan_of j.now.job.now (scans_of j.now)) }
+{
+    let stations = station_plans(alloc, j)?;
+    let channels = channel_names(alloc, &j.channels)?;
+    let numbers = channel_numbers(alloc, &j.channels)?;
+    let products = product_plans(alloc, j, &numbers)?;
+    let scans = scan_plans(alloc, j)?;
+    let plan = Plan {
+        lags: lags(j.job),
+        integration: integration(j.job),
+        epoch: u64::from(epoch(j.job)),
+        rate: rate_in(j),
+        knot: knot(j.job),
+        stations: ItemList::of(stations),
+        channels: ItemList::of(channels),
+        products: ItemList::of(products),
+        scans: ItemList::of(scans),
+    };
+    Ok(Plan0::new(plan))
+}
+
+// The plan of a job and the scans of a schedule, or the first cause for which they do not go together.
+fn answer(alloc: Global, job: &Job, scans: &[Scan]) -> Result<Result<Plan0, JoinFault>, AllocError>
+    requires { AreScans scans.now }
+    ensures { IfOk result (λ r. r ≡ joined job.now scans.now) }
+{
+    let j = Joining::new(alloc, job, scans)?;
+    match refusal(alloc, &j, scans)? {
+        Some(fault) => Ok(Err(fault)),
+        None => Ok(Ok(plan_of(alloc, &j)?)),
+    }
+}
+
+/// The plan of a job and a schedule. Where they do not go together, the first of these causes: a take that names no
+/// scan (its place among the takes); a station in no scan that is taken (its place in the job); a scan in which a
+/// station's sample rate, a channel's band at two stations, or the bands of a product's two channels differ (its place
+/// in the schedule); a station whose frames do not go into a second, that has no delay model, or no clock, at some
+/// sample of a scan (its place in the job); a quantity past its greatest (with its value). `Memory` comes where memory
+/// runs out, whatever else holds. Stations, takes and scans are counted from 0.
+pub fn join_job(alloc: Global, job: &Job, schedule: &ScanList) -> Result<Plan0, JoinFault>
+    ensures { Gives result (joined job.now schedule.now.scans) }
+{
+    match answer(alloc, job, schedule.scans.items()) {
+        Ok(answer) => answer,
+        Err(_) => Err(JoinFault::Memory),
+    }
+}

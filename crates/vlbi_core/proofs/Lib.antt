@@ -1,10 +1,3 @@
-pub mod DelayLemmas
-pub mod ValueLemmas
-pub mod ToldLemmas
-pub mod ReadingLemmas
-pub mod VerdictLemmas
 pub mod ScanLemmas
-pub mod WalkLemmas
-pub mod IntegrationLemmas
-pub mod ForeignLemmas
-pub mod HeadLemmas
+pub mod PlainLemmas
+pub mod TopLemmas

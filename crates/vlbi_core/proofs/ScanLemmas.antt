@@ -1,114 +1,89 @@
--- The values and the record file of a job's plan, where the files are its two recordings.
-use mathlib.Core.Path.{fun_ext}
-use Rattle.std.specs.Prelude.{if◌then◌else◌, flat_map}
-use Rattle.std.proofs.Common.{◌≡◌, ℕ, zero, suc, ℤ, unsigned_abs, Bool, true, false, List, [], ◌∷◌, ◌++◌, Some, None, length, map, refl, ap, ◌∙◌}
-use Rattle.std.specs.List.{range_with_len}
-use Rattle.std.proofs.lemmas.List.{append-nil}
-use Rattle.std.proofs.lemmas.List.Concat.{flat_map_single}
-use Rattle.std.proofs.lemmas.List.FromFn.{length-map-range_with_len}
-use Rattle.corr_model.specs.Sample.{sample_of}
-use Rattle.corr_model.specs.Cell.{Value, Samples, is_inside}
-use Rattle.corr_model.specs.Plan.{Files, bytes_under}
-use Rattle.corr_model.specs.Rotated.{rotated, timing_of, value_at}
+-- The records of a scan, from values of its own.
+use Rattle.std.specs.Prelude.{flat_map, option_and_then, slice_get, find, IfSome, if◌then◌else◌}
+use Rattle.std.specs.List.{All, range_with_len}
+use Rattle.std.specs.Option.{option_map_or}
+use Rattle.std.proofs.Common.{◌≡◌, ◌≤◌, ◌⊎◌, ⊎_elim, inl, inr, ℕ, ℤ, pos, ◌≤ℤ◌, ◌<ℤ◌, Bool, true, false, List, [], ◌∷◌, Option, Some, None, unsigned_abs, refl, sym, ap, ◌∙◌, arith}
+use Rattle.std.specs.Prelude.{◌==◌}
+use Rattle.std.proofs.lemmas.Int.{ints}
+use Rattle.std.proofs.lemmas.List.Elements.{All-head, All-tail}
 use Rattle.corr_model.specs.declared.cell.Cell.{Cell}
-use Rattle.corr_model.specs.declared.records.RecordAt.{RecordAt}
-use Rattle.corr_model.specs.Records.{Head, head_text, end_text, places_of, records_text}
-use Rattle.corr_model.specs.Output.{output, head_of, plan_cells}
-use Rattle.corr_model.proofs.RecordLemmas.{output-parts, vis_text-parts, places_of-scans, plan_cells-scans, records_text-each}
-use Rattle.job_reader.specs.declared.job.Station.{Station}
-use Rattle.job_reader.specs.declared.job.Job.{Job}
-use Rattle.job_reader.specs.Job.{plan_of, scan_plan_of, station_plan_of}
-use Rattle.vlbi_core.specs.Scan.{AreRecordings, delay_model, band_of, values_of, scan_cell, scan_cells, scan_integrations, scan_records_text, scan_output}
+use Rattle.corr_model.specs.Cell.{Samples}
+use Rattle.corr_model.specs.Plan.{Files}
+use Rattle.corr_model.specs.Records.{Head, records_text, product_places}
+use Rattle.job_plan.specs.declared.plan.StayPlan.{StayPlan}
+use Rattle.job_plan.specs.declared.plan.ScanPlan.{ScanPlan}
+use Rattle.job_plan.specs.declared.plan.Plan.{Plan}
+use Rattle.job_plan.specs.Ranges.{IsStay, IsScanPlan}
+use Rattle.job_plan.specs.Values.{stay_of, stay_value, station_value, is_within, rotated}
+use Rattle.job_plan.specs.Output.{integration_cells}
+use Rattle.vis_writer.specs.Cells.{CellsOf, integrations_of}
+use Rattle.vis_writer.specs.PlanCells.{cells_by, cells_from}
+use Rattle.vis_writer.specs.OneScanLaws.{cells-at}
+use Rattle.vis_writer.specs.Texts.{text_at}
 
-none_both : (b : Bool) → ◌≡◌ {A = Value} (if b then None else None) None
-none_both true = refl
-none_both false = refl
+-- ---- the values
 
-bytes_under-some : (files : Files) (name bytes : List ℕ) → files name ≡ Some bytes → bytes_under files name ≡ bytes
-bytes_under-some files name bytes h = rw h refl
+found-stay : (P : StayPlan → Type 0) (p : StayPlan → Bool) (stays : List StayPlan) → All P stays → IfSome (find p stays) P
+found-stay P p [] all = tt
+found-stay P p (stay ∷ stays) all = by (p stay) (found-stay P p stays (All-tail P stay stays all))
+  where
+    by : (b : Bool) → IfSome (find p stays) P → IfSome (if b then Some stay else find p stays) P
+    by true rest = All-head P stay stays all
+    by false rest = rest
 
--- the value of a station whose one file has these bytes
-recorded : Job → Station → List ℕ → ℤ → Value
-recorded job s bytes n =
-    if is_inside n job.samples
-    then value_at (λ p. sample_of (timing_of (plan_of job) (scan_plan_of job) (station_plan_of s)) (record { thread = s.thread; index = 0 }) (bytes ∷ []) p) (delay_model job s) (band_of job) (unsigned_abs n)
-    else None
+not-within : (n : ℤ) (from to samples : ℕ) → to ≤ samples → (n <ℤ pos 0) ⊎ (pos samples ≤ℤ n) → is_within n from to ≡ false
+not-within n from to samples inside (inl before) = grind (arith, ints)
+not-within n from to samples inside (inr past) = grind (arith, ints)
 
-rotated-at : (job : Job) (files : Files) (a b : List ℕ) → AreRecordings files job a b → (station chan : ℕ) (n : ℤ)
-    → rotated (plan_of job) files (scan_plan_of job) station chan n ≡ values_of job a b station chan n
-unfolding rotated recorded
-rotated-at job files a b h zero zero n =
-    ap (λ bytes. recorded job job.a bytes n) (bytes_under-some files job.a.file.now a h.first)
-rotated-at job files a b h zero (suc chan) n = none_both (is_inside n job.samples)
-rotated-at job files a b h (suc zero) zero n =
-    ap (λ bytes. recorded job job.b bytes n) (bytes_under-some files job.b.file.now b h.second)
-rotated-at job files a b h (suc zero) (suc chan) n = none_both (is_inside n job.samples)
-rotated-at job files a b h (suc (suc station)) chan n = none_both (is_inside n job.samples)
+-- a scan has no values outside of it
+rotated-outside : (plan : Plan) (files : Files) (scan : ScanPlan) → IsScanPlan plan scan → (station chan : ℕ) (n : ℤ)
+    → (n <ℤ pos 0) ⊎ (pos scan.samples ≤ℤ n) → rotated plan files scan station chan n ≡ None
+unfolding rotated
+rotated-outside plan files scan is station chan n outside = by (stay_of scan station) (found-stay (IsStay plan scan) (λ (stay : StayPlan). stay.station == station) scan.stays is.stays)
+  where
+    by : (o : Option StayPlan) → IfSome o (IsStay plan scan) → option_and_then (λ stay. stay_value plan files scan stay chan n) o ≡ None
+    by None there = refl
+    by (Some stay) there =
+        ap (λ (b : Bool). if b then option_and_then (λ s. station_value plan files scan stay s chan (unsigned_abs n)) (slice_get plan.stations stay.station) else None)
+        (not-within n stay.from stay.to scan.samples there.to outside)
 
--- the values of the plan are those of the two recordings
-pub rotated-values_of : (job : Job) (files : Files) (a b : List ℕ) → AreRecordings files job a b
-    → rotated (plan_of job) files (scan_plan_of job) ≡ values_of job a b
-rotated-values_of job files a b h =
-    fun_ext (λ station. fun_ext (λ chan. fun_ext (λ n. rotated-at job files a b h station chan n)))
+int_cases : (a b : ℤ) → (a <ℤ b) ⊎ (b ≤ℤ a)
+int_cases a b = grind (arith, ints)
 
--- the record of integration m, and its cells
-place : ℕ → RecordAt
-place m = record { scan = 0; m = m; product = 0; baseline = 0 }
+-- values that are those of the scan inside of it, and none outside, are those of the scan
+samples-same : (plan : Plan) (files : Files) (scan : ScanPlan) (z : Samples) → IsScanPlan plan scan
+    → ((station chan : ℕ) (n : ℤ) → pos 0 ≤ℤ n → n <ℤ pos scan.samples → z station chan n ≡ rotated plan files scan station chan n)
+    → ((station chan : ℕ) (n : ℤ) → (n <ℤ pos 0) ⊎ (pos scan.samples ≤ℤ n) → z station chan n ≡ None)
+    → z ≡ rotated plan files scan
+samples-same plan files scan z is inside outside = λ i station chan n. one station chan n i
+  where
+    none : (station chan : ℕ) (n : ℤ) → (n <ℤ pos 0) ⊎ (pos scan.samples ≤ℤ n) → z station chan n ≡ rotated plan files scan station chan n
+    none station chan n past = outside station chan n past ∙ sym (rotated-outside plan files scan is station chan n past)
 
-numbers : Job → List ℕ
-numbers job = range_with_len 0 (scan_integrations job)
+    one : (station chan : ℕ) (n : ℤ) → z station chan n ≡ rotated plan files scan station chan n
+    one station chan n =
+        ⊎_elim (λ before. none station chan n (inl before))
+        (λ begun. ⊎_elim (λ under. inside station chan n begun under) (λ past. none station chan n (inr past)) (int_cases n (pos scan.samples)))
+        (int_cases n (pos 0))
 
--- the records of the head: one for each integration
-places_of-job : (job : Job) → places_of (head_of (plan_of job)) ≡ map place (numbers job)
-unfolding place numbers
-places_of-job job =
-    places_of-scans (head_of (plan_of job))
-    ∙ append-nil _
-    ∙ flat_map_single place (numbers job)
+-- ---- the text
 
--- all cells: those of each integration
-plan_cells-job : (job : Job) (files : Files)
-    → plan_cells (plan_of job) files
-    ≡ flat_map (scan_cells job (rotated (plan_of job) files (scan_plan_of job))) (numbers job)
-unfolding numbers
-plan_cells-job job files =
-    let z : Samples = rotated (plan_of job) files (scan_plan_of job) in
-    plan_cells-scans (plan_of job) files
-    ∙ append-nil _
-    ∙ ap (λ (f : ℕ → List Cell). flat_map f (numbers job))
-    (fun_ext (λ m. append-nil (scan_cells job z m ++ []) ∙ append-nil (scan_cells job z m)))
+-- the records of a scan by the cells of its own integrations
+abbrev row_text : Head → ℕ → (ℕ → List Cell) → List ℕ
+row_text head number row =
+    option_map_or (λ s. flat_map (λ m. records_text head.lags (product_places head number s m) (row m)) (range_with_len 0 (integrations_of head s))) (slice_get head.scans number) []
 
-records_text-job : (job : Job) (z : Samples)
-    → records_text job.lags (map place (numbers job)) (flat_map (scan_cells job z) (numbers job))
-    ≡ scan_records_text job z (scan_integrations job)
-unfolding place numbers
-records_text-job job z =
-    records_text-each job.lags place (scan_cells job z) (numbers job)
-    (λ m. length-map-range_with_len (scan_cell job z m) 0 job.lags)
+text_at-same : (head : Head) (of other : CellsOf) (number : ℕ) → ((m : ℕ) → of number m ≡ other number m) → text_at head of number ≡ text_at head other number
+text_at-same head of other number same = ap (row_text head number) (λ i m. same m i)
 
--- the whole text of these records
-text_of-job : (job : Job) (z : Samples)
-    → head_text (head_of (plan_of job))
-    ++ records_text job.lags (map place (numbers job)) (flat_map (scan_cells job z) (numbers job))
-    ++ end_text (length (map place (numbers job)))
-    ≡ scan_output job z
-unfolding scan_output numbers
-text_of-job job z =
-    ap (λ text. head_text (head_of (plan_of job)) ++ text ++ end_text (length (map place (numbers job)))) (records_text-job job z)
-    ∙ ap (λ n. head_text (head_of (plan_of job)) ++ scan_records_text job z (scan_integrations job) ++ end_text n)
-    (length-map-range_with_len place 0 (scan_integrations job))
-
--- the record file of the plan is that of the two recordings' values
-pub output-scan_output : (job : Job) (files : Files) (a b : List ℕ) → AreRecordings files job a b
-    → output (plan_of job) files ≡ scan_output job (values_of job a b)
-output-scan_output job files a b h =
-    let z : Samples = rotated (plan_of job) files (scan_plan_of job) in
-    let head : Head = head_of (plan_of job) in
-    output-parts (plan_of job) files
-    ∙ vis_text-parts head (plan_cells (plan_of job) files)
-    ∙ ap (λ (places : List RecordAt). head_text head ++ records_text job.lags places (plan_cells (plan_of job) files) ++ end_text (length places))
-    (places_of-job job)
-    ∙ ap (λ (cells : List Cell). head_text head ++ records_text job.lags (map place (numbers job)) cells ++ end_text (length (map place (numbers job))))
-    (plan_cells-job job files)
-    ∙ text_of-job job z
-    ∙ ap (scan_output job) (rotated-values_of job files a b h)
+-- the records of a scan from these values are those of the plan
+pub text_at-values : (plan : Plan) (files : Files) (head : Head) (number : ℕ) (scan : ScanPlan) (z : Samples)
+    → slice_get plan.scans number ≡ Some scan → IsScanPlan plan scan
+    → ((station chan : ℕ) (n : ℤ) → pos 0 ≤ℤ n → n <ℤ pos scan.samples → z station chan n ≡ rotated plan files scan station chan n)
+    → ((station chan : ℕ) (n : ℤ) → (n <ℤ pos 0) ⊎ (pos scan.samples ≤ℤ n) → z station chan n ≡ None)
+    → text_at head (cells_by plan (λ _. z)) number ≡ text_at head (cells_from plan files) number
+text_at-values plan files head number scan z there is inside outside =
+    text_at-same head (cells_by plan (λ _. z)) (cells_from plan files) number
+    (λ m. cells-at plan (λ _. z) number m scan there
+    ∙ ap (λ (w : Samples). integration_cells plan w scan m) (samples-same plan files scan z is inside outside)
+    ∙ sym (cells-at plan (rotated plan files) number m scan there))

@@ -1,7 +1,4 @@
-pub mod Words
-pub mod Refusal
-pub mod Verdict
-pub mod Scan
-pub mod Delays
-pub mod Reading
-pub mod Foreign
+pub mod Shelf
+pub mod Faults
+pub mod Run
+pub mod Steps

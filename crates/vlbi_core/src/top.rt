@@ -1,18 +1,22 @@
 //! The top call.
-ghost use Rattle.std.specs.Prelude.{◌≡◌, ◌≢◌, ◌⊎◌, ◌↔◌, IfSome, IsSome, IsSomeAnd, Some, None, OnOk, IfErr, ⊤};
+ghost use Rattle.std.specs.Prelude.{◌≡◌, ◌≢◌, ◌⊎◌, List, ℕ, Ok, IsErr, IsSome, IfOk, IfErr, OnOk};
 ghost use Rattle.dev_traits.specs.Fault.{HasRisen};
-ghost use Rattle.dev_traits.specs.Told.{more, WhereTold, PrefixMore};
-ghost use Rattle.corr_model.specs.Output.{output};
-ghost use Rattle.vlbi_core.specs.Words.{texts_of, words_fault};
-ghost use Rattle.vlbi_core.specs.Refusal.{IsStatus, IsOwnStatus, IsVerdictStatus, IsCause, MatchWords, MatchWrite, CountsReads, CountsWrites, note_after};
-ghost use Rattle.vlbi_core.specs.Verdict.{verdict, plan_at};
+ghost use Rattle.dev_traits.specs.Told.{more, WhereTold};
+ghost use Rattle.job_plan.specs.declared.plan.Plan.{Plan};
+ghost use Rattle.job_plan.specs.Output.{output};
+ghost use Rattle.run_notes.specs.Counted.{CountsReads, CountsWrites};
+ghost use Rattle.run_notes.specs.Refusals.{IsCause};
+ghost use Rattle.vlbi_core.specs.Run.{texts_of, only_plain, plain_order, OutcomeOf, IsStatus, IsVerdict, IsAppended, IsSomeLine, IsLineOf, IsNoted};
+ghost use Rattle.run_words.specs.Orders.{AreTexts};
+ghost use Rattle.run_ready.specs.Outcome.{job_names};
+ghost use Rattle.vlbi_core.specs.Steps.{IsOfWords, IsWorded, IsPartly};
 
-use crate::correlate::correlate;
-use crate::notes::{status, write_note};
-use crate::prepare::{load_text, prepare};
-use crate::refusal::Refusal;
-use crate::words::read_words;
+use crate::plain::write_plan;
 use dev_traits::{Shelf, Sink};
+use run_notes::{Due, Refusal, status, write_note};
+use run_ready::laws::one_outcome;
+use run_ready::prepare;
+use run_words::{Order, WordsFault, read_words};
 use std::alloc::Global;
 
 /// Does what the words ask for, and answers the status. `words` are the command and what follows it;
@@ -23,8 +27,10 @@ use std::alloc::Global;
 /// | 0 | done |
 /// | 1 | out of memory |
 /// | 2 | the words are not a command's |
-/// | 4 | the job's text is not accepted |
+/// | 3 | the schedule is not accepted |
+/// | 4 | the job is not accepted, or does not go with the schedule |
 /// | 5 | a station's recording has slots, and none agrees with its shape |
+/// | 6 | a quantity is past its greatest |
 /// | 7 | a read failed |
 /// | 9 | the output failed |
 /// | 11 | a named file is not there |
@@ -38,15 +44,14 @@ pub fn run<R, F: Shelf, S: Sink, N: Sink>(
 ) -> u8
     ensures known { IsStatus result }
 
-    // Status 0: the records of the direct sum over the files.
-    ensures done { result ≡ 0 → WhereTold (F.told shelf.old) (λ files. IsSomeAnd (plan_at (texts_of words.now) files) (λ plan. S.told out.new ≡ more (S.told out.old) (output plan files))) }
-    ensures accepted { result ≡ 0 → WhereTold (F.told shelf.old) (λ files. verdict (texts_of words.now) files ≡ None) }
+    // When each status comes, where the shelf tells its files.
+    ensures verdict { WhereTold (F.told shelf.old) (λ files. IsVerdict (OutcomeOf (texts_of words.now) files) result
+        (HasRisen (F.faults shelf.old) (F.faults shelf.new)) (HasRisen (S.faults out.old) (S.faults out.new))) }
+    ensures words { result ≡ 2 → IsErr (plain_order (texts_of words.now)) }
+    ensures wordless { IsErr (plain_order (texts_of words.now)) → (result ≡ 2) ⊎ (result ≡ 1) }
 
-    // Statuses 2, 4, 5 and 11: exactly where the first refusal is theirs, but for want of memory and a
-    // read fault.
-    ensures refusal { IsVerdictStatus result → WhereTold (F.told shelf.old) (λ files. IsSomeAnd (verdict (texts_of words.now) files) (λ answer. answer.status ≡ result)) }
-    ensures refused { WhereTold (F.told shelf.old) (λ files. IfSome (verdict (texts_of words.now) files) (λ answer. (result ≡ answer.status) ⊎ ((result ≡ 1) ⊎ (result ≡ 7)))) }
-    ensures words { (result ≡ 2) ↔ IsSome (words_fault (texts_of words.now)) }
+    // What is appended.
+    ensures appended { WhereTold (F.told shelf.old) (λ files. IsAppended (OutcomeOf (texts_of words.now) files) files result (S.told out.old) (S.told out.new)) }
 
     // The shelf tells what it told.
     ensures same { F.told shelf.new ≡ F.told shelf.old }
@@ -57,19 +62,12 @@ pub fn run<R, F: Shelf, S: Sink, N: Sink>(
     ensures write { result ≡ 9 → HasRisen (S.faults out.old) (S.faults out.new) }
     ensures no_write { result ≢ 9 → S.faults out.new ≡ S.faults out.old }
 
-    // Where nothing refuses and no count rose, it is done, but for want of memory.
-    ensures complete { WhereTold (F.told shelf.old) (λ files. verdict (texts_of words.now) files ≡ None → ¬ HasRisen (F.faults shelf.old) (F.faults shelf.new) → ¬ HasRisen (S.faults out.old) (S.faults out.new) → (result ≡ 0) ⊎ (result ≡ 1)) }
-
-    // What is appended: nothing but with 0 and 9, and with 9 a first part of the records.
-    ensures nothing { result ≢ 0 → result ≢ 9 → S.told out.new ≡ S.told out.old }
-    ensures prefix { result ≡ 9 → WhereTold (F.told shelf.old) (λ files. IsSomeAnd (plan_at (texts_of words.now) files) (λ plan. PrefixMore (S.told out.old) (output plan files) (S.told out.new))) }
-
-    // The note: a first part of it, and all of it where the notes did not fail. That of a status which
-    // needs no verdict is known also where the shelf does not tell its files.
-    ensures part { WhereTold (F.told shelf.old) (λ files. PrefixMore (N.told notes.old) (note_after result (verdict (texts_of words.now) files)) (N.told notes.new)) }
-    ensures own_note { ¬ HasRisen (N.faults notes.old) (N.faults notes.new) → IsOwnStatus result → N.told notes.new ≡ more (N.told notes.old) (note_after result None) }
-    ensures note { ¬ HasRisen (N.faults notes.old) (N.faults notes.new) → WhereTold (F.told shelf.old) (λ files. N.told notes.new ≡ more (N.told notes.old) (note_after result (verdict (texts_of words.now) files))) }
+    // The note: the line of the status, or where the notes failed a first part of it.
+    ensures note { (line : List ℕ) × IsSomeLine result line
+        × WhereTold (F.told shelf.old) (λ files. IsLineOf (OutcomeOf (texts_of words.now) files) result line)
+        × IsNoted line (N.told notes.old) (N.told notes.new) (HasRisen (N.faults notes.old) (N.faults notes.new)) }
 {
+    one_outcome();
     match plain(alloc, words, shelf, out) {
         Ok(()) => 0,
         Err(refusal) => {
@@ -87,18 +85,42 @@ fn plain<F: Shelf, S: Sink>(
     out: &mut S,
 ) -> Result<(), Refusal>
     ensures same { F.told shelf.new ≡ F.told shelf.old }
-    ensures done { OnOk result (WhereTold (F.told shelf.old) (λ files. IsSomeAnd (plan_at (texts_of words.now) files) (λ plan. S.told out.new ≡ more (S.told out.old) (output plan files)))) }
-    ensures accepted { OnOk result (WhereTold (F.told shelf.old) (λ files. verdict (texts_of words.now) files ≡ None)) }
-    ensures cause { IfErr result (λ r. WhereTold (F.told shelf.old) (λ files. IsCause r (verdict (texts_of words.now) files))) }
-    ensures faultless { OnOk result (words_fault (texts_of words.now) ≡ None) }
-    ensures words { IfErr result (λ r. MatchWords r (λ fault. words_fault (texts_of words.now) ≡ Some fault) (words_fault (texts_of words.now) ≡ None)) }
+    ensures done { OnOk result (WhereTold (F.told shelf.old) (λ files. (plan : Plan) × OutcomeOf (texts_of words.now) files (Ok plan) × (S.told out.new ≡ more (S.told out.old) (output plan files)))) }
+    ensures cause { IfErr result (λ r. WhereTold (F.told shelf.old) (λ files. IsCause r (OutcomeOf (texts_of words.now) files))) }
+    ensures words { IsWorded (plain_order (texts_of words.now)) result }
+    ensures part { IfErr result (λ r. WhereTold (F.told shelf.old) (λ files. IsPartly r (OutcomeOf (texts_of words.now) files) files (S.told out.old) (S.told out.new))) }
     ensures reads { CountsReads (F.faults shelf.old) (F.faults shelf.new) result }
     ensures writes { CountsWrites (S.faults out.old) (S.faults out.new) result }
-    ensures nothing { IfErr result (λ r. MatchWrite r ⊤ (S.told out.new ≡ S.told out.old)) }
-    ensures prefix { IfErr result (λ r. MatchWrite r (WhereTold (F.told shelf.old) (λ files. IsSomeAnd (plan_at (texts_of words.now) files) (λ plan. PrefixMore (S.told out.old) (output plan files) (S.told out.new)))) ⊤) }
 {
-    let name = read_words(words)?;
-    let text = load_text(alloc, shelf, name)?;
-    let ready = prepare(alloc, shelf, &text)?;
-    correlate(alloc, &ready, out)
+    let order = read_order(alloc, words)?;
+    let ready = prepare(alloc, &order, shelf)?;
+    write_plan(alloc, &ready, shelf, out)
+}
+
+// The order that the words give.
+fn read_order(alloc: Global, words: &[String]) -> Result<Order, Refusal>
+    ensures order { IfOk result (λ order. plain_order (texts_of words.now) ≡ Ok order) }
+    ensures texts { IfOk result AreTexts }
+    ensures job { IfOk result (λ order. IsSome (job_names order)) }
+    ensures fault { IfErr result (IsOfWords (plain_order (texts_of words.now))) }
+{
+    match read_words(alloc, words) {
+        Ok(order) => only_plain(order),
+        Err(WordsFault::Memory) => Err(Refusal::Memory),
+        Err(fault) => Err(Refusal::Due(Due::Words(fault))),
+    }
+}
+
+// The order where it is one that there is.
+fn only_plain(order: Order) -> Result<Order, Refusal>
+    requires texts { AreTexts order }
+    ensures order { IfOk result (λ same. only_plain order ≡ Ok same) }
+    ensures texts { IfOk result AreTexts }
+    ensures job { IfOk result (λ same. IsSome (job_names same)) }
+    ensures fault { IfErr result (IsOfWords (only_plain order)) }
+{
+    match order {
+        Order::Plain { job, vex } => Ok(Order::Plain { job, vex }),
+        _ => Err(Refusal::Due(Due::Words(WordsFault::UnknownCommand))),
+    }
 }

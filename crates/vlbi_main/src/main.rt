@@ -5,10 +5,12 @@
 #![tactic(auto)]
 
 use real_devices::{FileShelf, HeldStreams, StdSink, SystemFiles};
+use run_notes::{Due, Refusal, status, write_note};
+use run_words::WordsFault;
 use std::env;
 use std::io::ErrorKind;
 use std::process::ExitCode;
-use vlbi_core::{Refusal, WordsFault, run, status, write_note};
+use vlbi_core::run;
 
 fn main(rt: HostRuntime) -> ExitCode {
     let _held = HeldStreams::new(&rt);
@@ -31,6 +33,6 @@ fn words(rt: &HostRuntime) -> Result<Vec<String>, Refusal> {
     match env::args(rt) {
         Ok(all) => Ok(all.skip(2).collect(rt.alloc())?),
         Err(error) if error.kind() == ErrorKind::OutOfMemory => Err(Refusal::Memory),
-        Err(_) => Err(Refusal::Words(WordsFault::Option)),
+        Err(_) => Err(Refusal::Due(Due::Words(WordsFault::Option))),
     }
 }

@@ -1,0 +1,123 @@
+-- Outcomes of which there is one.
+use Rattle.std.proofs.Common.{◌≡◌, ◌∙◌, ℕ, Bool, true, false, List, Option, None, Some, Result, Ok, Err, sym, ap, subst, inl, inr}
+use Rattle.corr_model.specs.Plan.{Files}
+use Rattle.vex_reader.specs.declared.file.VexFile.{VexFile}
+use Rattle.vex_reader.specs.Grammar.{IsFileOf}
+use Rattle.vex_reader.specs.Laws.{HasOneFile, HasOneFault, DoesNotBoth}
+use Rattle.vex_schedule.specs.declared.scan.Scan.{Scan}
+use Rattle.vex_schedule.specs.declared.fault.SchedFault.{SchedFault}
+use Rattle.vex_schedule.specs.Schedule.{schedule_of}
+use Rattle.job_text.specs.Job.{JobFields}
+use Rattle.job_text.specs.Answer.{job_in}
+use Rattle.job_text.specs.Inline.{scans_of}
+use Rattle.job_join.specs.Joined.{joined}
+use Rattle.job_join.specs.declared.fault.Quantity.TheVariants.{Schedule, Job}
+use Rattle.job_plan.specs.declared.plan.Plan.{Plan}
+use Rattle.run_words.specs.declared.order.Order.{Order}
+use Rattle.run_words.specs.declared.order.Order.TheVariants.{Run, Plain, Check, Status, Dump, Gen}
+use Rattle.run_notes.specs.Answers.{Answer, vex_answer, schedule_answer, job_answer}
+use Rattle.run_notes.specs.Refusals.{Outcomes}
+use Rattle.run_ready.specs.Steps.{Is, Then, answered, unless}
+use Rattle.run_ready.specs.Recordings.{recordings_answer}
+use Rattle.run_ready.specs.Outcome.{text_under, ScansOf, cause_answer, Joins, JobOf, ScheduleOf, PlanUnder, PlanOf}
+
+-- there is at most one of these outcomes
+abbrev pub AreOne : {A : Type 0} → Outcomes A → Type 0
+AreOne {A} outcomes = (a b : Result A Answer) → outcomes a → outcomes b → a ≡ b
+
+Is-one : {A : Type 0} (given : Result A Answer) → AreOne (Is given)
+Is-one given a b p q = p ∙ sym q
+
+-- two steps with one outcome each have one
+Then-one : {A B : Type 0} (first : Outcomes A) (next : A → Outcomes B) → AreOne first → ((a : A) → AreOne (next a)) → AreOne (Then first next)
+Then-one {A} {B} first next one ones = by
+  where
+    same : (a c : A) → first (Ok a) → first (Ok c) → a ≡ c
+    same a c p q = let e : Ok a ≡ Ok c = one (Ok a) (Ok c) p q in cc
+
+    same_err : (d e : Answer) → first (Err d) → first (Err e) → d ≡ e
+    same_err d e p q =
+        let x : Result A Answer = Err d in
+        let y : Result A Answer = Err e in
+        let h : x ≡ y = one x y p q in
+        cc
+
+    both : (x y : Result B Answer) (a c : A) → first (Ok a) → first (Ok c) → next a x → next c y → x ≡ y
+    both x y a c p q s t = ones c x y (subst (λ (w : A). next w x) (same a c p q) s) t
+
+    not : (a : A) (e : Answer) → first (Ok a) → first (Err e) → ⊥
+    not a e p q = let h : Ok a ≡ Err e = one (Ok a) (Err e) p q in cc
+
+    by : AreOne (Then first next)
+    by (Ok x) (Ok y) p q = both (Ok x) (Ok y) p.0 q.0 p.1 q.1 p.2 q.2
+    by (Ok x) (Err e) p (inl q) = absurd (not p.0 e p.1 q)
+    by (Ok x) (Err e) p (inr q) = both (Ok x) (Err e) p.0 q.0 p.1 q.1 p.2 q.2
+    by (Err d) (Ok y) (inl p) q = absurd (not q.0 d q.1 p)
+    by (Err d) (Ok y) (inr p) q = both (Err d) (Ok y) p.0 q.0 p.1 q.1 p.2 q.2
+    by (Err d) (Err e) (inl p) (inl q) = ap Err (same_err d e p q)
+    by (Err d) (Err e) (inl p) (inr q) = absurd (not q.0 d q.1 p)
+    by (Err d) (Err e) (inr p) (inl q) = absurd (not p.0 e p.1 q)
+    by (Err d) (Err e) (inr p) (inr q) = both (Err d) (Err e) p.0 q.0 p.1 q.1 p.2 q.2
+
+-- what a schedule comes to, by the laws of VEX texts
+ScansOf-one : (text : List ℕ) → HasOneFile text → HasOneFault text → DoesNotBoth text → AreOne (ScansOf text)
+ScansOf-one text one_file one_fault not_both = by
+  where
+    scheduled : Result (List Scan) SchedFault → Result (List Scan) Answer
+    scheduled r = answered schedule_answer r
+
+    both : (x y : Result (List Scan) Answer) (f g : VexFile) → IsFileOf text f → IsFileOf text g
+        → answered schedule_answer (schedule_of f) ≡ x → answered schedule_answer (schedule_of g) ≡ y → x ≡ y
+    both x y f g p q s t = sym s ∙ ap (λ h. answered schedule_answer (schedule_of h)) (one_file f g p q) ∙ t
+
+    done : (f : VexFile) (scans : List Scan) → schedule_of f ≡ Ok scans → answered schedule_answer (schedule_of f) ≡ Ok scans
+    done f scans e = ap (λ r. answered schedule_answer r) e
+
+    by : AreOne (ScansOf text)
+    by (Ok x) (Ok y) p q = both (Ok x) (Ok y) p.0 q.0 p.1 q.1 (done p.0 x p.2) (done q.0 y q.2)
+    by (Ok x) (Err e) p (inl q) = absurd (not_both p.0 q.0 p.1 q.1)
+    by (Ok x) (Err e) p (inr q) = both (Ok x) (Err e) p.0 q.0 p.1 q.1 (done p.0 x p.2) q.2
+    by (Err d) (Ok y) (inl p) q = absurd (not_both q.0 p.0 q.1 p.1)
+    by (Err d) (Ok y) (inr p) q = both (Err d) (Ok y) p.0 q.0 p.1 q.1 p.2 (done q.0 y q.2)
+    by (Err d) (Err e) (inl p) (inl q) = ap Err (p.2 ∙ ap vex_answer (one_fault p.0 q.0 p.1 q.1) ∙ sym q.2)
+    by (Err d) (Err e) (inl p) (inr q) = absurd (not_both q.0 p.0 q.1 p.1)
+    by (Err d) (Err e) (inr p) (inl q) = absurd (not_both p.0 q.0 p.1 q.1)
+    by (Err d) (Err e) (inr p) (inr q) = both (Err d) (Err e) p.0 q.0 p.1 q.1 p.2 q.2
+
+-- the laws of each text
+pub record AreLaws : Type 0 where
+  pub one_file : (text : List ℕ) → HasOneFile text
+  pub one_fault : (text : List ℕ) → HasOneFault text
+  pub not_both : (text : List ℕ) → DoesNotBoth text
+
+Joins-one : (files : Files) (job : JobFields) (scans : List Scan) → AreOne (Joins files job scans)
+Joins-one files job scans =
+    Then-one (Is (answered (cause_answer job scans) (joined job scans))) (λ (plan : Plan). Is (unless (recordings_answer files plan.stations) plan))
+    (Is-one (answered (cause_answer job scans) (joined job scans)))
+    (λ plan. Is-one (unless (recordings_answer files plan.stations) plan))
+
+JobOf-one : (files : Files) (name : List ℕ) (inline : Bool) → AreOne (JobOf files name inline)
+JobOf-one files name inline =
+    Then-one (Is (text_under files name Job 4194304)) (λ text. Is (answered job_answer (job_in inline text)))
+    (Is-one (text_under files name Job 4194304)) (λ text. Is-one (answered job_answer (job_in inline text)))
+
+ScheduleOf-one : AreLaws → (files : Files) (name : List ℕ) → AreOne (ScheduleOf files name)
+ScheduleOf-one laws files name =
+    Then-one (Is (text_under files name Schedule 8388608)) ScansOf (Is-one (text_under files name Schedule 8388608))
+    (λ text. ScansOf-one text (laws.one_file text) (laws.one_fault text) (laws.not_both text))
+
+PlanUnder-one : AreLaws → (files : Files) (job : List ℕ) (vex : Option (List ℕ)) → AreOne (PlanUnder files job vex)
+PlanUnder-one laws files job None =
+    Then-one (JobOf files job true) (λ fields. Joins files fields (scans_of fields)) (JobOf-one files job true)
+    (λ fields. Joins-one files fields (scans_of fields))
+PlanUnder-one laws files job (Some vex) =
+    Then-one (ScheduleOf files vex) (λ scans. Then (JobOf files job false) (λ fields. Joins files fields scans)) (ScheduleOf-one laws files vex)
+    (λ scans. Then-one (JobOf files job false) (λ fields. Joins files fields scans) (JobOf-one files job false) (λ fields. Joins-one files fields scans))
+
+pub PlanOf-one : AreLaws → (files : Files) (order : Order) → AreOne (PlanOf files order)
+PlanOf-one laws files (Run job vex workers piece) a b p q = PlanUnder-one laws files job vex a b p q
+PlanOf-one laws files (Plain job vex) a b p q = PlanUnder-one laws files job vex a b p q
+PlanOf-one laws files (Check job vex) a b p q = PlanUnder-one laws files job vex a b p q
+PlanOf-one laws files (Status job vex) a b p q = PlanUnder-one laws files job vex a b p q
+PlanOf-one laws files (Dump file) a b p q = absurd p
+PlanOf-one laws files (Gen seed seconds workers piece) a b p q = absurd p

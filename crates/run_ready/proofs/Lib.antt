@@ -1,0 +1,10 @@
+pub mod ReadingLemmas
+pub mod JobLemmas
+pub mod JoinLemmas
+pub mod ToldLemmas
+pub mod FilesLemmas
+pub mod FirstLemmas
+pub mod RecordingLemmas
+pub mod StepLemmas
+pub mod OrderLemmas
+pub mod LawLemmas

@@ -1,0 +1,37 @@
+-- The plan of an order by the names in it, and the stations of a plan.
+use Rattle.std.proofs.Common.{◌≡◌, ◌<◌, ◌^◌, ℕ, List, length, Option, Result, subst, arith}
+use Rattle.std.specs.Prelude.{IsSome, IfSome}
+use Rattle.std.specs.List.{All}
+use Rattle.corr_model.specs.Plan.{Files}
+use Rattle.job_plan.specs.declared.plan.StationPlan.{StationPlan}
+use Rattle.job_plan.specs.declared.plan.Plan.{Plan}
+use Rattle.job_plan.specs.Ranges.{IsPlan}
+use Rattle.run_words.specs.declared.order.Order.{Order}
+use Rattle.run_words.specs.declared.order.Order.TheVariants.{Run, Plain, Check, Status, Dump, Gen}
+use Rattle.run_notes.specs.Answers.{Answer}
+use Rattle.run_ready.specs.Outcome.{job_names, PlanUnder, PlanOf}
+use Rattle.run_ready.specs.Sizes.{HasFiles}
+
+-- the files of a plan's stations can be looked up
+pub HasFiles-plan : (plan : Plan) → IsPlan plan → All (λ (s : StationPlan). length s.files < 2 ^ 32) plan.stations → All HasFiles plan.stations
+HasFiles-plan plan is few k d inside = record {
+  texts = (is.stations k d inside).files;
+  few = few k d inside;
+  frame = omega (arith, (is.stations k d inside).shape.least);
+}
+
+same_names : (files : Files) (job other : List ℕ) (vex another : Option (List ℕ)) (outcome : Result Plan Answer)
+    → job ≡ other → vex ≡ another → PlanUnder files job vex outcome → PlanUnder files other another outcome
+same_names files job other vex another outcome same alike is =
+    subst (λ (v : Option (List ℕ)). PlanUnder files other v outcome) alike (subst (λ (j : List ℕ). PlanUnder files j vex outcome) same is)
+
+-- what the names come to, the order comes to
+pub PlanOf-names : (files : Files) (order : Order) (job : List ℕ) (vex : Option (List ℕ)) (outcome : Result Plan Answer)
+    → IsSome (job_names order) → IfSome (job_names order) (λ names. job ≡ names.0) → IfSome (job_names order) (λ names. vex ≡ names.1)
+    → PlanUnder files job vex outcome → PlanOf files order outcome
+PlanOf-names files (Run j v workers piece) job vex outcome some same alike is = same_names files job j vex v outcome same alike is
+PlanOf-names files (Plain j v) job vex outcome some same alike is = same_names files job j vex v outcome same alike is
+PlanOf-names files (Check j v) job vex outcome some same alike is = same_names files job j vex v outcome same alike is
+PlanOf-names files (Status j v) job vex outcome some same alike is = same_names files job j vex v outcome same alike is
+PlanOf-names files (Dump file) job vex outcome some same alike is = absurd (cc)
+PlanOf-names files (Gen seed seconds workers piece) job vex outcome some same alike is = absurd (cc)

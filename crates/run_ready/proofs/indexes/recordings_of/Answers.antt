@@ -1,0 +1,62 @@
+use Rattle.std.proofs.Common.{◌∙◌, ◌<◌, ◌^◌, length, sym, ap, subst, arith}
+use Rattle.std.specs.List.{All}
+use Rattle.std.proofs.lemmas.Result.{err_from_is_err_and, IfErr-weaker, on_ok_weaker}
+use Rattle.std.proofs.lemmas.Slice.Zip.{AllZip-long}
+use Rattle.frame_index.proofs.ToldLemmas.{WhereTold-both}
+use Rattle.dev_traits.proofs.ToldLemmas.{WhereTold-weaker}
+use Rattle.run_ready.specs.declared.recordings.StationFiles.{StationFiles}
+use Rattle.run_ready.specs.Due.{IsDue}
+use Rattle.run_ready.specs.Sizes.{IsSizedBy, slots_together}
+use Rattle.run_ready.proofs.ToldLemmas.{WhereTold-then}
+use Rattle.run_ready.proofs.FilesLemmas.{bound-sized}
+use Rattle.run_ready.proofs.RecordingLemmas.{IsDue-no_file, recordings_answer-slots, recordings_answer-foreign}
+use Rattle.run_ready.proofs.indexes.recordings_of.Goals as goal
+
+pub returns-in_err-sized-clause-due : goal.returns-in_err-sized-clause-due
+returns-in_err-sized-clause-due g c =
+    let p = err_from_is_err_and c.from_residual.result c.from_residual.ensures.1 in
+    rw (p.1, p.2)
+    (WhereTold-weaker (g.F.Shelf.told c.args.shelf.now) _ _
+    (λ files due. IsDue-no_file files c.args.stations.now c.in_err-sized.field-0.0 due) c.in_err-sized.ensures.due)
+
+pub slots_together-slots-requires-clause-few : goal.slots_together-slots-requires-clause-few
+slots_together-slots-requires-clause-few g c =
+    omega (arith, ap length c.deref.ensures.value, AllZip-long IsSizedBy c.args.stations.now c.in_ok-sized.sized.items c.in_ok-sized.ensures.sized, c.requires.few)
+
+pub slots_together-slots-requires-clause-bounds : goal.slots_together-slots-requires-clause-bounds
+slots_together-slots-requires-clause-bounds g c =
+    subst (All (λ (z : StationFiles). z.slots < 2 ^ 96)) (sym c.deref.ensures.value)
+    (bound-sized c.args.stations.now c.in_ok-sized.sized.items c.in_ok-sized.ensures.sized)
+
+pub returns-then-slots-gt-MOST_SLOTS-clause-due : goal.returns-then-slots-gt-MOST_SLOTS-clause-due
+returns-then-slots-gt-MOST_SLOTS-clause-due g c =
+    WhereTold-both (g.F.Shelf.told c.args.shelf.now) _ _ _
+    (λ files are none. recordings_answer-slots files c.args.stations.now c.in_ok-sized.sized.items c.slots_together-slots.result
+    c.in_ok-sized.ensures.sized are (c.slots_together-slots.ensures ∙ ap slots_together c.deref.ensures.value) none c.if-slots-gt-MOST_SLOTS.true)
+    c.in_ok-sized.ensures.shelved c.in_ok-sized.ensures.there
+
+pub returns-clause-accepted : goal.returns-clause-accepted
+returns-clause-accepted g c =
+    let told = g.F.Shelf.told in
+    on_ok_weaker c.index_all.result
+    (λ agrees. WhereTold-then (told c.args.shelf.now) (told c.all_files.new.shelf) _ _ _
+    (λ files is none. is ∙ none) c.all_files.ensures.same
+    (WhereTold-both (told c.args.shelf.now) _ _ _
+    (λ files are none. recordings_answer-foreign files c.args.stations.now c.in_ok-sized.sized.items c.slots_together-slots.result
+    c.in_ok-sized.ensures.sized are (c.slots_together-slots.ensures ∙ ap slots_together c.deref.ensures.value) none c.if-slots-gt-MOST_SLOTS.false)
+    c.in_ok-sized.ensures.shelved c.in_ok-sized.ensures.there)
+    agrees)
+    c.index_all.ensures.agrees
+
+pub returns-clause-due : goal.returns-clause-due
+returns-clause-due g c =
+    let told = g.F.Shelf.told in
+    IfErr-weaker c.index_all.result _ _
+    (λ r due. WhereTold-then (told c.args.shelf.now) (told c.all_files.new.shelf) _ _ _
+    (λ files is late. subst (IsDue r) (sym is) late) c.all_files.ensures.same
+    (WhereTold-both (told c.args.shelf.now) _ _ _
+    (λ files are none. recordings_answer-foreign files c.args.stations.now c.in_ok-sized.sized.items c.slots_together-slots.result
+    c.in_ok-sized.ensures.sized are (c.slots_together-slots.ensures ∙ ap slots_together c.deref.ensures.value) none c.if-slots-gt-MOST_SLOTS.false)
+    c.in_ok-sized.ensures.shelved c.in_ok-sized.ensures.there)
+    due)
+    c.index_all.ensures.due

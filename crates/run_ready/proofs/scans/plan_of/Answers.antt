@@ -1,0 +1,10 @@
+use Rattle.std.proofs.Common.{arith}
+use Rattle.run_ready.proofs.JoinLemmas.{few-joined, length-joined}
+use Rattle.run_ready.proofs.scans.plan_of.Goals as goal
+
+pub returns-in-Ok-clause-few : goal.returns-in-Ok-clause-few
+returns-in-Ok-clause-few c = few-joined c.args.job.now c.args.list.now.scans c.in-Ok.plan c.in-Ok.ensures c.requires.few
+
+pub returns-in-Ok-clause-few_scans : goal.returns-in-Ok-clause-few_scans
+returns-in-Ok-clause-few_scans c =
+    omega (arith, length-joined c.args.job.now c.args.list.now.scans c.in-Ok.plan c.in-Ok.ensures, c.requires.few_scans)

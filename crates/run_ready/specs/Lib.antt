@@ -1,0 +1,6 @@
+pub mod Steps
+pub mod Due
+pub mod Recordings
+pub mod Sizes
+pub mod Outcome
+pub mod Stage

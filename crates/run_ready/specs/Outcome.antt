@@ -1,0 +1,100 @@
+-- What an order for a job comes to: the plan of the job, or the answer of the first thing that is wrong.
+use Rattle.std.specs.Prelude.{◌≡◌, ◌⊎◌, ℕ, nat_lt, if◌then◌else◌, Bool, true, false, List, [], length, slice_get, Option, None, Some, Result, Ok, Err}
+use Rattle.std.specs.Option.{option_map_or}
+use Rattle.corr_model.specs.Plan.{Files}
+use Rattle.vex_reader.specs.declared.file.VexFile.{VexFile}
+use Rattle.vex_reader.specs.declared.fault.VexFault.{VexFault}
+use Rattle.vex_reader.specs.Grammar.{IsFileOf, IsVexFaultOf}
+use Rattle.vex_schedule.specs.declared.scan.Scan.{Scan}
+use Rattle.vex_schedule.specs.Schedule.{schedule_of}
+use Rattle.job_text.specs.Job.{JobFields, StationFields}
+use Rattle.job_text.specs.Answer.{job_in}
+use Rattle.job_text.specs.Inline.{scans_of}
+use Rattle.job_join.specs.declared.fault.Quantity.{Quantity}
+use Rattle.job_join.specs.declared.fault.Quantity.TheVariants.{Schedule, Job}
+use Rattle.job_join.specs.declared.fault.JoinFault.{JoinFault}
+use Rattle.job_join.specs.declared.fault.JoinFault.TheVariants.{UnknownScan, UnknownStation, RateDiffers, ChannelDiffers, ProductDiffers, FrameRate, NoModel, NoClock, Limit, Memory}
+use Rattle.job_join.specs.Joined.{joined}
+use Rattle.job_plan.specs.declared.plan.Plan.{Plan}
+use Rattle.run_words.specs.declared.order.Order.{Order}
+use Rattle.run_words.specs.declared.order.Order.TheVariants.{Run, Plain, Check, Status, Dump, Gen}
+use Rattle.run_notes.specs.Answers.{Answer, vex_answer, schedule_answer, job_answer, join_answer, limit_answer, no_file_answer}
+use Rattle.run_notes.specs.Refusals.{Outcomes}
+use Rattle.run_ready.specs.Steps.{Is, Then, answered, unless}
+use Rattle.run_ready.specs.Recordings.{recordings_answer}
+
+-- the job's file and the schedule's, where the order is for a job
+abbrev pub job_names : Order → Option (List ℕ × Option (List ℕ))
+job_names (Run job vex workers piece) = Some (job, vex)
+job_names (Plain job vex) = Some (job, vex)
+job_names (Check job vex) = Some (job, vex)
+job_names (Status job vex) = Some (job, vex)
+job_names (Dump file) = None
+job_names (Gen seed seconds workers piece) = None
+
+-- a text under a name: it is there, and has at most so many bytes
+abbrev pub text_under : Files → List ℕ → Quantity → ℕ → Result (List ℕ) Answer
+text_under files name quantity most = by (files name)
+  where
+    by : Option (List ℕ) → Result (List ℕ) Answer
+    by None = Err (no_file_answer name)
+    by (Some text) = if nat_lt most (length text) then Err (limit_answer quantity (length text)) else Ok text
+
+-- the scans of a schedule's text, or its fault
+abbrev pub ScansOf : List ℕ → Outcomes (List Scan)
+ScansOf text (Ok scans) = (file : VexFile) × IsFileOf text file × (schedule_of file ≡ Ok scans)
+ScansOf text (Err answer) =
+    ((fault : VexFault) × IsVexFaultOf text fault × (answer ≡ vex_answer fault))
+    ⊎ ((file : VexFile) × IsFileOf text file × (answered schedule_answer (schedule_of file) ≡ Err answer))
+
+-- the name of the take, the station or the scan that a cause speaks of
+abbrev pub take_name : JobFields → ℕ → List ℕ
+take_name job number = option_map_or (λ name. name) (slice_get job.takes number) []
+
+abbrev pub key_name : JobFields → ℕ → List ℕ
+key_name job number = option_map_or (λ (s : StationFields). s.key) (slice_get job.stations number) []
+
+abbrev pub scan_name : List Scan → ℕ → List ℕ
+scan_name scans number = option_map_or (λ (s : Scan). s.name) (slice_get scans number) []
+
+-- the answer of a cause for which a job and a schedule do not go together
+abbrev pub cause_answer : JobFields → List Scan → JoinFault → Answer
+cause_answer job scans (UnknownScan number) = join_answer (UnknownScan number) (take_name job number)
+cause_answer job scans (UnknownStation number) = join_answer (UnknownStation number) (key_name job number)
+cause_answer job scans (RateDiffers number) = join_answer (RateDiffers number) (scan_name scans number)
+cause_answer job scans (ChannelDiffers number) = join_answer (ChannelDiffers number) (scan_name scans number)
+cause_answer job scans (ProductDiffers number) = join_answer (ProductDiffers number) (scan_name scans number)
+cause_answer job scans (FrameRate number) = join_answer (FrameRate number) (key_name job number)
+cause_answer job scans (NoModel number) = join_answer (NoModel number) (key_name job number)
+cause_answer job scans (NoClock number) = join_answer (NoClock number) (key_name job number)
+cause_answer job scans (Limit quantity value) = limit_answer quantity value
+cause_answer job scans Memory = join_answer Memory []
+
+-- the plan of a job and a schedule's scans, unless they do not go together or something is wrong with the recordings
+abbrev pub Joins : Files → JobFields → List Scan → Outcomes Plan
+Joins files job scans =
+    Then (Is (answered (cause_answer job scans) (joined job scans)))
+    (λ (plan : Plan). Is (unless (recordings_answer files plan.stations) plan))
+
+-- the job of a text, read beside a schedule or, inline, without one
+abbrev pub JobOf : Files → List ℕ → Bool → Outcomes JobFields
+JobOf files name inline =
+    Then (Is (text_under files name Job 4194304)) (λ text. Is (answered job_answer (job_in inline text)))
+
+-- the scans of the schedule under a name
+abbrev pub ScheduleOf : Files → List ℕ → Outcomes (List Scan)
+ScheduleOf files name = Then (Is (text_under files name Schedule 8388608)) ScansOf
+
+-- Without a schedule a job states its scans itself; else the schedule comes before the job.
+abbrev pub PlanUnder : Files → List ℕ → Option (List ℕ) → Outcomes Plan
+PlanUnder files job None = Then (JobOf files job true) (λ fields. Joins files fields (scans_of fields))
+PlanUnder files job (Some vex) =
+    Then (ScheduleOf files vex) (λ scans. Then (JobOf files job false) (λ fields. Joins files fields scans))
+
+-- the plan of an order for a job
+abbrev pub PlanOf : Files → Order → Outcomes Plan
+PlanOf files order = by (job_names order)
+  where
+    by : Option (List ℕ × Option (List ℕ)) → Outcomes Plan
+    by None outcome = ⊥
+    by (Some names) outcome = PlanUnder files names.0 names.1 outcome

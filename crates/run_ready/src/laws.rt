@@ -1,0 +1,16 @@
+//! What follows from the definitions. The functions do nothing: a call brings its law.
+ghost use Rattle.std.specs.Prelude.{◌≡◌, Result};
+ghost use Rattle.corr_model.specs.Plan.{Files};
+ghost use Rattle.job_plan.specs.declared.plan.Plan.{Plan};
+ghost use Rattle.run_words.specs.declared.order.Order.{Order};
+ghost use Rattle.run_notes.specs.Answers.{Answer};
+ghost use Rattle.run_ready.specs.Outcome.{PlanOf};
+
+/// An order comes to one plan, or to one answer, and never to two.
+pub fn one_outcome()
+    ensures { (files : Files) (order : Order) (a b : Result Plan Answer) → PlanOf files order a → PlanOf files order b → a ≡ b }
+{
+    vex_reader::laws::one_file();
+    vex_reader::laws::one_fault();
+    vex_reader::laws::not_both();
+}

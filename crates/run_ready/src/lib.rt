@@ -1,0 +1,19 @@
+//! What a command has before its output: the schedule and the job are read, joined to a plan, and each station's recording is
+//! indexed. It stands on `vex_reader`, `vex_schedule`, `job_text` and `job_join` for the plan, on `frame_index` for the
+//! indexes, on a `Shelf` for the files, and on `run_notes` for refusals.
+//!
+//! `specs/Outcome` says what a job comes to: its plan, or the answer of the first thing that is wrong, in the order of the
+//! steps. A job comes to one of these and no other (`laws`).
+#![tactic(auto)]
+
+mod indexes;
+pub mod laws;
+mod ready;
+mod recordings;
+mod scans;
+mod texts;
+
+pub use ready::{Ready, prepare};
+
+#[cfg(test)]
+mod tests;

@@ -1,0 +1,200 @@
+//! The schedule and the job of an order, and the plan that comes of both.
+ghost use Rattle.std.specs.Prelude.{◌≡◌, ◌≢◌, ◌≤◌, ◌<◌, ◌^◌, length, IsTrue, IsSome, IfOk, IfErr, OnOk, Ok};
+ghost use Rattle.std.specs.List.{All};
+ghost use Rattle.std.specs.Str.{IsUtf8};
+ghost use Rattle.dev_traits.specs.Told.{WhereTold};
+ghost use Rattle.job_text.specs.Answer.{job_in};
+ghost use Rattle.job_join.specs.Joined.{joined};
+ghost use Rattle.run_notes.specs.Answers.{job_answer};
+ghost use Rattle.run_notes.specs.Refusals.{IsCause, due_answer};
+ghost use Rattle.run_notes.specs.Counted.{CountsReads};
+ghost use Rattle.run_ready.specs.Steps.{Is, answered};
+ghost use Rattle.run_ready.specs.Outcome.{take_name, key_name, scan_name, cause_answer, ScansOf, ScheduleOf, JobOf};
+ghost use Rattle.run_ready.specs.Sizes.{HasFewFiles};
+ghost use Rattle.run_ready.specs.Stage.{IsOfFiles, IsOfTexts};
+
+use crate::texts::load_text;
+use dev_traits::Shelf;
+use job_join::{JoinFault, Quantity, join_job};
+use job_plan::Plan0;
+use job_text::{Job, JobFault, JobKind, read_job};
+use num_time::Name;
+use run_notes::{Due, Refusal};
+use std::alloc::{AllocError, Global};
+use vex_reader::{VexFault, VexKind};
+use vex_schedule::{ScanList, SchedFault, SchedKind, schedule};
+
+// The greatest lengths of a schedule and of a job's text, in bytes.
+const MOST_SCHEDULE_BYTES: u64 = 8_388_608;
+
+const MOST_JOB_BYTES: u64 = 4_194_304;
+
+// The refusal of a text that is no VEX file.
+fn vex_refusal(fault: VexFault) -> Refusal
+    ensures memory { fault.kind ≡ VexKind.Memory → result ≡ Refusal.Memory }
+    ensures due { fault.kind ≢ VexKind.Memory → result ≡ Refusal.Due (Due.Vex fault) }
+{
+    match fault.kind {
+        VexKind::Memory => Refusal::Memory,
+        _ => Refusal::Due(Due::Vex(fault)),
+    }
+}
+
+// The refusal of a VEX file without a schedule.
+fn schedule_refusal(fault: SchedFault) -> Refusal
+    ensures memory { fault.kind ≡ SchedKind.Memory → result ≡ Refusal.Memory }
+    ensures due { fault.kind ≢ SchedKind.Memory → result ≡ Refusal.Due (Due.Schedule fault) }
+{
+    match fault.kind {
+        SchedKind::Memory => Refusal::Memory,
+        _ => Refusal::Due(Due::Schedule(fault)),
+    }
+}
+
+// The refusal of a text without a job.
+fn job_refusal(fault: JobFault) -> Refusal
+    ensures memory { fault.kind ≡ JobKind.Memory → result ≡ Refusal.Memory }
+    ensures due { fault.kind ≢ JobKind.Memory → result ≡ Refusal.Due (Due.Job fault) }
+{
+    match fault.kind {
+        JobKind::Memory => Refusal::Memory,
+        _ => Refusal::Due(Due::Job(fault)),
+    }
+}
+
+// The scans of a schedule's text.
+fn scans_of(alloc: Global, text: &[u8]) -> Result<ScanList, Refusal>
+    ensures scans { IfOk result (λ list. ScansOf text.now (Ok list.scans)) }
+    ensures few { IfOk result (λ list. length list.scans ≤ length text.now) }
+    ensures cause { IfErr result (λ r. IsCause r (ScansOf text.now)) }
+    ensures stage { IfErr result IsOfTexts }
+{
+    let file = match vex_reader::read(alloc, text) {
+        Ok(file) => file,
+        Err(fault) => return Err(vex_refusal(fault)),
+    };
+    match schedule(alloc, &file) {
+        Ok(list) => Ok(list),
+        Err(fault) => Err(schedule_refusal(fault)),
+    }
+}
+
+// The job of a text.
+fn job_of(alloc: Global, text: &[u8], inline: bool) -> Result<Job, Refusal>
+    requires { length text.now < 2 ^ 32 }
+    ensures job { IfOk result (λ job. job_in inline text.now ≡ Ok job) }
+    ensures cause { IfErr result (λ r. IsCause r (Is (answered job_answer (job_in inline text.now)))) }
+    ensures stage { IfErr result IsOfTexts }
+{
+    match read_job(alloc, text, inline) {
+        Ok(job) => Ok(job),
+        Err(fault) => Err(job_refusal(fault)),
+    }
+}
+
+/// The schedule under a name.
+pub fn load_schedule<F: Shelf>(
+    alloc: Global,
+    shelf: &mut F,
+    name: &Name,
+) -> Result<ScanList, Refusal>
+    requires text { IsUtf8 name.now }
+    ensures same { F.told shelf.new ≡ F.told shelf.old }
+    ensures scans { IfOk result (λ list. WhereTold (F.told shelf.old) (λ files. ScheduleOf files name.now (Ok list.scans))) }
+    ensures few { IfOk result (λ list. length list.scans ≤ 8388608) }
+    ensures cause { IfErr result (λ r. WhereTold (F.told shelf.old) (λ files. IsCause r (ScheduleOf files name.now))) }
+    ensures stage { IfErr result IsOfFiles }
+    ensures counts { CountsReads (F.faults shelf.old) (F.faults shelf.new) result }
+{
+    let text = load_text(alloc, shelf, name, Quantity::Schedule, MOST_SCHEDULE_BYTES)?;
+    scans_of(alloc, &text)
+}
+
+/// The job under a name, read beside a schedule or, inline, without one.
+pub fn load_job<F: Shelf>(
+    alloc: Global,
+    shelf: &mut F,
+    name: &Name,
+    inline: bool,
+) -> Result<Job, Refusal>
+    requires text { IsUtf8 name.now }
+    ensures same { F.told shelf.new ≡ F.told shelf.old }
+    ensures job { IfOk result (λ job. WhereTold (F.told shelf.old) (λ files. JobOf files name.now inline (Ok job))) }
+    ensures rate { IfOk result (λ job. IsTrue inline → IsSome job.rate) }
+    ensures few { IfOk result (λ job. All HasFewFiles job.stations) }
+    ensures few_scans { IfOk result (λ job. length job.scans ≤ 8388608) }
+    ensures cause { IfErr result (λ r. WhereTold (F.told shelf.old) (λ files. IsCause r (JobOf files name.now inline))) }
+    ensures stage { IfErr result IsOfFiles }
+    ensures counts { CountsReads (F.faults shelf.old) (F.faults shelf.new) result }
+{
+    let text = load_text(alloc, shelf, name, Quantity::Job, MOST_JOB_BYTES)?;
+    job_of(alloc, &text, inline)
+}
+
+// The name of a take of a job.
+fn take_name(alloc: Global, job: &Job, number: usize) -> Result<Name, AllocError>
+    ensures { IfOk result (λ name. name ≡ take_name job.now number) }
+{
+    if number < job.takes.len() {
+        let (name, _) = job.takes.at(number);
+        Name::new(alloc, name)
+    } else {
+        Name::new(alloc, &[])
+    }
+}
+
+// The key of a station of a job.
+fn key_name(alloc: Global, job: &Job, number: usize) -> Result<Name, AllocError>
+    ensures { IfOk result (λ name. name ≡ key_name job.now number) }
+{
+    match job.stations.items().get(number) {
+        Some(station) => station.key.copy(alloc),
+        None => Name::new(alloc, &[]),
+    }
+}
+
+// The name of a scan of a schedule.
+fn scan_name(alloc: Global, list: &ScanList, number: usize) -> Result<Name, AllocError>
+    ensures { IfOk result (λ name. name ≡ scan_name list.now.scans number) }
+{
+    match list.scans.items().get(number) {
+        Some(scan) => scan.name.copy(alloc),
+        None => Name::new(alloc, &[]),
+    }
+}
+
+// The verdict of a cause for which a job and a schedule do not go together.
+fn join_due(alloc: Global, job: &Job, list: &ScanList, fault: JoinFault) -> Result<Due, AllocError>
+    ensures due { IfOk result (λ due. due_answer due ≡ cause_answer job.now list.now.scans fault) }
+    ensures memory { OnOk result (fault ≢ JoinFault.Memory) }
+    ensures stage { IfOk result (λ due. IsOfTexts (Refusal.Due due)) }
+{
+    match fault {
+        JoinFault::UnknownScan(n) => Ok(Due::Join(fault, take_name(alloc, job, n)?)),
+        JoinFault::UnknownStation(n) => Ok(Due::Join(fault, key_name(alloc, job, n)?)),
+        JoinFault::RateDiffers(n) => Ok(Due::Join(fault, scan_name(alloc, list, n)?)),
+        JoinFault::ChannelDiffers(n) => Ok(Due::Join(fault, scan_name(alloc, list, n)?)),
+        JoinFault::ProductDiffers(n) => Ok(Due::Join(fault, scan_name(alloc, list, n)?)),
+        JoinFault::FrameRate(n) => Ok(Due::Join(fault, key_name(alloc, job, n)?)),
+        JoinFault::NoModel(n) => Ok(Due::Join(fault, key_name(alloc, job, n)?)),
+        JoinFault::NoClock(n) => Ok(Due::Join(fault, key_name(alloc, job, n)?)),
+        JoinFault::Limit(quantity, value) => Ok(Due::Limit(quantity, value)),
+        JoinFault::Memory => Err(AllocError),
+    }
+}
+
+/// The plan of a job and a schedule.
+pub fn plan_of(alloc: Global, job: &Job, list: &ScanList) -> Result<Plan0, Refusal>
+    requires few { All HasFewFiles job.now.stations }
+    requires few_scans { length list.now.scans ≤ 8388608 }
+    ensures plan { IfOk result (λ plan. Is (answered (cause_answer job.now list.now.scans) (joined job.now list.now.scans)) (Ok plan)) }
+    ensures few { IfOk result (λ plan. All (λ s. length s.files < 2 ^ 32) plan.stations) }
+    ensures few_scans { IfOk result (λ plan. length plan.scans ≤ 8388608) }
+    ensures cause { IfErr result (λ r. IsCause r (Is (answered (cause_answer job.now list.now.scans) (joined job.now list.now.scans)))) }
+    ensures stage { IfErr result IsOfTexts }
+{
+    match join_job(alloc, job, list) {
+        Ok(plan) => Ok(plan),
+        Err(fault) => Err(Refusal::Due(join_due(alloc, job, list, fault)?)),
+    }
+}

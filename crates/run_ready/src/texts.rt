@@ -1,0 +1,117 @@
+//! Files by their names: their sizes, and those that are read whole.
+ghost use Rattle.std.specs.Prelude.{◌≡◌, ◌≤◌, ◌+◌, length, IfOk, IfErr, OnOk, Some, Ok};
+ghost use Rattle.std.specs.Str.{IsUtf8};
+ghost use Rattle.dev_traits.specs.Fault.{Counts};
+ghost use Rattle.dev_traits.specs.Files.{size_of, bytes_of};
+ghost use Rattle.dev_traits.specs.Told.{WhereTold};
+ghost use Rattle.run_notes.specs.Refusals.{IsCause, IsNoVerdict};
+ghost use Rattle.run_notes.specs.Counted.{CountsReads};
+ghost use Rattle.run_ready.specs.Steps.{Is};
+ghost use Rattle.run_ready.specs.Due.{IsDue};
+ghost use Rattle.run_ready.specs.Sizes.{no_file, ReadsOn};
+ghost use Rattle.run_ready.specs.Outcome.{text_under};
+ghost use Rattle.run_ready.specs.Stage.{IsOfFiles};
+
+use dev_traits::{Failed, Shelf};
+use job_join::Quantity;
+use num_time::Name;
+use run_notes::{Due, Refusal};
+use std::alloc::Global;
+
+// A name, as the text that it is.
+fn text_of(name: &Name) -> &str
+    requires { IsUtf8 name.now }
+    ensures { result.now ≡ name.now }
+{
+    str::from_utf8(name.bytes()).unwrap()
+}
+
+/// The length of a file, in bytes.
+pub fn file_size<F: Shelf>(alloc: Global, shelf: &mut F, name: &Name) -> Result<u64, Refusal>
+    requires text { IsUtf8 name.now }
+    ensures same { F.told shelf.new ≡ F.told shelf.old }
+    ensures size { IfOk result (λ size. WhereTold (F.told shelf.old) (λ files. size_of (files name.now) ≡ Some size)) }
+    ensures due { IfErr result (λ r. WhereTold (F.told shelf.old) (λ files. IsDue r (no_file files name.now))) }
+    ensures stage { IfErr result IsOfFiles }
+    ensures counts { CountsReads (F.faults shelf.old) (F.faults shelf.new) result }
+{
+    match shelf.size(text_of(name)) {
+        Ok(Some(size)) => Ok(size),
+        Ok(None) => Err(Refusal::Due(Due::NoFile(name.copy(alloc)?))),
+        Err(_) => Err(Refusal::Read),
+    }
+}
+
+/// The bytes of a file, of which no more than `most` are read. Its size is looked at before it is read; those bytes that the
+/// shelf does not give are zero.
+pub fn load_text<F: Shelf>(
+    alloc: Global,
+    shelf: &mut F,
+    name: &Name,
+    quantity: Quantity,
+    most: u64,
+) -> Result<Vec<u8>, Refusal>
+    requires text { IsUtf8 name.now }
+    ensures same { F.told shelf.new ≡ F.told shelf.old }
+    ensures text { IfOk result (λ text. WhereTold (F.told shelf.old) (λ files. Is (text_under files name.now quantity most) (Ok text.items))) }
+    ensures short { IfOk result (λ text. length text.items ≤ most) }
+    ensures cause { IfErr result (λ r. WhereTold (F.told shelf.old) (λ files. IsCause r (Is (text_under files name.now quantity most)))) }
+    ensures stage { IfErr result IsOfFiles }
+    ensures counts { CountsReads (F.faults shelf.old) (F.faults shelf.new) result }
+{
+    let size = file_size(alloc, shelf, name)?;
+    if size > most {
+        return Err(Refusal::Due(Due::Limit(quantity, u128::from(size))));
+    }
+    read_whole(alloc, shelf, name, size)
+}
+
+// The bytes of a file of this length; those that the shelf does not give are zero.
+fn read_whole<F: Shelf>(
+    alloc: Global,
+    shelf: &mut F,
+    name: &Name,
+    size: u64,
+) -> Result<Vec<u8>, Refusal>
+    requires text { IsUtf8 name.now }
+    ensures same { F.told shelf.new ≡ F.told shelf.old }
+    ensures bytes { IfOk result (λ bytes. WhereTold (F.told shelf.old) (λ files. size_of (files name.now) ≡ Some size → files name.now ≡ Some bytes.items)) }
+    ensures length { IfOk result (λ bytes. length bytes.items ≡ size) }
+    ensures cause { IfErr result IsNoVerdict }
+    ensures stage { IfErr result IsOfFiles }
+    ensures counts { CountsReads (F.faults shelf.old) (F.faults shelf.new) result }
+{
+    let mut bytes = vec![in alloc; 0u8; size as usize]?;
+    match fill(shelf, text_of(name), &mut bytes) {
+        Ok(()) => Ok(bytes),
+        Err(_) => Err(Refusal::Read),
+    }
+}
+
+// Fills the buffer from a file's front on, as far as the shelf gives bytes.
+fn fill<F: Shelf>(shelf: &mut F, name: &str, buf: &mut [u8]) -> Result<(), Failed>
+    ensures same { F.told shelf.new ≡ F.told shelf.old }
+    ensures filled { OnOk result (WhereTold (F.told shelf.old) (λ files. length (bytes_of (files name.now)) ≡ length buf.old → buf.new ≡ bytes_of (files name.now))) }
+    ensures counts { Counts (F.faults shelf.old) (F.faults shelf.new) result }
+{
+    let mut at = 0;
+    while at < buf.len() {
+        let n = read_on(shelf, name, at, buf)?;
+        if n == 0 {
+            break;
+        }
+        at += n;
+    }
+    Ok(())
+}
+
+// Reads into the buffer from place `at` on, where it has the file's front before that place.
+fn read_on<F: Shelf>(shelf: &mut F, name: &str, at: usize, buf: &mut [u8]) -> Result<usize, Failed>
+    requires { at ≤ length buf.old }
+    ensures same { F.told shelf.new ≡ F.told shelf.old }
+    ensures within { IfOk result (λ n. at + n ≤ length buf.old) }
+    ensures read { IfOk result (λ n. WhereTold (F.told shelf.old) (λ files. ReadsOn (bytes_of (files name.now)) at buf.old n buf.new)) }
+    ensures counts { Counts (F.faults shelf.old) (F.faults shelf.new) result }
+{
+    shelf.read_at(name, at as u64, &mut buf[at..])
+}

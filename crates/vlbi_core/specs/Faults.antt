@@ -1,0 +1,17 @@
+-- The refusal of a fault of the output.
+use Rattle.std.specs.Prelude.{Result, Ok, Err}
+use Rattle.station_stream.specs.declared.fault.StreamFault.{StreamFault}
+use Rattle.station_stream.specs.declared.fault.StreamFault.TheVariants.{Read, Memory}
+use Rattle.vis_writer.specs.declared.fault.WriteFault.{WriteFault}
+use Rattle.vis_writer.specs.declared.fault.WriteFault.TheVariants.{Source, Sink}
+use Rattle.run_notes.specs.declared.refusal.Refusal.{Refusal}
+use Rattle.run_notes.specs.declared.refusal.Refusal.TheVariants.{Memory as MemoryRefusal, Read as ReadRefusal, Write}
+
+abbrev pub refusal_of : WriteFault StreamFault → Refusal
+refusal_of (Source Read) = ReadRefusal
+refusal_of (Source Memory) = MemoryRefusal
+refusal_of Sink = Write
+
+abbrev pub answer_with : Result (Unit {0}) (WriteFault StreamFault) → Result (Unit {0}) Refusal
+answer_with (Ok x) = Ok x
+answer_with (Err fault) = Err (refusal_of fault)

@@ -9,6 +9,8 @@
 mod board;
 mod steps;
 mod sums;
+#[cfg(test)]
+mod tests;
 
 pub use board::{BoardSeat, SumBoard};
 pub use sums::{EpochSums, Sums};

@@ -29,6 +29,14 @@ impl Sums {
         Sums { totals, pieces }
     }
 
+    // The totals, for tests to compare.
+    #[cfg(test)]
+    pub(crate) fn totals(&self) -> &[u64]
+        ensures { result.now ≡ self.now.totals }
+    {
+        &self.totals
+    }
+
     /// The cells of an epoch: of each three totals in a row the first two less the bias, and the third,
     /// the count, as it is.
     pub fn unbias(self, bias: u64) -> EpochSums

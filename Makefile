@@ -1,4 +1,4 @@
-# make demo    build the proved program and correlate the two recordings of demo/
+# make demo    build the proved program and correlate the recordings of demo/ by its two jobs
 # make test    prove everything, try the edits that must fail, run the tests and the programs
 
 PROGRAM = crates/vlbi_main/out/vlbi_main
@@ -12,6 +12,9 @@ demo: bin/vlbi
 	@od -A d -t x1 -v demo/records.vis
 	@echo "its cells, re im count:"
 	@od -A n -t d8 -v -w24 -j 104 -N 48 demo/records.vis | tr -s ' '
+	@cd demo && ../bin/vlbi journal plain --job sky.txt --vex sky.vex > sky.vis
+	@echo "sky.vis, $$(stat -c %s demo/sky.vis) bytes; the cells of channel CH01 by rising lag from -8, re im count:"
+	@od -A n -t d8 -v -w24 -j 129 -N 384 demo/sky.vis | tr -s ' '
 
 test:
 	bash .ci/run

@@ -25,11 +25,11 @@ use Rattle.run_ready.specs.Outcome.{text_under, ScansOf, cause_answer, Joins, Jo
 abbrev pub AreOne : {A : Type 0} → Outcomes A → Type 0
 AreOne {A} outcomes = (a b : Result A Answer) → outcomes a → outcomes b → a ≡ b
 
-Is-one : {A : Type 0} (given : Result A Answer) → AreOne (Is given)
+pub Is-one : {A : Type 0} (given : Result A Answer) → AreOne (Is given)
 Is-one given a b p q = p ∙ sym q
 
 -- two steps with one outcome each have one
-Then-one : {A B : Type 0} (first : Outcomes A) (next : A → Outcomes B) → AreOne first → ((a : A) → AreOne (next a)) → AreOne (Then first next)
+pub Then-one : {A B : Type 0} (first : Outcomes A) (next : A → Outcomes B) → AreOne first → ((a : A) → AreOne (next a)) → AreOne (Then first next)
 Then-one {A} {B} first next one ones = by
   where
     same : (a c : A) → first (Ok a) → first (Ok c) → a ≡ c

@@ -24,7 +24,7 @@ use Rattle.run_ready.proofs.LawLemmas.{AreOne, Then-one, Is-one}
 use Rattle.vis_writer.specs.Writes.{Appended}
 use Rattle.vis_writer.proofs.WritesLemmas.{where_both}
 use Rattle.vlbi_core.specs.Run.{plain_order, OutcomeOf, IsVerdictStatus, IsStatus, IsVerdict, IsAppended, IsLineOf, IsNoted}
-use Rattle.vlbi_core.specs.Steps.{IsOfWords, IsWordedBy, IsPartly}
+use Rattle.vlbi_core.specs.Steps.{IsOfWords, IsWordedBy, IsPartly, MatchDue}
 
 -- ---- outcomes
 
@@ -316,6 +316,20 @@ part-output told told' texts order plan old new (Err r) same is there written st
     (λ files planned appended. partly-output (OutcomeOf texts files) files old new plan r (outcome-plan texts files order plan is planned) stage appended.part)
     there
     (subst (λ (o : Option Files). WhereTold o (λ files. Appended {T = Unit {0}} old (output plan files) new (Err r))) same written)
+
+-- with the statuses of what is wrong nothing
+pub due-nothing : (r : Refusal) (P : Type 0) → MatchDue r P → IsVerdictStatus (answer_of r).status → P
+due-nothing Memory P fact is = absurd (verdict-not 1 1 is refl (inr (inl refl)))
+due-nothing (DueRefusal due) P fact is = fact
+due-nothing Read P fact is = absurd (verdict-not 7 7 is refl (inr (inr (inl refl))))
+due-nothing Write P fact is = absurd (verdict-not 9 9 is refl (inr (inr (inr refl))))
+
+pub due-output : {T : Type 0} (result : Result T Refusal) (P : Type 0) → IfErr result IsNoVerdict → IfErr result (λ r. MatchDue r P)
+due-output (Ok x) P stage = tt
+due-output (Err Memory) P stage = tt
+due-output (Err (DueRefusal due)) P stage = absurd stage
+due-output (Err Read) P stage = tt
+due-output (Err Write) P stage = tt
 
 -- ---- notes
 

@@ -37,3 +37,10 @@ IsPartly Memory outcomes files old new = (new ≡ old) ⊎ IsPart outcomes files
 IsPartly (DueRefusal due) outcomes files old new = new ≡ old
 IsPartly Read outcomes files old new = (new ≡ old) ⊎ IsPart outcomes files old new
 IsPartly Write outcomes files old new = IsPart outcomes files old new
+
+-- a fact where the call was refused for what it was given
+abbrev pub MatchDue : Refusal → Type 0 → Type 0
+MatchDue Memory P = ⊤
+MatchDue (DueRefusal due) P = P
+MatchDue Read P = ⊤
+MatchDue Write P = ⊤

@@ -6,10 +6,10 @@ ghost use Rattle.job_plan.specs.declared.plan.Plan.{Plan};
 ghost use Rattle.job_plan.specs.Output.{output};
 ghost use Rattle.run_notes.specs.Counted.{CountsReads, CountsWrites};
 ghost use Rattle.run_notes.specs.Refusals.{IsCause};
-ghost use Rattle.vlbi_core.specs.Run.{texts_of, only_plain, plain_order, OutcomeOf, IsStatus, IsVerdict, IsAppended, IsSomeLine, IsLineOf, IsNoted};
+ghost use Rattle.vlbi_core.specs.Run.{texts_of, only_plain, plain_order, OutcomeOf, IsVerdictStatus, IsStatus, IsVerdict, IsAppended, IsSomeLine, IsLineOf, IsNoted};
 ghost use Rattle.run_words.specs.Orders.{AreTexts};
 ghost use Rattle.run_ready.specs.Outcome.{job_names};
-ghost use Rattle.vlbi_core.specs.Steps.{IsOfWords, IsWorded, IsPartly};
+ghost use Rattle.vlbi_core.specs.Steps.{IsOfWords, IsWorded, IsPartly, MatchDue};
 
 use crate::plain::write_plan;
 use dev_traits::{Shelf, Sink};
@@ -50,7 +50,8 @@ pub fn run<R, F: Shelf, S: Sink, N: Sink>(
     ensures words { result ≡ 2 → IsErr (plain_order (texts_of words.now)) }
     ensures wordless { IsErr (plain_order (texts_of words.now)) → (result ≡ 2) ⊎ (result ≡ 1) }
 
-    // What is appended.
+    // What is appended: with the statuses of what is wrong nothing, whether the shelf tells its files or not.
+    ensures nothing { IsVerdictStatus result → S.told out.new ≡ S.told out.old }
     ensures appended { WhereTold (F.told shelf.old) (λ files. IsAppended (OutcomeOf (texts_of words.now) files) files result (S.told out.old) (S.told out.new)) }
 
     // The shelf tells what it told.
@@ -89,6 +90,7 @@ fn plain<F: Shelf, S: Sink>(
     ensures cause { IfErr result (λ r. WhereTold (F.told shelf.old) (λ files. IsCause r (OutcomeOf (texts_of words.now) files))) }
     ensures words { IsWorded (plain_order (texts_of words.now)) result }
     ensures part { IfErr result (λ r. WhereTold (F.told shelf.old) (λ files. IsPartly r (OutcomeOf (texts_of words.now) files) files (S.told out.old) (S.told out.new))) }
+    ensures nothing { IfErr result (λ r. MatchDue r (S.told out.new ≡ S.told out.old)) }
     ensures reads { CountsReads (F.faults shelf.old) (F.faults shelf.new) result }
     ensures writes { CountsWrites (S.faults out.old) (S.faults out.new) result }
 {

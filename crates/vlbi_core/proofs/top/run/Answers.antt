@@ -3,7 +3,7 @@ use Rattle.dev_traits.specs.Fault.{HasRisen}
 use Rattle.run_notes.specs.Refusals.{answer_of}
 use Rattle.vis_writer.proofs.WritesLemmas.{where_then}
 use Rattle.vlbi_core.specs.Run.{texts_of, OutcomeOf}
-use Rattle.vlbi_core.proofs.TopLemmas.{OutcomeOf-one, verdict-done, verdict-refused, read-fault, write-fault, line-refused, noted-appends}
+use Rattle.vlbi_core.proofs.TopLemmas.{OutcomeOf-one, verdict-done, verdict-refused, read-fault, write-fault, line-refused, noted-appends, due-nothing}
 use Rattle.vlbi_core.proofs.top.run.Goals as goal
 
 pub returns-in-Ok-clause-verdict : goal.returns-in-Ok-clause-verdict
@@ -27,3 +27,6 @@ returns-in-Err-clause-note g c = (
   rw c.status.ensures (where_then (g.F.Shelf.told c.args.shelf.now) _ _ (λ files cause. line-refused (OutcomeOf (texts_of c.args.words.now) files) c.in-Err.refusal cause) c.in-Err.ensures.cause),
   noted-appends (answer_of c.in-Err.refusal).note _ _ _ _ c.write_note.result c.write_note.ensures,
 )
+
+pub returns-in-Err-clause-nothing : goal.returns-in-Err-clause-nothing
+returns-in-Err-clause-nothing g c = rw c.status.ensures (λ is. due-nothing c.in-Err.refusal _ c.in-Err.ensures.nothing is)

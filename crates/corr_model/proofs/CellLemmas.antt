@@ -1,11 +1,12 @@
 -- Cells add up in any grouping, and so a cell over a range is the sum of the cells over its parts.
-use Rattle.std.proofs.Common.{◌≡◌, ℕ, zero, suc, ◌+◌, ◌-◌, ◌*◌, ◌≤◌, ℤ, pos, negsuc, ◌*ℤ◌, ◌≤ℤ◌, neg_ℤ, FitsSigned, w8, to_z, of_z, refl, sym, ap, ◌∙◌, arith, add-zero, add-suc}
+use Rattle.std.specs.Prelude.{if◌then◌else◌}
+use Rattle.std.proofs.Common.{◌≡◌, ℕ, zero, suc, ◌+◌, ◌-◌, ◌*◌, ◌≤◌, ◌<◌, Bool, true, false, ℤ, pos, negsuc, ◌+ℤ◌, ◌*ℤ◌, ◌≤ℤ◌, neg_ℤ, FitsSigned, w8, to_z, of_z, refl, sym, ap, ◌∙◌, arith, add-zero, add-suc}
 use Rattle.std.proofs.lemmas.Int.{ints, to_z-of_z, unsigned_abs-mul}
 use Rattle.std.proofs.lemmas.Nat.{mul-le}
 use Rattle.std.specs.Int.RustNames.{unsigned_abs}
 use Rattle.corr_model.specs.declared.cell.Cell.{Cell}
 use Rattle.corr_model.specs.declared.cell.Pair.{Pair}
-use Rattle.corr_model.specs.Cell.{Samples, no_cell, cell_plus, sum_from, product_at, cell_in, IsSmall, IsProduct}
+use Rattle.corr_model.specs.Cell.{Samples, no_cell, cell_plus, is_inside, product_of, sum_from, product_at, cell_in, IsSmall, IsProduct}
 
 pub same_cell : (re re' im im' : ℤ) (n n' : ℕ) → re ≡ re' → im ≡ im' → n ≡ n'
     → ◌≡◌ {A = Cell} (record { re = re; im = im; count = n }) (record { re = re'; im = im'; count = n' })
@@ -44,6 +45,50 @@ cell_in-split z pair samples lag from middle to h k =
     ap (sum_from f from) parts
     ∙ sum_from-split f from (middle - from) (to - middle)
     ∙ ap (λ n. cell_plus (sum_from f from (middle - from)) (sum_from f n (to - middle))) place
+
+-- the cell of a range as a sum
+pub cell_in-sum : (z : Samples) (pair : Pair) (samples : ℕ) (lag : ℤ) (from to : ℕ)
+    → cell_in z pair samples lag from to ≡ sum_from (product_at z pair samples lag) from (to - from)
+unfolding cell_in
+cell_in-sum z pair samples lag from to = refl
+
+-- two sums of the same terms
+pub sum_from-same : (f g : ℕ → Cell) (from count : ℕ)
+    → ((k : ℕ) → k < count → f (from + k) ≡ g (from + k))
+    → sum_from f from count ≡ sum_from g from count
+sum_from-same f g from zero each = refl
+sum_from-same f g from (suc n) each =
+    ap (λ c. cell_plus c (f (from + n))) (sum_from-same f g from n (λ k h. each k (omega (arith, h))))
+    ∙ ap (cell_plus (sum_from g from n)) (each n (omega arith))
+
+-- what a sample adds, where it has the same values
+product_at-same : (z y : Samples) (p q : Pair) (samples : ℕ) (lag : ℤ) (n : ℕ)
+    → z p.a p.x (pos n) ≡ y q.a q.x (pos n)
+    → (is_inside (pos n +ℤ lag) samples ≡ true → z p.b p.y (pos n +ℤ lag) ≡ y q.b q.y (pos n +ℤ lag))
+    → product_at z p samples lag n ≡ product_at y q samples lag n
+product_at-same z y p q samples lag n first second = by (is_inside (pos n +ℤ lag) samples) second
+  where
+    by : (inside : Bool) → (inside ≡ true → z p.b p.y (pos n +ℤ lag) ≡ y q.b q.y (pos n +ℤ lag))
+        → (if inside then product_of (z p.a p.x (pos n)) (z p.b p.y (pos n +ℤ lag)) else no_cell)
+        ≡ (if inside then product_of (y q.a q.x (pos n)) (y q.b q.y (pos n +ℤ lag)) else no_cell)
+    by true there =
+        ap (λ v. product_of v (z p.b p.y (pos n +ℤ lag))) first ∙ ap (product_of (y q.a q.x (pos n))) (there refl)
+    by false there = refl
+
+-- A cell depends on the first station's values in its range, and on the second's in the range shifted by the lag as far as
+-- that is inside the scan; so neither a window that holds these nor another numbering of the stations changes it.
+pub cell_in-values : (z y : Samples) (p q : Pair) (samples : ℕ) (lag : ℤ) (from to : ℕ)
+    → ((n : ℕ) → from ≤ n → n < to → z p.a p.x (pos n) ≡ y q.a q.x (pos n))
+    → ((n : ℕ) → from ≤ n → n < to → is_inside (pos n +ℤ lag) samples ≡ true
+    → z p.b p.y (pos n +ℤ lag) ≡ y q.b q.y (pos n +ℤ lag))
+    → cell_in z p samples lag from to ≡ cell_in y q samples lag from to
+cell_in-values z y p q samples lag from to first second =
+    cell_in-sum z p samples lag from to
+    ∙ sum_from-same (product_at z p samples lag) (product_at y q samples lag) from (to - from)
+    (λ k h. product_at-same z y p q samples lag (from + k)
+    (first (from + k) (omega arith) (omega (arith, h)))
+    (second (from + k) (omega arith) (omega (arith, h))))
+    ∙ sym (cell_in-sum y q samples lag from to)
 
 pub cell_in-none : (z : Samples) (pair : Pair) (samples : ℕ) (lag : ℤ) (from : ℕ)
     → cell_in z pair samples lag from from ≡ no_cell

@@ -3,7 +3,7 @@ pub mod Sample
 pub mod Frames
 pub mod Delay
 pub mod Cell
-pub mod Plan
+pub mod Files
 pub mod Rotated
 pub mod Records
-pub mod Output
+pub mod Lags

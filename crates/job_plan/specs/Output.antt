@@ -1,10 +1,11 @@
 -- What a correlation appends: the record text over all cells of a plan.
-use Rattle.std.specs.Prelude.{ℕ, ◌+◌, ◌*◌, ◌/◌, min, ℤ, pos, ◌-ℤ◌, List, [], map, flat_map, slice_index_or}
+use Rattle.std.specs.Prelude.{ℕ, ◌+◌, ◌*◌, min, ℤ, List, [], map, flat_map, slice_index_or}
 use Rattle.std.specs.Int.{div_ceil}
 use Rattle.std.specs.List.{range_with_len}
 use Rattle.corr_model.specs.declared.cell.Cell.{Cell}
 use Rattle.corr_model.specs.Cell.{Samples, cell_in}
-use Rattle.corr_model.specs.Plan.{Files}
+use Rattle.corr_model.specs.Files.{Files}
+use Rattle.corr_model.specs.Lags.{lag_of}
 use Rattle.corr_model.specs.Records.{Head, HeadScan, vis_text}
 use Rattle.job_plan.specs.declared.plan.StationPlan.{StationPlan}
 use Rattle.job_plan.specs.declared.plan.ProductPlan.{ProductPlan}
@@ -12,10 +13,6 @@ use Rattle.job_plan.specs.declared.plan.BaselinePlan.{BaselinePlan}
 use Rattle.job_plan.specs.declared.plan.ScanPlan.{ScanPlan}
 use Rattle.job_plan.specs.declared.plan.Plan.{Plan}
 use Rattle.job_plan.specs.Values.{rotated}
-
--- the lags from -L/2 to L/2 - 1
-abbrev pub lag_of : ℕ → ℕ → ℤ
-lag_of lags i = pos i -ℤ pos (lags / 2)
 
 -- integrations of a scan: the last may be shorter
 abbrev pub integrations_of : Plan → ScanPlan → ℕ

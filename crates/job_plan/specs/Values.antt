@@ -4,7 +4,7 @@ use Rattle.std.specs.Prelude.{ℕ, ◌==◌, ℤ, pos, unsigned_abs, map, find, 
 use Rattle.corr_model.specs.Sample.{Timing, sample_of}
 use Rattle.corr_model.specs.Delay.{DelayModel}
 use Rattle.corr_model.specs.Cell.{Value, Samples}
-use Rattle.corr_model.specs.Plan.{Files, bytes_under}
+use Rattle.corr_model.specs.Files.{Files, bytes_under}
 use Rattle.corr_model.specs.Rotated.{value_at}
 use Rattle.job_plan.specs.declared.plan.Recorded.{Recorded}
 use Rattle.job_plan.specs.declared.plan.Band.{Band}

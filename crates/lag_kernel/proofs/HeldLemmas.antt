@@ -8,9 +8,8 @@ use Rattle.std.proofs.lemmas.List.{get_or-take, get_or-drop}
 use Rattle.corr_model.specs.declared.cell.Cell.{Cell}
 use Rattle.corr_model.specs.declared.cell.Pair.{Pair}
 use Rattle.corr_model.specs.Cell.{Value, Samples, no_cell, cell_plus, product_of, is_inside, product_at, sum_from, cell_in, AreSmall, IsSmall, IsProduct}
-use Rattle.corr_model.specs.Output.{lag_of}
-use Rattle.corr_model.proofs.CellLemmas.{IsGrown, IsGrown-none, IsGrown-more, product-small, cell_in-split}
-use Rattle.corr_model.proofs.RecordLemmas.{cell_in-sum}
+use Rattle.corr_model.specs.Lags.{lag_of}
+use Rattle.corr_model.proofs.CellLemmas.{IsGrown, IsGrown-none, IsGrown-more, product-small, cell_in-split, cell_in-sum}
 use Rattle.lag_kernel.specs.Held.{AddsEach, value_inside, HoldsValues, AllSmall, value_at_place, of_two, pairs_sum}
 
 -- two sums of the same terms

@@ -3,7 +3,7 @@ ghost use Rattle.std.specs.Prelude.{◌≡◌, ℕ, ◌+◌, ◌-◌, ◌%◌, �
 ghost use Rattle.std.specs.List.{range_with_len};
 ghost use Rattle.corr_model.specs.declared.cell.Cell.{Cell};
 ghost use Rattle.corr_model.specs.Cell.{cell_in, no_cell};
-ghost use Rattle.corr_model.specs.Output.{lag_of};
+ghost use Rattle.corr_model.specs.Lags.{lag_of};
 ghost use Rattle.corr_model.proofs.CellLemmas.{IsGrown};
 ghost use Rattle.lag_kernel.specs.Held.{AddsEach};
 

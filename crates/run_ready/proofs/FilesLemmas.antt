@@ -8,7 +8,7 @@ use Rattle.std.proofs.lemmas.List.Elements.{All-tail, All-append, All-cons}
 use Rattle.std.proofs.lemmas.List.Sums.{sum_by_more_le, sum_by-cons}
 use Rattle.std.proofs.lemmas.Slice.Zip.{AllZip-left, AllZip-long, all_zipped_more}
 use Rattle.dev_traits.specs.Files.{size_of, bytes_of}
-use Rattle.corr_model.specs.Plan.{Files, bytes_under}
+use Rattle.corr_model.specs.Files.{Files, bytes_under}
 use Rattle.corr_model.specs.Slots.{slots_of}
 use Rattle.vdif_frame.specs.declared.shape.Field.{Field}
 use Rattle.frame_index.specs.declared.recording.FileRef.{FileRef}

@@ -4,7 +4,7 @@ use Rattle.std.specs.Prelude.{find, flat_map, option_map}
 use Rattle.std.specs.Option.{option_or}
 use Rattle.std.proofs.lemmas.List.{drop_more, drop_all}
 use Rattle.std.proofs.lemmas.List.Folds.{find-append}
-use Rattle.corr_model.specs.Plan.{Files}
+use Rattle.corr_model.specs.Files.{Files}
 use Rattle.job_plan.specs.declared.plan.StationPlan.{StationPlan}
 use Rattle.run_notes.specs.Answers.{Answer, no_file_answer}
 use Rattle.run_notes.specs.declared.refusal.Refusal.{Refusal}

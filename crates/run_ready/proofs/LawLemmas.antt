@@ -1,6 +1,6 @@
 -- Outcomes of which there is one.
 use Rattle.std.proofs.Common.{◌≡◌, ◌∙◌, ℕ, Bool, true, false, List, Option, None, Some, Result, Ok, Err, sym, ap, subst, inl, inr}
-use Rattle.corr_model.specs.Plan.{Files}
+use Rattle.corr_model.specs.Files.{Files}
 use Rattle.vex_reader.specs.declared.file.VexFile.{VexFile}
 use Rattle.vex_reader.specs.Grammar.{IsFileOf}
 use Rattle.vex_reader.specs.Laws.{HasOneFile, HasOneFault, DoesNotBoth}

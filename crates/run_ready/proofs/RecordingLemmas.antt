@@ -4,7 +4,7 @@ use Rattle.std.specs.List.{AllZip}
 use Rattle.std.specs.Option.{option_to_list}
 use Rattle.std.proofs.lemmas.Bool.Decides.{nat_tests}
 use Rattle.std.proofs.lemmas.List.{drop_more}
-use Rattle.corr_model.specs.Plan.{Files}
+use Rattle.corr_model.specs.Files.{Files}
 use Rattle.job_join.specs.declared.fault.Quantity.TheVariants.{Slots}
 use Rattle.job_plan.specs.declared.plan.StationPlan.{StationPlan}
 use Rattle.run_notes.specs.Answers.{limit_answer}

@@ -1,7 +1,7 @@
 -- What an order for a job comes to: the plan of the job, or the answer of the first thing that is wrong.
 use Rattle.std.specs.Prelude.{◌≡◌, ◌⊎◌, ℕ, nat_lt, if◌then◌else◌, Bool, true, false, List, [], length, slice_get, Option, None, Some, Result, Ok, Err}
 use Rattle.std.specs.Option.{option_map_or}
-use Rattle.corr_model.specs.Plan.{Files}
+use Rattle.corr_model.specs.Files.{Files}
 use Rattle.vex_reader.specs.declared.file.VexFile.{VexFile}
 use Rattle.vex_reader.specs.declared.fault.VexFault.{VexFault}
 use Rattle.vex_reader.specs.Grammar.{IsFileOf, IsVexFaultOf}

@@ -2,7 +2,7 @@
 use Rattle.std.specs.Prelude.{◌≡◌, ℕ, ◌+◌, ◌-◌, ◌^◌, ◌<◌, min, List, length, map, sum_by, take, find, is_none, Option, None, Some, option_map, if◌then◌else◌}
 use Rattle.std.specs.List.{All}
 use Rattle.std.specs.Str.{IsUtf8}
-use Rattle.corr_model.specs.Plan.{Files}
+use Rattle.corr_model.specs.Files.{Files}
 use Rattle.frame_index.specs.declared.recording.FileRef.{FileRef}
 use Rattle.frame_index.specs.Recording.{AreOnShelf, slot_total}
 use Rattle.job_plan.specs.declared.plan.StationPlan.{StationPlan}

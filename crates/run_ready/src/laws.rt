@@ -1,6 +1,6 @@
 //! What follows from the definitions. The functions do nothing: a call brings its law.
 ghost use Rattle.std.specs.Prelude.{◌≡◌, Result};
-ghost use Rattle.corr_model.specs.Plan.{Files};
+ghost use Rattle.corr_model.specs.Files.{Files};
 ghost use Rattle.job_plan.specs.declared.plan.Plan.{Plan};
 ghost use Rattle.run_words.specs.declared.order.Order.{Order};
 ghost use Rattle.run_notes.specs.Answers.{Answer};

@@ -9,7 +9,7 @@ use Rattle.vdif_frame.specs.Shape.{ShapeFields}
 use Rattle.corr_model.specs.Sample.{Timing, sample_of}
 use Rattle.corr_model.specs.Delay.{DelayModel}
 use Rattle.corr_model.specs.Cell.{Value}
-use Rattle.corr_model.specs.Plan.{Files, bytes_under}
+use Rattle.corr_model.specs.Files.{Files, bytes_under}
 use Rattle.corr_model.specs.Rotated.{value_at}
 use Rattle.delay_track.specs.Track.{model_of}
 use Rattle.dev_traits.specs.Files.{bytes_of}

@@ -7,7 +7,7 @@ use Rattle.std.proofs.lemmas.List.{map_push, take_all}
 use Rattle.std.proofs.lemmas.Option.{slice_get_within, get_or_from_slice_get}
 use Rattle.dev_traits.specs.Told.{WhereTold}
 use Rattle.corr_model.specs.Cell.{Value, Samples}
-use Rattle.corr_model.specs.Plan.{Files}
+use Rattle.corr_model.specs.Files.{Files}
 use Rattle.frame_index.proofs.ToldLemmas.{WhereTold-both, WhereTold-weaker}
 use Rattle.job_plan.specs.declared.plan.Plan.{Plan}
 use Rattle.job_plan.specs.declared.plan.StayPlan.{StayPlan}

@@ -8,7 +8,8 @@ use Rattle.std.proofs.lemmas.Option.{slice_get-map, slice_get_within}
 use Rattle.corr_model.specs.Cell.{Samples}
 use Rattle.job_plan.specs.declared.plan.ScanPlan.{ScanPlan}
 use Rattle.job_plan.specs.declared.plan.Plan.{Plan}
-use Rattle.job_plan.specs.Output.{head_of, head_scan, product_names, cell_of, lag_of, cells_of, product_cells, integration_cells}
+use Rattle.corr_model.specs.Lags.{lag_of}
+use Rattle.job_plan.specs.Output.{head_of, head_scan, product_names, cell_of, cells_of, product_cells, integration_cells}
 use Rattle.corr_model.specs.Records.{HeadScan}
 use Rattle.vis_writer.specs.Cells.{IsFull, integrations_at, integrations_of, cells_at}
 use Rattle.vis_writer.specs.Cells as counts

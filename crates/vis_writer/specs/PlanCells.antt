@@ -2,7 +2,7 @@
 use Rattle.std.specs.Prelude.{ℕ, ◌<◌, List, [], slice_get}
 use Rattle.std.specs.Option.{option_map_or}
 use Rattle.corr_model.specs.Cell.{Samples}
-use Rattle.corr_model.specs.Plan.{Files}
+use Rattle.corr_model.specs.Files.{Files}
 use Rattle.job_plan.specs.declared.plan.StationPlan.{StationPlan}
 use Rattle.job_plan.specs.declared.plan.ProductPlan.{ProductPlan}
 use Rattle.job_plan.specs.declared.plan.BaselinePlan.{BaselinePlan}

@@ -1,6 +1,6 @@
 //! What follows for every plan. The functions do nothing: a call brings its law.
 ghost use Rattle.std.specs.Prelude.{◌≡◌, ◌^◌, ◌<◌, length};
-ghost use Rattle.corr_model.specs.Plan.{Files};
+ghost use Rattle.corr_model.specs.Files.{Files};
 ghost use Rattle.corr_model.specs.Records.{IsHead, vis_text};
 ghost use Rattle.job_plan.specs.declared.plan.Plan.{Plan};
 ghost use Rattle.job_plan.specs.Output.{head_of, output};

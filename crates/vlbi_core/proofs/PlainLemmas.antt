@@ -3,7 +3,7 @@ use Rattle.std.specs.Prelude.{option_map, IfErr}
 use Rattle.std.proofs.Common.{◌≡◌, ℕ, List, Option, Some, None, Result, Ok, Err, refl, ap, subst, ◌∙◌}
 use Rattle.dev_traits.specs.Told.{WhereTold}
 use Rattle.corr_model.specs.Cell.{Samples}
-use Rattle.corr_model.specs.Plan.{Files}
+use Rattle.corr_model.specs.Files.{Files}
 use Rattle.corr_model.specs.Records.{Head, vis_text}
 use Rattle.job_plan.specs.declared.plan.Plan.{Plan}
 use Rattle.job_plan.specs.Values.{rotated}

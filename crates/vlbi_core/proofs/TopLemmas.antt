@@ -6,7 +6,7 @@ use Rattle.dev_traits.specs.Fault.{HasRisen}
 use Rattle.dev_traits.specs.Told.{more, PrefixMore, WhereTold}
 use Rattle.sink_text.specs.Appends.{Appends}
 use Rattle.sink_text.proofs.AppendedText.{Appends-part}
-use Rattle.corr_model.specs.Plan.{Files}
+use Rattle.corr_model.specs.Files.{Files}
 use Rattle.job_plan.specs.declared.plan.Plan.{Plan}
 use Rattle.job_plan.specs.Output.{output}
 use Rattle.run_words.specs.declared.fault.WordsFault.{WordsFault}

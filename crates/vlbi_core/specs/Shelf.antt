@@ -1,6 +1,6 @@
 -- A shelf as a source of the cells of a plan's records.
 use Rattle.std.specs.Prelude.{◌≡◌, ℕ, Option, option_map}
-use Rattle.corr_model.specs.Plan.{Files}
+use Rattle.corr_model.specs.Files.{Files}
 use Rattle.corr_model.specs.Records.{Head}
 use Rattle.job_plan.specs.declared.plan.Plan.{Plan}
 use Rattle.job_plan.specs.Output.{head_of}

@@ -2,7 +2,7 @@ use Rattle.std.proofs.Common.{◌≡◌, ℕ, ◌+◌, ◌-◌, ◌<◌, ◌≤�
 use Rattle.std.proofs.lemmas.List.FromFn.{fill_by_all}
 use Rattle.corr_model.specs.declared.cell.Cell.{Cell}
 use Rattle.corr_model.specs.Cell.{cell_in, cell_plus, no_cell}
-use Rattle.corr_model.specs.Output.{lag_of}
+use Rattle.corr_model.specs.Lags.{lag_of}
 use Rattle.corr_model.proofs.CellLemmas.{IsGrown, IsGrown-none, cell_in-none}
 use Rattle.lag_kernel.proofs.HeldLemmas.{cell-more}
 use Rattle.lag_kernel.proofs.lags.plain_lags.Goals as goal

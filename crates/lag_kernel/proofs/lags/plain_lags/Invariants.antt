@@ -1,7 +1,7 @@
 use Rattle.std.proofs.Common.{◌≡◌, ℕ, ◌-◌, ◌<◌, ◌≤◌, length, get_or}
 use Rattle.corr_model.specs.declared.cell.Cell.{Cell}
 use Rattle.corr_model.specs.Cell.{cell_in}
-use Rattle.corr_model.specs.Output.{lag_of}
+use Rattle.corr_model.specs.Lags.{lag_of}
 use Rattle.corr_model.proofs.CellLemmas.{IsGrown}
 use Rattle.lag_kernel.proofs.lags.plain_lags.Given as goal
 

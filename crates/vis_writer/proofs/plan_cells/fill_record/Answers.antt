@@ -2,7 +2,8 @@ use Rattle.std.proofs.Common.{◌∙◌, ℕ, arith}
 use Rattle.std.proofs.lemmas.List.FromFn.{fill_by_all}
 use Rattle.corr_model.specs.Cell.{no_cell}
 use Rattle.corr_model.specs.declared.cell.Cell.{Cell}
-use Rattle.job_plan.specs.Output.{cell_of, lag_of}
+use Rattle.corr_model.specs.Lags.{lag_of}
+use Rattle.job_plan.specs.Output.{cell_of}
 use Rattle.vis_writer.proofs.plan_cells.fill_record.Goals as goal
 
 pub returns : goal.returns

@@ -1,6 +1,7 @@
 use Rattle.std.proofs.Common.{◌≡◌, ◌<◌, ℕ, get_or}
 use Rattle.corr_model.specs.declared.cell.Cell.{Cell}
-use Rattle.job_plan.specs.Output.{cell_of, lag_of}
+use Rattle.corr_model.specs.Lags.{lag_of}
+use Rattle.job_plan.specs.Output.{cell_of}
 use Rattle.vis_writer.proofs.plan_cells.fill_record.Given as goal
 
 abbrev pub invariant-loop-i : goal.invariant-loop-i

@@ -5,3 +5,4 @@ pub mod HoldingLemmas
 pub mod ValueLemmas
 pub mod ChannelLemmas
 pub mod StreamLemmas
+pub mod LevelledLemmas

@@ -1,5 +1,5 @@
 -- The values of a station's channels in a window of a scan.
-use Rattle.std.specs.Prelude.{ℕ, ℤ, ◌-ℤ◌, unsigned_abs, List, [], None, slice_index_or}
+use Rattle.std.specs.Prelude.{ℕ, ◌≤◌, ℤ, pos, ◌-ℤ◌, unsigned_abs, int_le, int_lt, ◌&&◌, List, [], None, slice_index_or, if◌then◌else◌}
 use Rattle.corr_model.specs.Cell.{Value}
 
 -- The samples from `from` up to, not including, `to`, and the values of each channel from sample `from` on. A channel
@@ -12,3 +12,11 @@ pub record StreamFields : Type 0 where
 -- the value of a channel at sample n
 abbrev pub stream_value : StreamFields → ℕ → ℤ → Value
 stream_value s chan n = slice_index_or (slice_index_or s.values chan []) (unsigned_abs (n -ℤ s.from)) None
+
+-- the same, none outside the window
+abbrev pub windowed : StreamFields → ℕ → ℤ → Value
+windowed s chan n = if int_le s.from n && int_lt n s.to then stream_value s chan n else None
+
+-- a level of one or two bits turned by a sector: no component is greater than 3
+abbrev pub AreLevelled : ℤ × ℤ → Type 0
+AreLevelled v = (unsigned_abs v.0 ≤ 3) × (unsigned_abs v.1 ≤ 3)

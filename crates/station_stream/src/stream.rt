@@ -3,7 +3,7 @@ ghost use Rattle.std.specs.Prelude.{◌≡◌, ◌<◌, ◌≤ℤ◌, ◌<ℤ◌
 ghost use Rattle.dev_traits.specs.Told.{WhereTold};
 ghost use Rattle.corr_model.specs.Cell.{AreSmall};
 ghost use Rattle.station_stream.specs.Part.{IsIndexed, part_value};
-ghost use Rattle.station_stream.specs.Stream.{stream_value};
+ghost use Rattle.station_stream.specs.Stream.{AreLevelled, stream_value, windowed};
 ghost use Rattle.station_stream.specs.Faults.{CountsReads};
 
 use crate::codes::value_at;
@@ -92,6 +92,26 @@ impl Stream {
         ensures small { IfSome result AreSmall }
     {
         value_at(&self.chans[chan as usize], self.place(n))
+    }
+
+    /// The value of a channel, by its place among the station's, at sample `n`; None outside the window and past the last
+    /// channel.
+    pub fn value(&self, chan: u32, n: i64) -> Option<(i8, i8)>
+        ensures value { result ≡ windowed self.now chan n }
+        ensures small { IfSome result AreSmall }
+    {
+        if n < self.from() || n >= self.to() || chan as usize >= self.chans() {
+            None
+        } else {
+            self.z(chan, n)
+        }
+    }
+
+    /// Each value is a level turned by a sector. The call does nothing: it brings this law.
+    pub fn is_levelled(&self)
+        ensures { (chan : ℕ) (n : ℤ) → IfSome (windowed self.now chan n) AreLevelled }
+    {
+        let _ = &self.chans;
     }
 
     // The place of sample `n` in the list of a channel.

@@ -14,12 +14,12 @@ position_or_len-map p f [] = refl
 position_or_len-map p f (x ∷ xs) = ap (λ (rest : ℕ). cond (not (p (f x))) (1 + rest) 0) (position_or_len-map p f xs)
 
 -- the first place, where there is one, and none where there is none
-position-there : (p : ℕ → Bool) (xs : List ℕ) → position_or_len p xs < length xs → position p xs ≡ Some (position_or_len p xs)
+pub position-there : (p : ℕ → Bool) (xs : List ℕ) → position_or_len p xs < length xs → position p xs ≡ Some (position_or_len p xs)
 position-there p xs there =
     let test : nat_lt (position_or_len p xs) (length xs) ≡ true = grind (arith, nat_tests) in
     ap (λ (b : Bool). cond b (Some (position_or_len p xs)) None) test
 
-position-past : (p : ℕ → Bool) (xs : List ℕ) → length xs ≤ position_or_len p xs → position p xs ≡ None
+pub position-past : (p : ℕ → Bool) (xs : List ℕ) → length xs ≤ position_or_len p xs → position p xs ≡ None
 position-past p xs past =
     let test : nat_lt (position_or_len p xs) (length xs) ≡ false = grind (arith, nat_tests) in
     ap (λ (b : Bool). cond b (Some (position_or_len p xs)) None) test

@@ -14,7 +14,8 @@ use Rattle.job_plan.specs.declared.plan.StayPlan.{StayPlan}
 use Rattle.job_plan.specs.declared.plan.ScanPlan.{ScanPlan}
 use Rattle.job_plan.specs.Values.{stay_of, stay_value, rotated}
 use Rattle.station_stream.specs.Stream.{StreamFields, stream_value}
-use Rattle.scan_values.specs.Values.{IsOfWindow, windowed}
+use Rattle.station_stream.specs.Stream.{windowed}
+use Rattle.scan_values.specs.Values.{IsOfWindow}
 use Rattle.scan_values.proofs.PlaceLemmas.{option_and_then-map, option_and_then-position, option_and_then-none, is_some-find, take-next}
 
 -- the values of a scan's streams: those of the stations' numbers, in their order
@@ -96,6 +97,11 @@ stations-push stays i stay stations at first =
     ∙ sym (map_push (λ (s : StayPlan). s.station) (take i stays) stay)
     ∙ ap (map (λ (s : StayPlan). s.station)) (sym (take-next stays i stay at))
 
+-- the numbers of all stays
+pub stations-all : (stations : List ℕ) (stays all : List StayPlan) (i : ℕ) → stays ≡ all → length stays ≤ i
+    → stations ≡ map (λ (stay : StayPlan). stay.station) (take i stays) → stations ≡ map (λ (stay : StayPlan). stay.station) all
+stations-all stations stays all i same past numbers = numbers ∙ ap (map (λ (stay : StayPlan). stay.station)) (take_all i stays past ∙ same)
+
 -- the values of these streams in a window are those of these stays
 abbrev pub AreOfStays : Plan → ScanPlan → ℕ → ℕ → List StayPlan → List StreamFields → Files → Type 0
 AreOfStays plan scan from to stays streams files =
@@ -140,7 +146,7 @@ pub values_in-rotated : (told : Option Files) (stations : List ℕ) (streams : L
     → WhereTold told (λ files. (station chan : ℕ) (n : ℤ) → pos from ≤ℤ n → n <ℤ pos to → values_in stations streams station chan n ≡ rotated plan files scan station chan n)
 values_in-rotated told stations streams plan scan from to stays i same past numbers are =
     let all : take i stays ≡ scan.stays = take_all i stays past ∙ same in
-    let every : stations ≡ map (λ (stay : StayPlan). stay.station) scan.stays = numbers ∙ ap (map (λ (stay : StayPlan). stay.station)) all in
+    let every : stations ≡ map (λ (stay : StayPlan). stay.station) scan.stays = stations-all stations stays scan.stays i same past numbers in
     WhereTold-weaker told (AreOfStays plan scan from to scan.stays streams)
     (λ files. (station chan : ℕ) (n : ℤ) → pos from ≤ℤ n → n <ℤ pos to → values_in stations streams station chan n ≡ rotated plan files scan station chan n)
     (λ files own station chan n begun under. ap (λ (items : List ℕ). values_in items streams station chan n) every ∙ values_in-stays-rotated plan scan streams from to files own station chan n begun under)

@@ -1,18 +1,14 @@
 -- The values that the streams of a scan's stations hold.
-use Rattle.std.specs.Prelude.{◌≡◌, ℕ, ◌==◌, ◌&&◌, ℤ, pos, int_le, int_lt, None, option_and_then, slice_get, if◌then◌else◌}
+use Rattle.std.specs.Prelude.{◌≡◌, ℕ, ◌==◌, ℤ, pos, option_and_then, slice_get}
 use Rattle.std.specs.List.{position}
-use Rattle.corr_model.specs.Cell.{Value, Samples}
-use Rattle.station_stream.specs.Stream.{StreamFields, stream_value}
+use Rattle.corr_model.specs.Cell.{Samples}
+use Rattle.station_stream.specs.Stream.{StreamFields, windowed}
 use Rattle.scan_values.specs.declared.values.ScanValues.{ScanValues}
 
 -- a stream of the samples from `from` up to, not including, `to`
 pub record IsOfWindow (from to : ℕ) (s : StreamFields) : Type 0 where
   pub begin : s.from ≡ pos from
   pub end : s.to ≡ pos to
-
--- the value of a channel at sample n, none outside the stream's window
-abbrev pub windowed : StreamFields → ℕ → ℤ → Value
-windowed s chan n = if int_le s.from n && int_lt n s.to then stream_value s chan n else None
 
 -- the value of a station's channel, none of a station that has no part in the scan
 abbrev pub values_of : ScanValues → Samples

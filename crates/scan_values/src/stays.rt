@@ -1,12 +1,12 @@
 //! The values of one station's part of a scan.
-ghost use Rattle.std.specs.Prelude.{◌≡◌, ◌≤◌, ◌≤ℤ◌, ◌<ℤ◌, ℕ, ℤ, pos, true, is_some, IfOk, IfSome};
+ghost use Rattle.std.specs.Prelude.{◌≡◌, ◌≤◌, ◌≤ℤ◌, ◌<ℤ◌, ℕ, ℤ, pos, true, is_some, IfOk};
 ghost use Rattle.dev_traits.specs.Told.{WhereTold};
-ghost use Rattle.corr_model.specs.Cell.{AreSmall};
 ghost use Rattle.job_plan.specs.Ranges.{IsPlan, IsScanPlan, IsStay};
 ghost use Rattle.job_plan.specs.Values.{stay_of, stay_value};
 ghost use Rattle.station_stream.specs.Faults.{CountsReads};
 ghost use Rattle.station_stream.specs.Recorded.{AreNamed, AreRecorded};
-ghost use Rattle.scan_values.specs.Values.{IsOfWindow, windowed};
+ghost use Rattle.station_stream.specs.Stream.{windowed};
+ghost use Rattle.scan_values.specs.Values.{IsOfWindow};
 
 use crate::parts::{chans_of, part_of};
 use dev_traits::Shelf;
@@ -53,16 +53,4 @@ pub(crate) fn stay_stream<F: Shelf>(
         to as i64,
     )?;
     Ok(stream)
-}
-
-/// The value of a channel at sample `n`; None outside the stream's window, and of a channel that it does not have.
-pub(crate) fn windowed(stream: &Stream, chan: u32, n: i64) -> Option<(i8, i8)>
-    ensures value { result ≡ windowed stream.now chan n }
-    ensures small { IfSome result AreSmall }
-{
-    if n < stream.from() || n >= stream.to() || chan as usize >= stream.chans() {
-        None
-    } else {
-        stream.z(chan, n)
-    }
 }

@@ -1,13 +1,14 @@
 //! The values of a scan.
-ghost use Rattle.std.specs.Prelude.{◌≡◌, ◌≤◌, ◌≤ℤ◌, ◌<ℤ◌, ◌⊎◌, ℕ, ℤ, pos, ◌==◌, length, None, IfOk};
+ghost use Rattle.std.specs.Prelude.{◌≡◌, ◌≤◌, ◌≤ℤ◌, ◌<ℤ◌, ◌⊎◌, ℕ, ℤ, pos, ◌==◌, length, map, None, IfOk};
 ghost use Rattle.std.specs.List.{position};
 ghost use Rattle.dev_traits.specs.Told.{WhereTold};
+ghost use Rattle.job_plan.specs.declared.plan.StayPlan.{StayPlan};
 ghost use Rattle.job_plan.specs.Ranges.{IsPlan, IsScanPlan};
 ghost use Rattle.job_plan.specs.Values.{rotated};
 ghost use Rattle.station_stream.specs.Faults.{CountsReads};
 ghost use Rattle.station_stream.specs.Recorded.{AreNamed, AreRecorded};
 
-use crate::stays::{stay_stream, windowed};
+use crate::stays::stay_stream;
 use corr_model::Values;
 use dev_traits::Shelf;
 use job_plan::{Plan, ScanPlan};
@@ -47,6 +48,7 @@ impl ScanValues {
         ensures values { IfOk result (λ v. WhereTold (F.told shelf.old) (λ files. (station chan : ℕ) (n : ℤ) → pos from ≤ℤ n → n <ℤ pos to
             → values_of v station chan n ≡ rotated plan.now files scan.now station chan n)) }
         ensures outside { IfOk result (λ v. (station chan : ℕ) (n : ℤ) → (n <ℤ pos from) ⊎ (pos to ≤ℤ n) → values_of v station chan n ≡ None) }
+        ensures stands { IfOk result (λ v. v.stations.items ≡ map (λ (stay : StayPlan). stay.station) scan.now.stays) }
         ensures counts { CountsReads (F.faults shelf.old) (F.faults shelf.new) result }
     {
         let mut stations = Vec::new(alloc);
@@ -59,8 +61,15 @@ impl ScanValues {
         Ok(ScanValues { stations, streams })
     }
 
-    // The place of a station among those of the scan; None where it has no part in the scan.
-    fn place(&self, station: u32) -> Option<usize>
+    /// The streams of the stations that stand in the scan, in the order of their numbers.
+    pub fn streams(&self) -> &[Stream]
+        ensures { result.now ≡ self.now.streams.items }
+    {
+        &self.streams
+    }
+
+    /// The place of a station's stream; None where it has no part in the scan.
+    pub fn place(&self, station: u32) -> Option<usize>
         ensures { result ≡ position (λ number. number == station) self.now.stations.items }
     {
         self.stations.iter().position(|number| *number == station)
@@ -74,7 +83,7 @@ impl Values for ScanValues {
 
     fn z(&self, station: u32, chan: u32, n: i64) -> Option<(i8, i8)> {
         match self.place(station) {
-            Some(place) => windowed(&self.streams[place], chan, n),
+            Some(place) => self.streams[place].value(chan, n),
             None => None,
         }
     }

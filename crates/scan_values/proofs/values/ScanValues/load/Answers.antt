@@ -3,7 +3,7 @@ use Rattle.std.specs.List.{slice_get}
 use Rattle.std.proofs.lemmas.List.Elements.{All-push}
 use Rattle.std.proofs.lemmas.Option.{slice_get_read}
 use Rattle.scan_values.specs.Values.{IsOfWindow}
-use Rattle.scan_values.proofs.ValuesLemmas.{is_some-stay_of, stations-push, AreOfStays-push, values_in-rotated, values_in-outside}
+use Rattle.scan_values.proofs.ValuesLemmas.{is_some-stay_of, stations-push, AreOfStays-push, stations-all, values_in-rotated, values_in-outside}
 use Rattle.scan_values.proofs.values.ScanValues.load.Goals as goal
 
 pub stay_stream-requires-clause-stands : goal.stay_stream-requires-clause-stands
@@ -38,3 +38,8 @@ returns-clause-values g c =
 pub returns-clause-outside : goal.returns-clause-outside
 returns-clause-outside g c =
     values_in-outside c.loop-stay.stations.items c.loop-stay.streams.items c.args.from c.args.to c.loop-stay.invariant.windows
+
+pub returns-clause-stands : goal.returns-clause-stands
+returns-clause-stands g c =
+    stations-all c.loop-stay.stations.items c.items-stay-items.result.now c.args.scan.now.stays c.loop-stay.stay-index c.items-stay-items.ensures (omega arith)
+    c.loop-stay.invariant.stations

@@ -1,16 +1,16 @@
 -- Sums over values that are held are those of the scan.
-use Rattle.std.specs.Prelude.{int_le, int_lt, ◌&&◌, ◌<ℤ◌, if◌then◌else◌, unsigned_abs, IfSome}
-use Rattle.std.proofs.Common.{◌≡◌, ◌≢◌, set, get_or-set_other, get_or-set_same, below_more, ℕ, zero, suc, ◌+◌, ◌-◌, ◌*◌, ◌/◌, ◌<◌, ◌≤◌, ℤ, pos, negsuc, ◌+ℤ◌, ◌-ℤ◌, ◌*ℤ◌, ◌≤ℤ◌, neg_ℤ, Bool, true, false, List, length, get_or, take, drop, Option, Some, None, refl, sym, ap, ◌∙◌, subst, arith}
+use Rattle.std.specs.Prelude.{◌&&◌, if◌then◌else◌}
+use Rattle.std.proofs.Common.{◌≡◌, ◌≢◌, set, get_or-set_other, get_or-set_same, below_more, ℕ, zero, suc, ◌+◌, ◌-◌, ◌/◌, ◌<◌, ◌≤◌, ℤ, pos, ◌+ℤ◌, ◌-ℤ◌, Bool, true, false, List, length, get_or, take, drop, Some, None, refl, sym, ap, ◌∙◌, arith}
 use Rattle.std.proofs.lemmas.Int.{ints}
 use Rattle.std.proofs.Math.Dec.{leb}
 use Rattle.std.proofs.lemmas.Bool.{le-leb}
 use Rattle.std.proofs.lemmas.List.{get_or-take, get_or-drop}
 use Rattle.corr_model.specs.declared.cell.Cell.{Cell}
 use Rattle.corr_model.specs.declared.cell.Pair.{Pair}
-use Rattle.corr_model.specs.Cell.{Value, Samples, no_cell, cell_plus, product_of, is_inside, product_at, sum_from, cell_in, AreSmall, IsSmall, IsProduct}
+use Rattle.corr_model.specs.Cell.{Value, Samples, no_cell, cell_plus, product_of, is_inside, product_at, sum_from, cell_in}
 use Rattle.corr_model.specs.Lags.{lag_of}
-use Rattle.corr_model.proofs.CellLemmas.{IsGrown, IsGrown-none, IsGrown-more, product-small, cell_in-split, cell_in-sum}
-use Rattle.lag_kernel.specs.Held.{AddsEach, value_inside, HoldsValues, AllSmall, value_at_place, of_two, pairs_sum}
+use Rattle.corr_model.proofs.CellLemmas.{IsGrown, cell_in-split, cell_in-sum}
+use Rattle.lag_kernel.specs.Held.{AddsEach, value_inside, HoldsValues, pairs_sum}
 
 -- two sums of the same terms
 pub sum_from-shift : (f g : ℕ → Cell) (at n : ℕ) → ((k : ℕ) → k < n → f k ≡ g (at + k)) → sum_from f 0 n ≡ sum_from g at n
@@ -21,80 +21,9 @@ sum_from-shift f g at (suc n) each =
     ∙ ap (λ k. cell_plus (sum_from g at n) (f k)) here
     ∙ ap (cell_plus (sum_from g at n)) (each n (omega arith))
 
--- a sum of small products
-pub sum_from-grown : (f : ℕ → Cell) (n : ℕ) → ((k : ℕ) → k < n → IsProduct (f k)) → IsGrown (sum_from f 0 n) n
-sum_from-grown f zero each = IsGrown-none 0
-sum_from-grown f (suc n) each =
-    let here : n ≡ 0 + n = omega arith in
-    IsGrown-more (sum_from f 0 n) (f (0 + n)) n (suc n) (sum_from-grown f n (λ k h. each k (omega (arith, h))))
-    (subst (λ k. IsProduct (f k)) here (each n (omega arith))) (omega arith)
-
-none_small : IsProduct no_cell
-none_small = record {
-  re_low = omega (arith, ints);
-  re_high = omega (arith, ints);
-  im_low = omega (arith, ints);
-  im_high = omega (arith, ints);
-  count = omega arith;
-}
-
-pub IsProduct-product_of : (x y : Value) → IfSome x AreSmall → IfSome y AreSmall → IsProduct (product_of x y)
-IsProduct-product_of (Some a) (Some b) h k =
-    let rr = product-small a.0 b.0 h.0 k.0 in
-    let ii = product-small a.1 b.1 h.1 k.1 in
-    let ir = product-small a.1 b.0 h.1 k.0 in
-    let ri = product-small a.0 b.1 h.0 k.1 in
-    record {
-      re_low = omega (arith, ints, rr.0, ii.0);
-      re_high = omega (arith, ints, rr.1, ii.1);
-      im_low = omega (arith, ints, ir.0, ri.1);
-      im_high = omega (arith, ints, ir.1, ri.0);
-      count = omega arith;
-    }
-IsProduct-product_of (Some a) None h k = none_small
-IsProduct-product_of None y h k = none_small
-
-pub pairs_sum-grown : (first second : List Value) (n : ℕ) → n ≤ length first → n ≤ length second → AllSmall first → AllSmall second
-    → IsGrown (pairs_sum first second n) n
-pairs_sum-grown first second n a b small_first small_second =
-    sum_from-grown (λ k. product_of (get_or first k None) (get_or second k None)) n
-    (λ k h. IsProduct-product_of (get_or first k None) (get_or second k None) (small_first k (omega (arith, h, a))) (small_second k (omega (arith, h, b))))
-
 -- a sample number inside a scan
 pub inside-true : (k n : ℕ) → k < n → is_inside (pos k) n ≡ true
 inside-true k n h = ap (λ (x : Bool). x && leb (suc k) n) (le-leb 0 k (omega arith)) ∙ le-leb (suc k) n (omega (arith, h))
-
-place-held : (l : List Value) (k : ℕ) → k < length l → value_at_place l (pos k) ≡ get_or l k None
-place-held l k h = ap (λ (b : Bool). if b then get_or l k None else None) (inside-true k (length l) h)
-
--- the pairs of two lists, as a scan of their own
-pub window-sum : (first second : List Value) → length second ≡ length first
-    → cell_in (of_two first second) (record { a = 0; x = 0; b = 1; y = 0 }) (length first) (pos 0) 0 (length first)
-    ≡ pairs_sum first second (length first)
-window-sum first second same =
-    let n = length first in
-    let pair : Pair = record { a = 0; x = 0; b = 1; y = 0 } in
-    let less : n - 0 ≡ n = omega arith in
-    cell_in-sum (of_two first second) pair n (pos 0) 0 n
-    ∙ ap (sum_from (product_at (of_two first second) pair n (pos 0)) 0) less
-    ∙ sym (sum_from-shift (λ k. product_of (get_or first k None) (get_or second k None)) (product_at (of_two first second) pair n (pos 0)) 0 n each)
-  where
-    each : (k : ℕ) → k < length first
-        → product_of (get_or first k None) (get_or second k None)
-        ≡ product_at (of_two first second) (record { a = 0; x = 0; b = 1; y = 0 }) (length first) (pos 0) (0 + k)
-    each k h =
-        let n = length first in
-        let first_here : 0 + k ≡ k = omega arith in
-        let second_here : k + 0 ≡ k = omega arith in
-        let P : ℕ → Cell = product_at (of_two first second) (record { a = 0; x = 0; b = 1; y = 0 }) n (pos 0) in
-        let F : ℕ → Cell = λ j. if is_inside (pos j) n then product_of (value_at_place first (pos k)) (value_at_place second (pos j)) else no_cell in
-        let inner : Cell = product_of (value_at_place first (pos k)) (value_at_place second (pos k)) in
-        let at_k : P k ≡ F k = ap F second_here in
-        let there : F k ≡ inner = ap (λ (b : Bool). if b then inner else no_cell) (inside-true k n h) in
-        let held : inner ≡ product_of (get_or first k None) (get_or second k None) =
-        ap (λ (x : Value). product_of x (value_at_place second (pos k))) (place-held first k h)
-        ∙ ap (product_of (get_or first k None)) (place-held second k (omega (arith, h, same))) in
-        sym (ap P first_here ∙ at_k ∙ there ∙ held)
 
 -- what two cells have grown by
 pub IsGrown-plus : (c d : Cell) (n m : ℕ) → IsGrown c n → IsGrown d m → IsGrown (cell_plus c d) (n + m)

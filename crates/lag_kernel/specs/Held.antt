@@ -1,6 +1,5 @@
 -- Values that are held for a block of samples, and what their pairs add up to.
-use Rattle.std.specs.Prelude.{◌≡◌, ℕ, ◌<◌, ℤ, pos, ◌+ℤ◌, unsigned_abs, List, length, slice_index_or, Option, None, IfSome, if◌then◌else◌, ◌==◌}
-use Rattle.std.specs.List.{All}
+use Rattle.std.specs.Prelude.{◌≡◌, ℕ, ◌<◌, ℤ, pos, ◌+ℤ◌, List, length, slice_index_or, None, IfSome, if◌then◌else◌}
 use Rattle.corr_model.specs.declared.cell.Cell.{Cell}
 use Rattle.corr_model.specs.Cell.{Value, Samples, AreSmall, is_inside, product_of, cell_plus, sum_from}
 
@@ -16,14 +15,6 @@ HoldsValues z station chan samples start held =
 -- each value that is there is small
 abbrev pub AllSmall : List Value → Type 0
 AllSmall held = (k : ℕ) → k < length held → IfSome (slice_index_or held k None) AreSmall
-
--- the value at a place of a list, none outside of it
-abbrev pub value_at_place : List Value → ℤ → Value
-value_at_place held n = if is_inside n (length held) then slice_index_or held (unsigned_abs n) None else None
-
--- two lists of values as a scan with two stations
-abbrev pub of_two : List Value → List Value → Samples
-of_two first second station chan n = if station == 0 then value_at_place first n else value_at_place second n
 
 -- what the pairs of two lists add up to, place by place
 abbrev pub pairs_sum : List Value → List Value → ℕ → Cell

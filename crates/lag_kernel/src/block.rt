@@ -4,8 +4,10 @@ ghost use Rattle.corr_model.specs.Cell.{AreSmall, cell_plus};
 ghost use Rattle.corr_model.specs.declared.cell.Cell.{Cell};
 ghost use Rattle.corr_model.proofs.CellLemmas.{IsGrown};
 ghost use Rattle.lag_kernel.specs.Held.{AddsEach, AllSmall, HoldsValues, pairs_sum, value_inside};
+ghost use Rattle.lag_kernel.specs.Parts.{AreSmallParts, parts_sum};
 
-use crate::window::{Value, lag_sum};
+use crate::parts::{Parts, Value};
+use crate::sums::lag_sum;
 use corr_model::{Cell, Values};
 
 /// Fills `held` with the values of a station's channel from sample `at - back` on; None outside the scan.
@@ -73,6 +75,7 @@ fn value_inside<V: Values>(v: &V, station: u32, chan: u32, n: i64, samples: u64)
 pub fn add_sums(first: &[Value], second: &[Value], pairs: u64, out: &mut [Cell])
     requires long { length first.now + length out.old ≤ length second.now }
     requires few { length first.now ≤ 1024 }
+    requires room { length second.now ≤ 2048 }
     requires most { pairs + length first.now ≤ 2 ^ 36 }
     requires small_first { AllSmall first.now }
     requires small_second { AllSmall second.now }
@@ -80,21 +83,23 @@ pub fn add_sums(first: &[Value], second: &[Value], pairs: u64, out: &mut [Cell])
     ensures adds { AddsEach out.old out.new (λ k. pairs_sum first.now (take (length first.now) (drop k second.now)) (length first.now)) }
     ensures grown { (k : ℕ) (d : Cell) → k < length out.old → IsGrown (slice_index_or out.new k d) (pairs + length first.now) }
 {
+    let a = Parts::of(first);
+    let b = Parts::of(second);
     for (i, cell) in out.iter_mut().enumerate() {
-        *cell = add_sum(first, &second[i..i + first.len()], pairs, *cell);
+        *cell = add_sum(&a, &b, i, first.len(), pairs, *cell);
     }
 }
 
-// A cell and the pairs of two lists of values.
-fn add_sum(first: &[Value], second: &[Value], pairs: u64, cell: Cell) -> Cell
-    requires same { length second.now ≡ length first.now }
-    requires few { length first.now ≤ 1024 }
-    requires most { pairs + length first.now ≤ 2 ^ 36 }
-    requires small_first { AllSmall first.now }
-    requires small_second { AllSmall second.now }
+// A cell and the pairs of `n` values and others from `i` on.
+fn add_sum(a: &Parts, b: &Parts, i: usize, n: usize, pairs: u64, cell: Cell) -> Cell
+    requires few { n ≤ 1024 }
+    requires room { i + n ≤ 2048 }
+    requires most { pairs + n ≤ 2 ^ 36 }
+    requires small_a { AreSmallParts a.now }
+    requires small_b { AreSmallParts b.now }
     requires grown { IsGrown cell pairs }
-    ensures sum { result ≡ cell_plus cell (pairs_sum first.now second.now (length first.now)) }
-    ensures grown { IsGrown result (pairs + length first.now) }
+    ensures sum { result ≡ cell_plus cell (parts_sum a.now b.now i n) }
+    ensures grown { IsGrown result (pairs + n) }
 {
-    cell.plus(lag_sum(first, second))
+    cell.plus(lag_sum(a, b, i, n))
 }

@@ -8,7 +8,7 @@ ghost use Rattle.corr_model.proofs.CellLemmas.{IsGrown};
 ghost use Rattle.lag_kernel.specs.Held.{AddsEach};
 
 use crate::block::{add_sums, fetch};
-use crate::window::Value;
+use crate::parts::Value;
 use corr_model::{Cell, Pair, Values};
 
 /// Sets `out[i]` to the cell of lag `i - L/2`, `L` being the length of `out`: an even number of up to 1,024. The sample

@@ -1,11 +1,12 @@
-//! The cells of all lags of a range of samples in one call. It stands on `corr_model` for values, cells and the sum of
-//! one lag. A block of the range is taken at a time: each value that its pairs need is asked for once, and all lags are
-//! summed from the values that are held. The cells are those of the direct sums, for every range and every number of
-//! lags. No call takes memory. (Thompson, Moran and Swenson, chapter 8.)
+//! The cells of all lags of a range of samples in one call. It stands on `corr_model` for values and cells. A block of the
+//! range is taken at a time: each value that its pairs need is asked for once, and all lags are summed from the components
+//! of the values that are held. The cells are those of the direct sums, for every range and every number of lags. No call
+//! takes memory. (Thompson, Moran and Swenson, chapter 8.)
 #![tactic(auto)]
 
 mod block;
 mod lags;
-mod window;
+mod parts;
+mod sums;
 
 pub use lags::plain_lags;

@@ -1,6 +1,4 @@
-use Rattle.std.proofs.Common.{◌≡◌, ◌+◌, ◌-◌, ◌≤◌, length, get_or, ap, subst, sym, arith}
-use Rattle.corr_model.specs.Cell.{cell_in}
-use Rattle.corr_model.specs.Lags.{lag_of}
+use Rattle.std.proofs.Common.{◌≡◌, ◌+◌, length, get_or, ap, subst, arith}
 use Rattle.corr_model.proofs.CellLemmas.{IsGrown}
 use Rattle.lag_kernel.proofs.HeldLemmas.{block-adds}
 use Rattle.lag_kernel.proofs.lags.add_held.Goals as goal

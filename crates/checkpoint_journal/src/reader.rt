@@ -172,9 +172,10 @@ fn compare<D: Disk>(
     ensures looks { Looks D.seen D.moment D.may_leave disk.old disk.new }
     ensures counts { Counts (D.faults disk.old) (D.faults disk.new) result }
 {
-    load(disk, at, buffer)?;
+    let front = &mut buffer[..part.len()];
+    load(disk, at, front)?;
     let there = len.saturating_sub(at).min(part.len() as u64);
-    Ok(same_front(buffer, &part[..there as usize]))
+    Ok(same_front(front, &part[..there as usize]))
 }
 
 // The number of bytes at the front that are the same.

@@ -20,4 +20,4 @@ pub use one_scan::OneScan;
 pub use plan_cells::fill_integration;
 pub use records::{record_count, widest};
 pub use source::CellSource;
-pub use writer::{sunk, write_records, write_scan_at};
+pub use writer::{sunk, write_integration_at, write_records, write_scan_at};

@@ -2,9 +2,10 @@
 ghost use Rattle.std.specs.Prelude.{◌≡◌, ◌<◌, ◌≤◌, length, slice_get, Some};
 ghost use Rattle.corr_model.specs.Records.{IsHead, vis_text};
 ghost use Rattle.vis_records.specs.Heads.{scan_of};
-ghost use Rattle.vis_writer.specs.Cells.{all_cells, integrations_of, cells_of, widest};
+ghost use Rattle.sink_text.specs.Appends.{Appends};
+ghost use Rattle.vis_writer.specs.Cells.{all_cells, integrations_of, cells_of, cells_at, widest};
 ghost use Rattle.vis_writer.specs.Writes.{Writes, of_sink};
-ghost use Rattle.vis_writer.specs.Texts.{integration_text, scan_text_by, scans_text, text_at};
+ghost use Rattle.vis_writer.specs.Texts.{integration_text, integration_at, scan_text_by, scans_text, text_at};
 
 use crate::records::{record_count, write_products};
 use crate::{CellSource, WriteFault};
@@ -107,6 +108,23 @@ fn write_integration<C: CellSource, S: Sink>(
         Ok(()) => sunk(write_products(head, number, scan, m, cells, out)),
         Err(fault) => Err(WriteFault::Source(fault)),
     }
+}
+
+/// Appends the records of integration `m` of a scan, by its number in the head. `cells` are those of the integration, by product,
+/// then by baseline, then by rising lag.
+pub fn write_integration_at<S: Sink>(
+    head: &VisHead,
+    number: u32,
+    m: u64,
+    cells: &[Cell],
+    out: &mut S,
+) -> Result<(), SinkFault>
+    requires inside { number < length head.now.scans }
+    requires room { length cells.now ≡ cells_at head.now number }
+    ensures { Appends (S.told out.old) (S.told out.new) (integration_at head.now number m cells.now) (S.faults out.old) (S.faults out.new) result }
+{
+    let scan = &head.scans()[number as usize];
+    write_products(head, number, scan, m, cells, out)
 }
 
 /// The sink's answer as one of both.

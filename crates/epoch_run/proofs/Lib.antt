@@ -1,0 +1,9 @@
+pub mod Within
+pub mod Parts
+pub mod Groups
+pub mod Rows
+pub mod Pieces
+pub mod Totals
+pub mod Board
+pub mod Fewer
+pub mod Streams

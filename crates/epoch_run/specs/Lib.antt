@@ -1,0 +1,7 @@
+pub mod Streamed
+pub mod Sums
+pub mod Amounts
+pub mod Levelled
+pub mod Part
+pub mod Team
+pub mod Left

@@ -1,0 +1,199 @@
+//! Epochs of one station, which is paired with itself: a scan of 64 samples of level +3 in two frames, and no delay.
+ghost use Rattle.std.specs.Prelude.{◌≡◌, ◌≤◌, [], IfOk, IfSome, length};
+ghost use Rattle.std.specs.List.{All};
+ghost use Rattle.dev_traits.specs.Told.{WhereTold};
+ghost use Rattle.num_time.specs.Times.{IsSecond};
+ghost use Rattle.frame_index.specs.Recording.{IsOnShelf};
+
+use crate::run_epoch;
+use atomic_sums::EpochSums;
+use corr_model::Pair;
+use delay_poly::{Poly, PolyEntry, PolyList};
+use delay_track::{StationModel, Track};
+use dev_traits::{Gate, Shelf};
+use frame_index::{FileRef, Index};
+use mem_devices::{HoldGate, MemShelf, OpenGate};
+use num_time::Name;
+use piece_plan::EpochPlan;
+use station_clock::ClockList;
+use station_stream::{StationChan, StationPart, Stream};
+use std::alloc::{AllocError, Global};
+use std::process::Abort;
+use std::test::Fail;
+use std::thread::Threads;
+use vdif_frame::Shape;
+
+// The second at which the scan begins, the first of 2010.
+const SECOND: i64 = 1_262_304_000;
+
+const SHAPE: Shape = Shape {
+    legacy: false,
+    frame_bytes: 40,
+    chans_log2: 0,
+    bits: 2,
+    station: 1,
+    frames: 2,
+};
+
+// A frame of the scan's second.
+fn frame(number: u8) -> [u8; 40] {
+    let mut bytes = [0; 40];
+    bytes[4] = number;
+    bytes[7] = 20;
+    bytes[8] = 5;
+    bytes[12] = 1;
+    bytes[15] = 4;
+    bytes[32..].fill(0xFF);
+    bytes
+}
+
+// A shelf with one file of both frames.
+fn shelf_of(alloc: Global) -> Result<MemShelf, AllocError> {
+    let (first, second) = (frame(0), frame(1));
+    let slots: [&[u8]; 2] = [&first, &second];
+    let name = String::from_str(alloc, "a.vdif")?;
+    let files = vec![in alloc; (name, slots.concat(alloc)?)]?;
+    Ok(MemShelf::new(files, Vec::new(alloc)))
+}
+
+// The file of a name.
+fn file_of<F: Shelf>(alloc: Global, shelf: &mut F, name: &str) -> Result<FileRef, Fail>
+    ensures same { F.told shelf.new ≡ F.told shelf.old }
+    ensures size { IfOk result (λ file. WhereTold (F.told shelf.old) (λ told. IsOnShelf told file)) }
+{
+    let size = shelf.size(name)?.ok_or("no file")?;
+    Ok(FileRef {
+        name: Name::new(alloc, name.as_bytes())?,
+        size,
+    })
+}
+
+// One polynomial, of no delay.
+fn polys_of(alloc: Global) -> Result<PolyList, Fail>
+    ensures { IfOk result (λ polys. All (λ e. IsSecond e.second) polys) }
+{
+    let mut polys = PolyList::new(alloc);
+    let poly = Poly::new(&[0]).ok_or("no polynomial")?;
+    polys.add(PolyEntry {
+        second: SECOND,
+        poly,
+    })?;
+    Ok(polys)
+}
+
+// The delays of the scan.
+fn track_of<'a>(polys: &'a PolyList, clocks: &'a ClockList) -> Option<Track<'a>>
+    requires polys { All (λ e. IsSecond e.second) polys.now }
+    requires clocks { clocks.now ≡ [] }
+    ensures rate { IfSome result (λ track. track.rate ≡ 64) }
+    ensures samples { IfSome result (λ track. track.samples ≡ 64) }
+{
+    let model = StationModel {
+        polys,
+        clocks,
+        second: SECOND,
+        rate: 64,
+        knot: 64,
+        samples: 64,
+    };
+    if !model.has_model() || !model.has_clock() {
+        return None;
+    }
+    Some(model.track())
+}
+
+// The stream of a recording.
+fn stream_of<F: Shelf>(alloc: Global, shelf: &mut F) -> Result<Stream, Fail> {
+    let files = [file_of(alloc, shelf, "a.vdif")?];
+    let index = Index::build(alloc, shelf, &files, &SHAPE)?;
+    let polys = polys_of(alloc)?;
+    let clocks = ClockList::new(alloc);
+    let track = track_of(&polys, &clocks).ok_or("no track")?;
+    let chan = StationChan {
+        thread: 0,
+        index: 0,
+        hertz: 0,
+        upper: true,
+    };
+    let part = StationPart {
+        files: &files,
+        shape: SHAPE,
+        track,
+        from: 0,
+        to: 64,
+        chans: &[Some(chan)],
+    };
+    Ok(Stream::load(alloc, shelf, &index, &part, 0, 64)?)
+}
+
+// The sums of the scan as one epoch with two groups of one piece each.
+fn summed<R: Threads + Sync, G: Gate + Sync>(
+    rt: &R,
+    alloc: Global,
+    stream: Stream,
+    workers: u32,
+    gate: &G,
+) -> Result<EpochSums, AllocError>
+    requires { (1 ≤ workers) × (workers ≤ 64) }
+    ensures { IfOk result (λ sums. length sums.cells ≡ 4) }
+{
+    let pair = Pair {
+        a: 0,
+        x: 0,
+        b: 0,
+        y: 0,
+    };
+    let plan = EpochPlan {
+        scan: 0,
+        m: 0,
+        from: 0,
+        to: 64,
+        products: 2,
+        baselines: 1,
+        lags: 2,
+    };
+    run_epoch(
+        rt,
+        alloc,
+        &[stream],
+        &[pair, pair],
+        64,
+        &plan,
+        64,
+        workers,
+        gate,
+    )
+}
+
+// At lag -1 there are 63 pairs of 9 each, at lag 0 there are 64.
+fn has_cells(rt: &impl Abort, sums: &EpochSums)
+    requires { length sums.now.cells ≡ 4 }
+{
+    assert_eq!(rt; sums.pieces(), 2);
+    for group in 0..2 {
+        let (back, here) = (sums.cell(2 * group), sums.cell(2 * group + 1));
+        assert_eq!(rt; (back.re, back.im, back.count), (567, 0, 63));
+        assert_eq!(rt; (here.re, here.im, here.count), (576, 0, 64));
+    }
+}
+
+#[test]
+fn two_pieces_by_one_worker(rt: HostRuntime) -> Result<(), Fail> {
+    let alloc = rt.alloc();
+    let stream = stream_of(alloc, &mut shelf_of(alloc)?)?;
+    let sums = summed(&rt, alloc, stream, 1, &OpenGate::new())?;
+    has_cells(&rt, &sums);
+    Ok(())
+}
+
+// The worker of the first piece waits for that of the second, and a third finds none.
+#[test]
+fn two_pieces_by_three_workers(rt: HostRuntime) -> Result<(), Fail> {
+    let alloc = rt.alloc();
+    let gate = HoldGate::new();
+    let stream = stream_of(alloc, &mut shelf_of(alloc)?)?;
+    let sums = summed(&rt, alloc, stream, 3, &gate)?;
+    has_cells(&rt, &sums);
+    assert!(rt; gate.saw_second());
+    Ok(())
+}

@@ -1,0 +1,199 @@
+//! What the workers of an epoch read, and what a worker does.
+ghost use Rattle.std.specs.Prelude.{◌≡◌, ◌<◌, ◌≤◌, ◌+◌, ◌*◌, [], true, Some, None, length, slice_get, IfOk};
+ghost use Rattle.std.specs.List.{All};
+ghost use Rattle.piece_claim.specs.State.{new_seat};
+ghost use Rattle.piece_claim.specs.Moves.{CanDraw};
+ghost use Rattle.atomic_sums.specs.Seats.{seat_of};
+ghost use Rattle.piece_plan.specs.Pieces.{per_group, pieces_of};
+ghost use Rattle.epoch_run.specs.Streamed.{streamed};
+ghost use Rattle.epoch_run.specs.Sums.{IsSummed, cells_in_epoch, pieces_in_epoch};
+ghost use Rattle.epoch_run.specs.Amounts.{IsBoardOf, HaveAmounts, amounts_of, cut_of};
+ghost use Rattle.epoch_run.specs.Levelled.{AllLevelled};
+ghost use Rattle.epoch_run.specs.Part.{IsPart};
+
+use crate::amounts::write_amounts;
+use crate::values::Streams;
+use atomic_sums::{BoardSeat, EpochSums, SumBoard};
+use corr_model::{Cell, Pair};
+use dev_traits::Gate;
+use lag_kernel::plain_lags;
+use piece_plan::{EpochPlan, Piece, PiecePlan};
+use station_stream::Stream;
+use std::alloc::{AllocError, Global};
+use std::marker::Model;
+
+/// What the workers of an epoch read: the streams of its stations, the pair of each group in the order of the groups' numbers,
+/// the scan's length in samples, the epoch, and the most samples in a piece.
+#[derive(Drop)]
+pub struct Work<'a> {
+    streams: &'a [Stream],
+    pairs: &'a [Pair],
+    samples: u64,
+    epoch: &'a EpochPlan,
+    piece: u64,
+}
+
+impl<'a> Model for Work<'a> {
+    ghost use Rattle.epoch_run.specs.Amounts.{WorkFields};
+    ghost use Rattle.epoch_run.specs.Levelled.{IsWork};
+
+    ghost Value = { WorkFields };
+
+    ghost view = { λ w. record {
+      streams = w.streams.now;
+      pairs = w.pairs.now;
+      samples = w.samples;
+      epoch = w.epoch.now;
+      piece = w.piece;
+    } };
+
+    ghost invariant = { λ w. IsWork (record {
+      streams = w.streams.now;
+      pairs = w.pairs.now;
+      samples = w.samples;
+      epoch = w.epoch.now;
+      piece = w.piece;
+    }) };
+}
+
+impl<'a> Work<'a> {
+    /// What the workers of an epoch read. In a pair `a` and `b` are places in `streams`, and `x` and `y` are channels of
+    /// these.
+    pub fn new(
+        streams: &'a [Stream],
+        pairs: &'a [Pair],
+        samples: u64,
+        plan: &'a EpochPlan,
+        piece: u64,
+    ) -> Result<Work<'a>, AllocError>
+        requires { IsSummed pairs.now samples plan.now piece }
+        ensures { IfOk result (λ w. w ≡ record {
+          streams = streams.now;
+          pairs = pairs.now;
+          samples = samples;
+          epoch = plan.now;
+          piece = piece;
+        }) }
+    {
+        are_levelled(streams);
+        Ok(Work {
+            streams,
+            pairs,
+            samples,
+            epoch: plan,
+            piece,
+        })
+    }
+
+    /// The epoch's board, and its first seat, which has all shares, 1 to 64.
+    pub fn board(&self, alloc: Global, shares: u64) -> Result<(SumBoard, BoardSeat), AllocError>
+        requires { (0 < shares) × (shares ≤ 64) }
+        ensures board { IfOk result (λ made. IsBoardOf self.now made.0.sizes × (made.0.sizes.shares ≡ shares)) }
+        ensures seat { IfOk result (λ made. made.1 ≡ seat_of made.0 (new_seat shares) None) }
+    {
+        let pieces = PiecePlan::new(self.epoch, self.piece);
+        SumBoard::new(
+            alloc,
+            u64::from(self.epoch.products) * u64::from(self.epoch.baselines),
+            pieces.per_group(),
+            3 * u64::from(self.epoch.lags),
+            36 * self.piece,
+            shares,
+        )
+    }
+
+    // Piece `n`.
+    fn piece_at(&self, n: u64) -> Piece
+        requires { n < self.now.epoch.products * self.now.epoch.baselines * per_group (cut_of self.now) }
+        ensures at { slice_get (pieces_of (cut_of self.now)) n ≡ Some result }
+        ensures part { IsPart self.now result }
+        ensures group { result.product * self.now.epoch.baselines + result.baseline < length self.now.pairs }
+    {
+        PiecePlan::new(self.epoch, self.piece).piece(n)
+    }
+
+    // The pair of a piece's group.
+    fn pair_of(&self, piece: &Piece) -> Pair
+        requires { piece.now.product * self.now.epoch.baselines + piece.now.baseline < length self.now.pairs }
+        ensures { slice_get self.now.pairs (piece.now.product * self.now.epoch.baselines + piece.now.baseline) ≡ Some result }
+    {
+        let first = u64::from(piece.product) * u64::from(self.epoch.baselines);
+        self.pairs[(first + u64::from(piece.baseline)) as usize]
+    }
+
+    // Sets `amounts` to those of piece `n`, from its cells, which are left in `cells`.
+    fn amounts(&self, n: u64, cells: &mut [Cell], amounts: &mut [u64])
+        requires piece { n < self.now.epoch.products * self.now.epoch.baselines * per_group (cut_of self.now) }
+        requires cells { length cells.old ≡ self.now.epoch.lags }
+        requires room { length amounts.old ≡ 3 * self.now.epoch.lags }
+        ensures amounts { amounts.new ≡ amounts_of self.now n }
+        ensures within { All (λ a. a ≤ 36 * self.now.piece) amounts.new }
+    {
+        let piece = self.piece_at(n);
+        let pair = self.pair_of(&piece);
+        let streams = Streams {
+            streams: self.streams,
+        };
+        plain_lags(&streams, &pair, piece.from, piece.to, self.samples, cells);
+        write_amounts(cells, piece.to - piece.from, amounts);
+    }
+
+    /// The epoch's sums, from its board and the one seat in which all pieces are finished.
+    pub(crate) fn sums(
+        &self,
+        alloc: Global,
+        board: SumBoard,
+        seat: BoardSeat,
+    ) -> Result<EpochSums, AllocError>
+        requires board { IsBoardOf self.now board.sizes }
+        requires of { seat.board ≡ board }
+        requires over { seat.state.done ≡ true }
+        requires shares { seat.state.shares ≡ board.sizes.shares }
+        requires amounts { HaveAmounts self.now seat.state.finished }
+        ensures cells { IfOk result
+            (λ sums. sums.cells ≡ cells_in_epoch (streamed self.now.streams) self.now.pairs self.now.samples self.now.epoch) }
+        ensures pieces { IfOk result (λ sums. sums.pieces ≡ pieces_in_epoch self.now.epoch self.now.piece) }
+    {
+        let bias = 18 * (self.epoch.to - self.epoch.from);
+        let totals = board.close(alloc, seat)?;
+        Ok(totals.unbias(bias))
+    }
+}
+
+// Each value of the streams has components of at most 3.
+fn are_levelled(streams: &[Stream])
+    ensures { AllLevelled (streamed streams.now) }
+{
+    for stream in streams {
+        stream.is_levelled();
+    }
+}
+
+/// Draws pieces and posts their cells until no piece is left. Before each piece it passes the gate as worker `worker`. `cells`
+/// has a place for each lag, and `amounts` three. It takes no memory.
+pub fn work_pieces<G: Gate>(
+    work: &Work<'_>,
+    board: &SumBoard,
+    seat: &mut BoardSeat,
+    worker: u32,
+    cells: &mut [Cell],
+    amounts: &mut [u64],
+    gate: &G,
+)
+    requires board { IsBoardOf work.now board.now.sizes }
+    requires of { seat.old.board ≡ board.now }
+    requires idle { CanDraw seat.old.state }
+    requires fresh { seat.old.state.finished ≡ [] }
+    requires cells { length cells.old ≡ work.now.epoch.lags }
+    requires amounts { length amounts.old ≡ 3 * work.now.epoch.lags }
+    ensures of { seat.new.board ≡ board.now }
+    ensures over { seat.new.state.done ≡ true }
+    ensures shares { seat.new.state.shares ≡ seat.old.state.shares }
+    ensures amounts { HaveAmounts work.now seat.new.state.finished }
+{
+    while let Some(n) = board.draw(seat) {
+        gate.piece(worker, n);
+        work.amounts(n, cells, amounts);
+        board.post(seat, amounts);
+    }
+}

@@ -1,0 +1,9 @@
+pub mod EachLemmas
+pub mod SizeLemmas
+pub mod SmallValues
+pub mod RowLemmas
+pub mod RangeCells
+pub mod FoldLemmas
+pub mod AddedLemmas
+pub mod CountedSums
+pub mod SumCells

@@ -1,5 +1,6 @@
 -- What a call that is refused answers: its status, and its line on the notes.
-use Rattle.std.specs.Prelude.{ℕ, List, [], ◌∷◌, ◌++◌, codes, decimal}
+use Rattle.std.specs.Prelude.{ℕ, List, [], ◌∷◌, ◌++◌, Option, Some, None, codes, decimal}
+use Rattle.hex.specs.Hex.{encode_lower}
 use Rattle.vdif_frame.specs.declared.shape.Field.{Field}
 use Rattle.vdif_frame.specs.Agreement.{field_name}
 use Rattle.run_words.specs.declared.fault.WordsFault.{WordsFault}
@@ -12,6 +13,7 @@ use Rattle.job_text.specs.declared.fault.JobFault.{JobFault}
 use Rattle.job_text.specs.KindName.{kind_name as job_fault_name}
 use Rattle.job_join.specs.declared.fault.JoinFault.{JoinFault}
 use Rattle.job_join.specs.declared.fault.Quantity.{Quantity}
+use Rattle.checkpoint_journal.specs.declared.fault.Differs.{Differs}
 use Rattle.job_join.specs.KindName.{fault_name as join_fault_name, quantity_name}
 
 pub record Answer : Type 0 where
@@ -60,8 +62,24 @@ limit_answer quantity value = answer 6 (codes "limit: " ∷ quantity_name quanti
 abbrev pub read_answer : Answer
 read_answer = answer 7 (codes "read fault" ∷ [])
 
+-- a fault of the journal, with the number of epochs that are kept where it is known
+abbrev pub journal_answer : Option ℕ → Answer
+journal_answer None = answer 8 (codes "journal fault" ∷ [])
+journal_answer (Some kept) = answer 8 (codes "journal fault, " ∷ decimal kept ∷ codes " epochs kept" ∷ [])
+
 abbrev pub write_answer : Answer
 write_answer = answer 9 (codes "write fault" ∷ [])
 
 abbrev pub no_file_answer : List ℕ → Answer
 no_file_answer name = answer 11 (codes "no file " ∷ name ∷ [])
+
+-- a byte in two hexadecimal digits, or `none` where there is no byte
+abbrev pub byte_or_none : Option ℕ → List ℕ
+byte_or_none None = codes "none"
+byte_or_none (Some byte) = encode_lower (byte ∷ [])
+
+-- a journal of another job: the place at which it differs from this job's, and both bytes there
+abbrev pub other_answer : Differs → Answer
+other_answer d =
+    answer 10
+    (codes "other journal at byte " ∷ decimal d.at ∷ codes ": kept " ∷ byte_or_none d.kept ∷ codes ", ours " ∷ byte_or_none d.ours ∷ [])

@@ -2,7 +2,7 @@
 use Rattle.std.specs.Prelude.{◌≡◌, ℕ, Result, MatchResult}
 use Rattle.dev_traits.specs.Fault.{HasRisen}
 use Rattle.run_notes.specs.declared.refusal.Refusal.{Refusal}
-use Rattle.run_notes.specs.Refusals.{MatchRead, MatchWrite}
+use Rattle.run_notes.specs.Refusals.{MatchRead, MatchJournal, MatchWrite}
 
 -- a read fault comes only where the shelf's count rose, and with any other answer it stays
 abbrev pub CountsReads : {T : Type 0} → ℕ → ℕ → Result T Refusal → Type 0
@@ -13,3 +13,8 @@ CountsReads before now result =
 abbrev pub CountsWrites : {T : Type 0} → ℕ → ℕ → Result T Refusal → Type 0
 CountsWrites before now result =
     MatchResult result (λ _. now ≡ before) (λ r. MatchWrite r (HasRisen before now) (now ≡ before))
+
+-- a fault of the journal comes only where the disk's count rose, and with any other answer it stays
+abbrev pub CountsJournal : {T : Type 0} → ℕ → ℕ → Result T Refusal → Type 0
+CountsJournal before now result =
+    MatchResult result (λ _. now ≡ before) (λ r. MatchJournal r (HasRisen before now) (now ≡ before))

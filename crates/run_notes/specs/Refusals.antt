@@ -2,10 +2,10 @@
 -- is the first that stands, and the fault of a device.
 use Rattle.std.specs.Prelude.{◌≡◌, ◌⊎◌, ◌==◌, if◌then◌else◌, ⊤, ℕ, List, [], Option, Some, None, Result, Ok, Err, MatchResult}
 use Rattle.run_notes.specs.declared.refusal.Due.{Due}
-use Rattle.run_notes.specs.declared.refusal.Due.TheVariants.{Words, Vex, Schedule, Job, Join, Limit, NoFile, Recording}
+use Rattle.run_notes.specs.declared.refusal.Due.TheVariants.{Words, Vex, Schedule, Job, Join, Limit, NoFile, Recording, Other}
 use Rattle.run_notes.specs.declared.refusal.Refusal.{Refusal}
-use Rattle.run_notes.specs.declared.refusal.Refusal.TheVariants.{Memory, Due as DueRefusal, Read, Write}
-use Rattle.run_notes.specs.Answers.{Answer, memory_answer, words_answer, vex_answer, schedule_answer, job_answer, join_answer, limit_answer, no_file_answer, recording_answer, read_answer, write_answer}
+use Rattle.run_notes.specs.declared.refusal.Refusal.TheVariants.{Memory, Due as DueRefusal, Read, Journal, Write}
+use Rattle.run_notes.specs.Answers.{Answer, memory_answer, words_answer, vex_answer, schedule_answer, job_answer, join_answer, limit_answer, no_file_answer, recording_answer, other_answer, read_answer, journal_answer, write_answer}
 
 -- the answer of a verdict
 abbrev pub due_answer : Due → Answer
@@ -17,28 +17,32 @@ due_answer (Join fault name) = join_answer fault name
 due_answer (Limit quantity value) = limit_answer quantity value
 due_answer (NoFile name) = no_file_answer name
 due_answer (Recording key field) = recording_answer key field
+due_answer (Other d) = other_answer d
 
 abbrev pub answer_of : Refusal → Answer
 answer_of Memory = memory_answer
 answer_of (DueRefusal due) = due_answer due
 answer_of Read = read_answer
+answer_of (Journal kept) = journal_answer kept
 answer_of Write = write_answer
 
 -- Of the outcomes that a call may have, as its words and files are: what it comes to, or the answer of its verdict.
 abbrev pub Outcomes : Type 0 → Type 1
 Outcomes A = Result A Answer → Type 0
 
--- A refusal has its cause: a verdict is an outcome, a write fault comes only where there is something to write, and want of
--- memory and a read fault may come at any time.
+-- A refusal has its cause: a verdict is an outcome, a fault of the journal or the output comes only where nothing refuses, and
+-- want of memory and a read fault may come at any time.
 abbrev pub IsCause : {A : Type 0} → Refusal → Outcomes A → Type 0
 IsCause {A} Memory outcomes = ⊤
 IsCause {A} (DueRefusal due) outcomes = outcomes (Err (due_answer due))
 IsCause {A} Read outcomes = ⊤
+IsCause {A} (Journal kept) outcomes = (x : A) × outcomes (Ok x)
 IsCause {A} Write outcomes = (x : A) × outcomes (Ok x)
 
 -- what may come before the output
 abbrev pub IsBeforeOutput : Refusal → Type 0
 IsBeforeOutput Write = ⊥
+IsBeforeOutput (Journal kept) = ⊥
 IsBeforeOutput _ = ⊤
 
 -- want of memory, or the fault of a device
@@ -55,3 +59,8 @@ MatchWrite _ P Q = Q
 abbrev pub MatchRead : Refusal → Type 0 → Type 0 → Type 0
 MatchRead Read P Q = P
 MatchRead _ P Q = Q
+
+-- one fact for a fault of the journal, another for the rest
+abbrev pub MatchJournal : Refusal → Type 0 → Type 0 → Type 0
+MatchJournal (Journal kept) P Q = P
+MatchJournal _ P Q = Q

@@ -1,12 +1,16 @@
 //! Statuses and notes.
-ghost use Rattle.std.specs.Prelude.{◌≡◌};
+ghost use Rattle.std.specs.Prelude.{◌≡◌, [], ◌∷◌};
+ghost use Rattle.hex.specs.Hex.{encode_lower};
 ghost use Rattle.sink_text.specs.Appends.{Appends};
+ghost use Rattle.sink_text.specs.Written.{Puts};
 ghost use Rattle.run_notes.specs.Refusals.{answer_of, due_answer};
-ghost use Rattle.run_notes.specs.Answers.{byte_answer};
+ghost use Rattle.run_notes.specs.Answers.{byte_answer, byte_or_none, other_answer};
 
 use crate::refusal::{Due, Refusal};
+use checkpoint_journal::Differs;
 use dev_traits::{Failed, Sink};
-use sink_text::{Piece, append_pieces};
+use hex::encode_to_slice;
+use sink_text::{Piece, Stretch, append_pieces};
 
 /// The status that a call answers where it is refused so.
 pub fn status(refusal: &Refusal) -> u8
@@ -16,6 +20,7 @@ pub fn status(refusal: &Refusal) -> u8
         Refusal::Memory => 1,
         Refusal::Due(due) => due_status(due),
         Refusal::Read => 7,
+        Refusal::Journal(_) => 8,
         Refusal::Write => 9,
     }
 }
@@ -31,6 +36,7 @@ fn due_status(due: &Due) -> u8
         Due::Recording(_, _) => 5,
         Due::Limit(_, _) => 6,
         Due::NoFile(_) => 11,
+        Due::Other(_) => 10,
     }
 }
 
@@ -42,6 +48,15 @@ pub fn write_note<N: Sink>(refusal: &Refusal, notes: &mut N) -> Result<(), Faile
         Refusal::Memory => append_pieces(&[Piece::Text("vlbi: out of memory\n")], notes),
         Refusal::Due(due) => write_due(due, notes),
         Refusal::Read => append_pieces(&[Piece::Text("vlbi: read fault\n")], notes),
+        Refusal::Journal(None) => append_pieces(&[Piece::Text("vlbi: journal fault\n")], notes),
+        Refusal::Journal(Some(kept)) => append_pieces(
+            &[
+                Piece::Text("vlbi: journal fault, "),
+                Piece::Number(*kept),
+                Piece::Text(" epochs kept\n"),
+            ],
+            notes,
+        ),
         Refusal::Write => append_pieces(&[Piece::Text("vlbi: write fault\n")], notes),
     }
 }
@@ -109,6 +124,7 @@ fn write_due<N: Sink>(due: &Due, notes: &mut N) -> Result<(), Failed>
             ],
             notes,
         ),
+        Due::Other(differs) => write_other(differs, notes),
     }
 }
 
@@ -126,4 +142,43 @@ fn write_at_byte<N: Sink>(name: &str, at: u64, notes: &mut N) -> Result<(), Fail
         ],
         notes,
     )
+}
+
+// Writes the line of another job's journal.
+fn write_other<N: Sink>(differs: &Differs, notes: &mut N) -> Result<(), Failed>
+    ensures { Appends (N.told notes.old) (N.told notes.new) (other_answer differs.now).note (N.faults notes.old) (N.faults notes.new) result }
+{
+    let mut line = Stretch::new();
+    line.put_pieces(
+        &[
+            Piece::Text("vlbi: other journal at byte "),
+            Piece::Number(differs.at),
+            Piece::Text(": kept "),
+        ],
+        notes,
+    );
+    put_byte(differs.kept, &mut line, notes);
+    line.put(b", ours ", notes);
+    put_byte(differs.ours, &mut line, notes);
+    line.put(b"\n", notes);
+    line.finish(notes)
+}
+
+// Puts a byte in two hexadecimal digits, or `none` where there is no byte.
+fn put_byte<N: Sink>(byte: Option<u8>, line: &mut Stretch, notes: &mut N)
+    ensures { Puts (byte_or_none byte) line.old line.new (N.told notes.old) (N.told notes.new) (N.faults notes.old) (N.faults notes.new) }
+{
+    match byte {
+        Some(byte) => line.put(&hex_digits(byte), notes),
+        None => line.put(b"none", notes),
+    }
+}
+
+// The two hexadecimal digits of a byte.
+fn hex_digits(byte: u8) -> [u8; 2]
+    ensures { result ≡ encode_lower (byte ∷ []) }
+{
+    let mut digits = [0; 2];
+    let _ = encode_to_slice([byte], &mut digits);
+    digits
 }

@@ -1,6 +1,7 @@
 //! Refusals.
 ghost use Rattle.std.specs.Prelude.{◌≡◌};
 
+use checkpoint_journal::Differs;
 use job_join::{JoinFault, Quantity};
 use job_text::JobFault;
 use num_time::Name;
@@ -30,6 +31,8 @@ pub enum Due {
     /// A station's recording has slots, and none of them agrees with its shape: the station's key, and the field in which
     /// the first one differs.
     Recording(Name, Field),
+    /// The journal is neither blank nor one of this job: where it differs.
+    Other(Differs),
 }
 
 /// Why a call did not do what it was asked for.
@@ -41,6 +44,8 @@ pub enum Refusal {
     Due(Due),
     /// A read of the shelf failed.
     Read,
+    /// A call of the journal's disk failed: the number of epochs that are kept, once it is known.
+    Journal(Option<u64>),
     /// A write to the output failed.
     Write,
 }

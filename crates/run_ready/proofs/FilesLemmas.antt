@@ -42,7 +42,7 @@ foreign_answer-sized files s fs v names is =
     ∙ ap (option_map (recording_answer s.key)) is
 
 -- a file's size is the length of what stands under its name
-length-shelved : (files : Files) (f : FileRef) → IsOnShelf files f → length (bytes_under files f.name) ≡ f.size
+pub length-shelved : (files : Files) (f : FileRef) → IsOnShelf files f → length (bytes_under files f.name) ≡ f.size
 length-shelved files f is = by (files f.name) is.size
   where
     by : (o : Option (List ℕ)) → size_of o ≡ Some f.size → length (bytes_under (λ _. o) []) ≡ f.size

@@ -18,8 +18,7 @@ use Rattle.run_words.specs.declared.order.Order.TheVariants.{Run, Plain, Check, 
 use Rattle.run_notes.specs.Answers.{Answer, vex_answer, schedule_answer, job_answer}
 use Rattle.run_notes.specs.Refusals.{Outcomes}
 use Rattle.run_ready.specs.Steps.{Is, Then, answered, unless}
-use Rattle.run_ready.specs.Recordings.{recordings_answer}
-use Rattle.run_ready.specs.Outcome.{text_under, ScansOf, cause_answer, Joins, JobOf, ScheduleOf, PlanUnder, PlanOf}
+use Rattle.run_ready.specs.Outcome.{text_under, ScansOf, cause_answer, Wrong, Joins, JobOf, ScheduleOf, PlanUnder, PlanBy}
 
 -- there is at most one of these outcomes
 abbrev pub AreOne : {A : Type 0} → Outcomes A → Type 0
@@ -90,11 +89,11 @@ pub record AreLaws : Type 0 where
   pub one_fault : (text : List ℕ) → HasOneFault text
   pub not_both : (text : List ℕ) → DoesNotBoth text
 
-Joins-one : (files : Files) (job : JobFields) (scans : List Scan) → AreOne (Joins files job scans)
-Joins-one files job scans =
-    Then-one (Is (answered (cause_answer job scans) (joined job scans))) (λ (plan : Plan). Is (unless (recordings_answer files plan.stations) plan))
+Joins-one : (wrong : Wrong) (job : JobFields) (scans : List Scan) → AreOne (Joins wrong job scans)
+Joins-one wrong job scans =
+    Then-one (Is (answered (cause_answer job scans) (joined job scans))) (λ (plan : Plan). Is (unless (wrong plan.stations) plan))
     (Is-one (answered (cause_answer job scans) (joined job scans)))
-    (λ plan. Is-one (unless (recordings_answer files plan.stations) plan))
+    (λ plan. Is-one (unless (wrong plan.stations) plan))
 
 JobOf-one : (files : Files) (name : List ℕ) (inline : Bool) → AreOne (JobOf files name inline)
 JobOf-one files name inline =
@@ -106,18 +105,18 @@ ScheduleOf-one laws files name =
     Then-one (Is (text_under files name Schedule 8388608)) ScansOf (Is-one (text_under files name Schedule 8388608))
     (λ text. ScansOf-one text (laws.one_file text) (laws.one_fault text) (laws.not_both text))
 
-PlanUnder-one : AreLaws → (files : Files) (job : List ℕ) (vex : Option (List ℕ)) → AreOne (PlanUnder files job vex)
-PlanUnder-one laws files job None =
-    Then-one (JobOf files job true) (λ fields. Joins files fields (scans_of fields)) (JobOf-one files job true)
-    (λ fields. Joins-one files fields (scans_of fields))
-PlanUnder-one laws files job (Some vex) =
-    Then-one (ScheduleOf files vex) (λ scans. Then (JobOf files job false) (λ fields. Joins files fields scans)) (ScheduleOf-one laws files vex)
-    (λ scans. Then-one (JobOf files job false) (λ fields. Joins files fields scans) (JobOf-one files job false) (λ fields. Joins-one files fields scans))
+PlanUnder-one : AreLaws → (files : Files) (wrong : Wrong) (job : List ℕ) (vex : Option (List ℕ)) → AreOne (PlanUnder files wrong job vex)
+PlanUnder-one laws files wrong job None =
+    Then-one (JobOf files job true) (λ fields. Joins wrong fields (scans_of fields)) (JobOf-one files job true)
+    (λ fields. Joins-one wrong fields (scans_of fields))
+PlanUnder-one laws files wrong job (Some vex) =
+    Then-one (ScheduleOf files vex) (λ scans. Then (JobOf files job false) (λ fields. Joins wrong fields scans)) (ScheduleOf-one laws files vex)
+    (λ scans. Then-one (JobOf files job false) (λ fields. Joins wrong fields scans) (JobOf-one files job false) (λ fields. Joins-one wrong fields scans))
 
-pub PlanOf-one : AreLaws → (files : Files) (order : Order) → AreOne (PlanOf files order)
-PlanOf-one laws files (Run job vex workers piece) a b p q = PlanUnder-one laws files job vex a b p q
-PlanOf-one laws files (Plain job vex) a b p q = PlanUnder-one laws files job vex a b p q
-PlanOf-one laws files (Check job vex) a b p q = PlanUnder-one laws files job vex a b p q
-PlanOf-one laws files (Status job vex) a b p q = PlanUnder-one laws files job vex a b p q
-PlanOf-one laws files (Dump file) a b p q = absurd p
-PlanOf-one laws files (Gen seed seconds workers piece) a b p q = absurd p
+pub PlanBy-one : AreLaws → (files : Files) (wrong : Wrong) (order : Order) → AreOne (PlanBy files wrong order)
+PlanBy-one laws files wrong (Run job vex workers piece) a b p q = PlanUnder-one laws files wrong job vex a b p q
+PlanBy-one laws files wrong (Plain job vex) a b p q = PlanUnder-one laws files wrong job vex a b p q
+PlanBy-one laws files wrong (Check job vex) a b p q = PlanUnder-one laws files wrong job vex a b p q
+PlanBy-one laws files wrong (Status job vex) a b p q = PlanUnder-one laws files wrong job vex a b p q
+PlanBy-one laws files wrong (Dump file) a b p q = absurd p
+PlanBy-one laws files wrong (Gen seed seconds workers piece) a b p q = absurd p

@@ -8,3 +8,6 @@ pub mod RecordingLemmas
 pub mod StepLemmas
 pub mod OrderLemmas
 pub mod LawLemmas
+pub mod IdentityLemmas
+pub mod LaterLemmas
+pub mod EpochLemmas

@@ -9,7 +9,7 @@ use Rattle.job_plan.specs.Ranges.{IsPlan}
 use Rattle.run_words.specs.declared.order.Order.{Order}
 use Rattle.run_words.specs.declared.order.Order.TheVariants.{Run, Plain, Check, Status, Dump, Gen}
 use Rattle.run_notes.specs.Answers.{Answer}
-use Rattle.run_ready.specs.Outcome.{job_names, PlanUnder, PlanOf}
+use Rattle.run_ready.specs.Outcome.{job_names, Wrong, PlanUnder, PlanBy}
 use Rattle.run_ready.specs.Sizes.{HasFiles}
 
 -- the files of a plan's stations can be looked up
@@ -20,18 +20,18 @@ HasFiles-plan plan is few k d inside = record {
   frame = omega (arith, (is.stations k d inside).shape.least);
 }
 
-same_names : (files : Files) (job other : List ℕ) (vex another : Option (List ℕ)) (outcome : Result Plan Answer)
-    → job ≡ other → vex ≡ another → PlanUnder files job vex outcome → PlanUnder files other another outcome
-same_names files job other vex another outcome same alike is =
-    subst (λ (v : Option (List ℕ)). PlanUnder files other v outcome) alike (subst (λ (j : List ℕ). PlanUnder files j vex outcome) same is)
+same_names : (files : Files) (wrong : Wrong) (job other : List ℕ) (vex another : Option (List ℕ)) (outcome : Result Plan Answer)
+    → job ≡ other → vex ≡ another → PlanUnder files wrong job vex outcome → PlanUnder files wrong other another outcome
+same_names files wrong job other vex another outcome same alike is =
+    subst (λ (v : Option (List ℕ)). PlanUnder files wrong other v outcome) alike (subst (λ (j : List ℕ). PlanUnder files wrong j vex outcome) same is)
 
 -- what the names come to, the order comes to
-pub PlanOf-names : (files : Files) (order : Order) (job : List ℕ) (vex : Option (List ℕ)) (outcome : Result Plan Answer)
+pub PlanBy-names : (files : Files) (wrong : Wrong) (order : Order) (job : List ℕ) (vex : Option (List ℕ)) (outcome : Result Plan Answer)
     → IsSome (job_names order) → IfSome (job_names order) (λ names. job ≡ names.0) → IfSome (job_names order) (λ names. vex ≡ names.1)
-    → PlanUnder files job vex outcome → PlanOf files order outcome
-PlanOf-names files (Run j v workers piece) job vex outcome some same alike is = same_names files job j vex v outcome same alike is
-PlanOf-names files (Plain j v) job vex outcome some same alike is = same_names files job j vex v outcome same alike is
-PlanOf-names files (Check j v) job vex outcome some same alike is = same_names files job j vex v outcome same alike is
-PlanOf-names files (Status j v) job vex outcome some same alike is = same_names files job j vex v outcome same alike is
-PlanOf-names files (Dump file) job vex outcome some same alike is = absurd (cc)
-PlanOf-names files (Gen seed seconds workers piece) job vex outcome some same alike is = absurd (cc)
+    → PlanUnder files wrong job vex outcome → PlanBy files wrong order outcome
+PlanBy-names files wrong (Run j v workers piece) job vex outcome some same alike is = same_names files wrong job j vex v outcome same alike is
+PlanBy-names files wrong (Plain j v) job vex outcome some same alike is = same_names files wrong job j vex v outcome same alike is
+PlanBy-names files wrong (Check j v) job vex outcome some same alike is = same_names files wrong job j vex v outcome same alike is
+PlanBy-names files wrong (Status j v) job vex outcome some same alike is = same_names files wrong job j vex v outcome same alike is
+PlanBy-names files wrong (Dump file) job vex outcome some same alike is = absurd (cc)
+PlanBy-names files wrong (Gen seed seconds workers piece) job vex outcome some same alike is = absurd (cc)

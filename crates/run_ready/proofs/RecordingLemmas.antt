@@ -1,4 +1,4 @@
--- What is wrong with the recordings of some stations, step by step.
+-- What is wrong with the files of some stations, step by step.
 use Rattle.std.proofs.Common.{◌≡◌, ◌∙◌, ◌≤◌, ◌<◌, ◌+◌, ℕ, true, false, cond, nat_lt, List, ◌∷◌, ◌++◌, length, get_or, drop, Option, None, Some, refl, sym, ap, subst, arith}
 use Rattle.std.specs.List.{AllZip}
 use Rattle.std.specs.Option.{option_to_list}
@@ -12,7 +12,7 @@ use Rattle.run_notes.specs.declared.refusal.Refusal.{Refusal}
 use Rattle.run_ready.specs.declared.recordings.StationFiles.{StationFiles}
 use Rattle.run_ready.specs.Steps.{or_else}
 use Rattle.run_ready.specs.Due.{IsDue}
-use Rattle.run_ready.specs.Recordings.{slot_total, too_many_slots, foreign_answer, first_foreign, recordings_answer}
+use Rattle.run_ready.specs.Recordings.{slot_total, too_many_slots, foreign_answer, first_foreign, files_answer}
 use Rattle.run_ready.specs.Sizes.{no_file_for, IsSizedBy, AreShelved, slots_together}
 use Rattle.run_ready.proofs.FilesLemmas.{slot_total-sized}
 use Rattle.run_ready.proofs.FirstLemmas.{IsFirst, IsDue-or_else}
@@ -33,10 +33,9 @@ AllZip-drop {A} {B} R xs i x zs ys y inside is all =
     (subst Q is (subst P (drop_more xs i x inside) all)).1
 
 -- a file that is not there comes first
-pub IsDue-no_file : (files : Files) (stations : List StationPlan) (r : Refusal) → IsDue r (no_file_for files stations) → IsDue r (recordings_answer files stations)
-unfolding recordings_answer
-IsDue-no_file files stations r due =
-    IsDue-or_else r (no_file_for files stations) (or_else (too_many_slots files stations) (first_foreign files stations)) due
+pub IsDue-no_file : (files : Files) (stations : List StationPlan) (r : Refusal) → IsDue r (no_file_for files stations) → IsDue r (files_answer files stations)
+unfolding files_answer
+IsDue-no_file files stations r due = IsDue-or_else r (no_file_for files stations) (too_many_slots files stations) due
 
 some_slots : (n total : ℕ) → n ≡ total → 67108864 < n → cond (nat_lt 67108864 total) (Some (limit_answer Slots total)) None ≡ Some (limit_answer Slots n)
 some_slots n total same many =
@@ -49,21 +48,19 @@ no_slots n total same few =
     ap (λ b. cond b (Some (limit_answer Slots total)) None) test
 
 -- then too many slots
-pub recordings_answer-slots : (files : Files) (stations : List StationPlan) (sized : List StationFiles) (n : ℕ)
+pub files_answer-slots : (files : Files) (stations : List StationPlan) (sized : List StationFiles) (n : ℕ)
     → AllZip IsSizedBy stations sized → AreShelved sized files → n ≡ slots_together sized → no_file_for files stations ≡ None → 67108864 < n
-    → recordings_answer files stations ≡ Some (limit_answer Slots n)
-unfolding recordings_answer
-recordings_answer-slots files stations sized n all are is none many =
-    ap (λ o. or_else o (or_else (too_many_slots files stations) (first_foreign files stations))) none
-    ∙ ap (λ o. or_else o (first_foreign files stations))
-    (some_slots n (slot_total files stations) (is ∙ slot_total-sized files stations sized all are) many)
+    → files_answer files stations ≡ Some (limit_answer Slots n)
+unfolding files_answer
+files_answer-slots files stations sized n all are is none many =
+    ap (λ o. or_else o (too_many_slots files stations)) none
+    ∙ some_slots n (slot_total files stations) (is ∙ slot_total-sized files stations sized all are) many
 
--- and then what they hold
-pub recordings_answer-foreign : (files : Files) (stations : List StationPlan) (sized : List StationFiles) (n : ℕ)
+-- and else nothing
+pub files_answer-none : (files : Files) (stations : List StationPlan) (sized : List StationFiles) (n : ℕ)
     → AllZip IsSizedBy stations sized → AreShelved sized files → n ≡ slots_together sized → no_file_for files stations ≡ None → n ≤ 67108864
-    → recordings_answer files stations ≡ first_foreign files stations
-unfolding recordings_answer
-recordings_answer-foreign files stations sized n all are is none few =
-    ap (λ o. or_else o (or_else (too_many_slots files stations) (first_foreign files stations))) none
-    ∙ ap (λ o. or_else o (first_foreign files stations))
-    (no_slots n (slot_total files stations) (is ∙ slot_total-sized files stations sized all are) few)
+    → files_answer files stations ≡ None
+unfolding files_answer
+files_answer-none files stations sized n all are is none few =
+    ap (λ o. or_else o (too_many_slots files stations)) none
+    ∙ no_slots n (slot_total files stations) (is ∙ slot_total-sized files stations sized all are) few

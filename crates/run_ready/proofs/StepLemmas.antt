@@ -1,13 +1,13 @@
 -- Steps one behind the other, on what a shelf tells.
 use Rattle.std.proofs.Common.{◌≡◌, Option, Some, None, Result, Ok, Err, sym, ap, subst}
 use Rattle.std.proofs.Common.{inl, inr}
-use Rattle.std.specs.Prelude.{IfErr}
+use Rattle.std.specs.Prelude.{IfOk, IfErr}
 use Rattle.dev_traits.specs.Told.{WhereTold}
 use Rattle.run_notes.specs.Answers.{Answer}
 use Rattle.run_notes.specs.Refusals.{Outcomes, IsCause, MatchRead, due_answer}
-use Rattle.run_notes.specs.declared.refusal.Due.TheVariants.{Words, Vex, Schedule, Job, Join, Limit, NoFile, Recording}
+use Rattle.run_notes.specs.declared.refusal.Due.TheVariants.{Words, Vex, Schedule, Job, Join, Limit, NoFile, Recording, Other}
 use Rattle.run_notes.specs.declared.refusal.Refusal.{Refusal}
-use Rattle.run_notes.specs.declared.refusal.Refusal.TheVariants.{Memory, Due as DueRefusal, Read, Write}
+use Rattle.run_notes.specs.declared.refusal.Refusal.TheVariants.{Memory, Due as DueRefusal, Read, Journal, Write}
 use Rattle.run_ready.specs.Steps.{Is, Then, unless}
 use Rattle.run_ready.specs.Due.{IsDue}
 use Rattle.run_ready.specs.Stage.{IsOfFiles, IsOfTexts}
@@ -17,6 +17,7 @@ pub IsCause-first : {A B : Type 0} (r : Refusal) (first : Outcomes A) (next : A 
 IsCause-first Memory first next stage cause = tt
 IsCause-first (DueRefusal due) first next stage cause = inl cause
 IsCause-first Read first next stage cause = tt
+IsCause-first (Journal kept) first next stage cause = absurd stage
 IsCause-first Write first next stage cause = absurd stage
 
 -- and so is one in the second step, behind what the first comes to
@@ -24,6 +25,7 @@ pub IsCause-next : {A B : Type 0} (r : Refusal) (first : Outcomes A) (next : A �
 IsCause-next Memory first next a stage is cause = tt
 IsCause-next (DueRefusal due) first next a stage is cause = inr (a, is, cause)
 IsCause-next Read first next a stage is cause = tt
+IsCause-next (Journal kept) first next a stage is cause = absurd stage
 IsCause-next Write first next a stage is cause = absurd stage
 
 -- what an answer makes due is a cause that there is not the thing
@@ -31,6 +33,7 @@ pub IsCause-unless : {A : Type 0} (r : Refusal) (v : Option Answer) (x : A) → 
 IsCause-unless Memory v x due = tt
 IsCause-unless (DueRefusal d) v x due = ap (λ o. unless o x) (sym due)
 IsCause-unless Read v x due = tt
+IsCause-unless (Journal kept) v x due = absurd due
 IsCause-unless Write v x due = absurd due
 
 -- what texts may be refused for is of the files, and no read fault
@@ -44,13 +47,16 @@ IsOfFiles-texts (DueRefusal (Join fault name)) stage = tt
 IsOfFiles-texts (DueRefusal (Limit quantity value)) stage = tt
 IsOfFiles-texts (DueRefusal (NoFile name)) stage = tt
 IsOfFiles-texts (DueRefusal (Recording key field)) stage = tt
+IsOfFiles-texts (DueRefusal (Other d)) stage = absurd stage
 IsOfFiles-texts Read stage = absurd stage
+IsOfFiles-texts (Journal kept) stage = absurd stage
 IsOfFiles-texts Write stage = absurd stage
 
 pub MatchRead-texts : (r : Refusal) (P Q : Type 0) → IsOfTexts r → Q → MatchRead r P Q
 MatchRead-texts Memory P Q stage q = q
 MatchRead-texts (DueRefusal due) P Q stage q = q
 MatchRead-texts Read P Q stage q = absurd stage
+MatchRead-texts (Journal kept) P Q stage q = absurd stage
 MatchRead-texts Write P Q stage q = absurd stage
 
 -- a cause among some outcomes is one among more
@@ -58,7 +64,13 @@ pub IsCause-among : {A : Type 0} (r : Refusal) (some more : Outcomes A) → ((x 
 IsCause-among Memory some more follows cause = tt
 IsCause-among (DueRefusal due) some more follows cause = follows (Err (due_answer due)) cause
 IsCause-among Read some more follows cause = tt
+IsCause-among (Journal kept) some more follows cause = (cause.0, follows (Ok cause.0) cause.1)
 IsCause-among Write some more follows cause = (cause.0, follows (Ok cause.0) cause.1)
+
+-- two facts about a thing
+pub IfOk-both : {T E : Type 0} (r : Result T E) (P Q R : T → Type 0) → ((x : T) → P x → Q x → R x) → IfOk r P → IfOk r Q → IfOk r R
+IfOk-both (Ok x) P Q R follows p q = follows x p q
+IfOk-both (Err y) P Q R follows p q = tt
 
 -- two facts about a fault
 pub IfErr-both : {T E : Type 0} (r : Result T E) (P Q R : E → Type 0) → ((y : E) → P y → Q y → R y) → IfErr r P → IfErr r Q → IfErr r R

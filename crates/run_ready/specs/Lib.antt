@@ -4,3 +4,5 @@ pub mod Recordings
 pub mod Sizes
 pub mod Outcome
 pub mod Stage
+pub mod Identities
+pub mod Props

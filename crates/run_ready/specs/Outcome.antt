@@ -21,7 +21,8 @@ use Rattle.run_words.specs.declared.order.Order.TheVariants.{Run, Plain, Check, 
 use Rattle.run_notes.specs.Answers.{Answer, vex_answer, schedule_answer, job_answer, join_answer, limit_answer, no_file_answer}
 use Rattle.run_notes.specs.Refusals.{Outcomes}
 use Rattle.run_ready.specs.Steps.{Is, Then, answered, unless}
-use Rattle.run_ready.specs.Recordings.{recordings_answer}
+use Rattle.job_plan.specs.declared.plan.StationPlan.{StationPlan}
+use Rattle.run_ready.specs.Recordings.{files_answer, recordings_answer}
 
 -- the job's file and the schedule's, where the order is for a job
 abbrev pub job_names : Order → Option (List ℕ × Option (List ℕ))
@@ -70,11 +71,15 @@ cause_answer job scans (NoClock number) = join_answer (NoClock number) (key_name
 cause_answer job scans (Limit quantity value) = limit_answer quantity value
 cause_answer job scans Memory = join_answer Memory []
 
--- the plan of a job and a schedule's scans, unless they do not go together or something is wrong with the recordings
-abbrev pub Joins : Files → JobFields → List Scan → Outcomes Plan
-Joins files job scans =
+-- what is wrong with the files of a plan's stations, if anything is
+abbrev pub Wrong : Type 0
+Wrong = List StationPlan → Option Answer
+
+-- the plan of a job and a schedule's scans, unless they do not go together or something is wrong with the files
+abbrev pub Joins : Wrong → JobFields → List Scan → Outcomes Plan
+Joins wrong job scans =
     Then (Is (answered (cause_answer job scans) (joined job scans)))
-    (λ (plan : Plan). Is (unless (recordings_answer files plan.stations) plan))
+    (λ (plan : Plan). Is (unless (wrong plan.stations) plan))
 
 -- the job of a text, read beside a schedule or, inline, without one
 abbrev pub JobOf : Files → List ℕ → Bool → Outcomes JobFields
@@ -86,15 +91,22 @@ abbrev pub ScheduleOf : Files → List ℕ → Outcomes (List Scan)
 ScheduleOf files name = Then (Is (text_under files name Schedule 8388608)) ScansOf
 
 -- Without a schedule a job states its scans itself; else the schedule comes before the job.
-abbrev pub PlanUnder : Files → List ℕ → Option (List ℕ) → Outcomes Plan
-PlanUnder files job None = Then (JobOf files job true) (λ fields. Joins files fields (scans_of fields))
-PlanUnder files job (Some vex) =
-    Then (ScheduleOf files vex) (λ scans. Then (JobOf files job false) (λ fields. Joins files fields scans))
+abbrev pub PlanUnder : Files → Wrong → List ℕ → Option (List ℕ) → Outcomes Plan
+PlanUnder files wrong job None = Then (JobOf files job true) (λ fields. Joins wrong fields (scans_of fields))
+PlanUnder files wrong job (Some vex) =
+    Then (ScheduleOf files vex) (λ scans. Then (JobOf files job false) (λ fields. Joins wrong fields scans))
 
--- the plan of an order for a job
-abbrev pub PlanOf : Files → Order → Outcomes Plan
-PlanOf files order = by (job_names order)
+abbrev pub PlanBy : Files → Wrong → Order → Outcomes Plan
+PlanBy files wrong order = by (job_names order)
   where
     by : Option (List ℕ × Option (List ℕ)) → Outcomes Plan
     by None outcome = ⊥
-    by (Some names) outcome = PlanUnder files names.0 names.1 outcome
+    by (Some names) outcome = PlanUnder files wrong names.0 names.1 outcome
+
+-- the plan of an order for a job, as far as the lengths of its files show
+abbrev pub SurveyOf : Files → Order → Outcomes Plan
+SurveyOf files order = PlanBy files (files_answer files) order
+
+-- the plan of an order for a job
+abbrev pub PlanOf : Files → Order → Outcomes Plan
+PlanOf files order = PlanBy files (recordings_answer files) order

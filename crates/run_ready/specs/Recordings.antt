@@ -34,9 +34,10 @@ abbrev pub first_foreign : Files → List StationPlan → Option Answer
 first_foreign files [] = None
 first_foreign files (s ∷ stations) = or_else (foreign_answer files s) (first_foreign files stations)
 
--- what is wrong with the recordings of some stations: first that a file is not there, then that there are too many slots,
--- then what they hold
+-- what is wrong with the files of some stations: first that one is not there, then that they have too many slots
+unfoldable pub files_answer : Files → List StationPlan → Option Answer
+files_answer files stations = or_else (option_map no_file_answer (missing_file files stations)) (too_many_slots files stations)
+
+-- what is wrong with their recordings: that, and then what they hold
 unfoldable pub recordings_answer : Files → List StationPlan → Option Answer
-recordings_answer files stations =
-    or_else (option_map no_file_answer (missing_file files stations))
-    (or_else (too_many_slots files stations) (first_foreign files stations))
+recordings_answer files stations = or_else (files_answer files stations) (first_foreign files stations)

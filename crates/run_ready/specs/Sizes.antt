@@ -1,5 +1,5 @@
 -- Files that are there or not, and how much of one is read at once.
-use Rattle.std.specs.Prelude.{◌≡◌, ℕ, ◌+◌, ◌-◌, ◌^◌, ◌<◌, min, List, length, map, sum_by, take, find, is_none, Option, None, Some, option_map, if◌then◌else◌}
+use Rattle.std.specs.Prelude.{◌≡◌, ℕ, ◌+◌, ◌-◌, ◌^◌, ◌<◌, min, List, length, map, flat_map, sum_by, take, find, is_none, Option, None, Some, option_map, if◌then◌else◌}
 use Rattle.std.specs.List.{All}
 use Rattle.std.specs.Str.{IsUtf8}
 use Rattle.corr_model.specs.Files.{Files}
@@ -40,6 +40,10 @@ pub record IsSizedBy (s : StationPlan) (z : StationFiles) : Type 0 where
 -- the files of all stations stand on the shelf
 abbrev pub AreShelved : List StationFiles → Files → Type 0
 AreShelved sized files = All (λ (z : StationFiles). AreOnShelf z.files files) sized
+
+-- the sizes of all files, station by station and file by file
+abbrev pub sizes_in : List StationFiles → List ℕ
+sizes_in sized = flat_map (λ (z : StationFiles). map (λ (f : FileRef). f.size) z.files) sized
 
 -- the slots of all stations
 abbrev pub slots_together : List StationFiles → ℕ

@@ -1,26 +1,22 @@
 //! The index of each station's recording.
-ghost use Rattle.std.specs.Prelude.{◌≡◌, ◌≤◌, ◌^◌, None, length, IfOk, IfErr, OnOk};
+ghost use Rattle.std.specs.Prelude.{◌≡◌, ◌≤◌, ◌^◌, None, IfOk, IfErr, OnOk};
 ghost use Rattle.std.specs.List.{All, AllZip};
 ghost use Rattle.dev_traits.specs.Told.{WhereTold};
 ghost use Rattle.frame_index.specs.Recording.{AreOnShelf};
 ghost use Rattle.station_stream.specs.Part.{IsNamedBy, IsRecordingOf};
 ghost use Rattle.run_notes.specs.Counted.{CountsReads};
 ghost use Rattle.run_ready.specs.Due.{IsDue};
-ghost use Rattle.run_ready.specs.Recordings.{foreign_answer, first_foreign, recordings_answer};
-ghost use Rattle.run_ready.specs.Sizes.{HasFiles, IsSizedBy, AreShelved};
+ghost use Rattle.run_ready.specs.Recordings.{foreign_answer, first_foreign};
+ghost use Rattle.run_ready.specs.Sizes.{IsSizedBy, AreShelved};
 ghost use Rattle.run_ready.specs.Stage.{IsOfFiles};
 
-use crate::recordings::{StationFiles, add, all_files, slots_together};
+use crate::recordings::{StationFiles, add};
 use dev_traits::Shelf;
 use frame_index::{Index, IndexFault};
-use job_join::Quantity;
 use job_plan::StationPlan;
 use run_notes::{Due, Refusal};
 use station_stream::Recording;
 use std::alloc::Global;
-
-// The slots that all recordings may have together.
-const MOST_SLOTS: u128 = 1 << 26;
 
 // The recording of a station.
 fn index_of<F: Shelf>(
@@ -53,8 +49,8 @@ fn index_of<F: Shelf>(
     }
 }
 
-// The recordings of all stations, in their order.
-fn index_all<F: Shelf>(
+/// The recordings of all stations, in their order.
+pub fn index_all<F: Shelf>(
     alloc: Global,
     shelf: &mut F,
     stations: &[StationPlan],
@@ -79,28 +75,4 @@ fn index_all<F: Shelf>(
         add(&mut list, recording)?;
     }
     Ok(list)
-}
-
-/// The recordings of all stations: first the sizes of all files, then the number of their slots, then each station's index.
-pub fn recordings_of<F: Shelf>(
-    alloc: Global,
-    shelf: &mut F,
-    stations: &[StationPlan],
-) -> Result<Vec<Recording>, Refusal>
-    requires files { All HasFiles stations.now }
-    requires few { length stations.now ≤ 32 }
-    ensures same { F.told shelf.new ≡ F.told shelf.old }
-    ensures named { IfOk result (λ list. AllZip IsNamedBy stations.now list.items) }
-    ensures recorded { IfOk result (λ list. WhereTold (F.told shelf.old) (λ files. AllZip (IsRecordingOf files) stations.now list.items)) }
-    ensures accepted { OnOk result (WhereTold (F.told shelf.old) (λ files. recordings_answer files stations.now ≡ None)) }
-    ensures due { IfErr result (λ r. WhereTold (F.told shelf.old) (λ files. IsDue r (recordings_answer files stations.now))) }
-    ensures stage { IfErr result IsOfFiles }
-    ensures counts { CountsReads (F.faults shelf.old) (F.faults shelf.new) result }
-{
-    let sized = all_files(alloc, shelf, stations)?;
-    let slots = slots_together(&sized);
-    if slots > MOST_SLOTS {
-        return Err(Refusal::Due(Due::Limit(Quantity::Slots, slots)));
-    }
-    index_all(alloc, shelf, stations, sized)
 }

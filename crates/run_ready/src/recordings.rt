@@ -6,6 +6,7 @@ ghost use Rattle.dev_traits.specs.Told.{WhereTold};
 ghost use Rattle.frame_index.specs.Recording.{AreOnShelf, IsOnShelf, slots_by_size};
 ghost use Rattle.run_notes.specs.Counted.{CountsReads};
 ghost use Rattle.run_ready.specs.Due.{IsDue};
+ghost use Rattle.run_ready.specs.Recordings.{files_answer};
 ghost use Rattle.run_ready.specs.Sizes.{no_file, no_file_of, no_file_for, HasFiles, IsSizedBy, AreShelved, slots_together};
 ghost use Rattle.run_ready.specs.Stage.{IsOfFiles};
 
@@ -13,11 +14,15 @@ use crate::texts::file_size;
 use dev_traits::Shelf;
 use frame_index::FileRef;
 use item_list::ItemList;
+use job_join::Quantity;
 use job_plan::StationPlan;
 use num_time::Name;
-use run_notes::Refusal;
+use run_notes::{Due, Refusal};
 use std::alloc::{AllocError, Global};
 use vdif_frame::Shape;
+
+// The slots that all recordings may have together.
+const MOST_SLOTS: u128 = 1 << 26;
 
 /// A station's files with their sizes, in their order, and how many slots they have by these.
 #[derive(Drop)]
@@ -117,8 +122,8 @@ fn station_files<F: Shelf>(
     })
 }
 
-/// The files of all stations, station by station and file by file.
-pub fn all_files<F: Shelf>(
+// The files of all stations, station by station and file by file.
+fn all_files<F: Shelf>(
     alloc: Global,
     shelf: &mut F,
     stations: &[StationPlan],
@@ -140,8 +145,8 @@ pub fn all_files<F: Shelf>(
     Ok(list)
 }
 
-/// How many slots all stations have.
-pub fn slots_together(sized: &[StationFiles]) -> u128
+// How many slots all stations have.
+fn slots_together(sized: &[StationFiles]) -> u128
     requires few { length sized.now ≤ 32 }
     requires bounds { All (λ z. z.slots < 2 ^ 96) sized.now }
     ensures { result ≡ slots_together sized.now }
@@ -151,4 +156,29 @@ pub fn slots_together(sized: &[StationFiles]) -> u128
         slots += station.slots;
     }
     slots
+}
+
+/// The files of all stations: first the sizes of all, station by station and file by file, then the number of their slots.
+pub fn files_of<F: Shelf>(
+    alloc: Global,
+    shelf: &mut F,
+    stations: &[StationPlan],
+) -> Result<Vec<StationFiles>, Refusal>
+    requires files { All HasFiles stations.now }
+    requires few { length stations.now ≤ 32 }
+    ensures same { F.told shelf.new ≡ F.told shelf.old }
+    ensures sized { IfOk result (λ sized. AllZip IsSizedBy stations.now sized.items) }
+    ensures slots { IfOk result (λ sized. All (λ z. z.slots ≤ 2 ^ 26) sized.items) }
+    ensures shelved { IfOk result (λ sized. WhereTold (F.told shelf.old) (AreShelved sized.items)) }
+    ensures accepted { OnOk result (WhereTold (F.told shelf.old) (λ files. files_answer files stations.now ≡ None)) }
+    ensures due { IfErr result (λ r. WhereTold (F.told shelf.old) (λ files. IsDue r (files_answer files stations.now))) }
+    ensures stage { IfErr result IsOfFiles }
+    ensures counts { CountsReads (F.faults shelf.old) (F.faults shelf.new) result }
+{
+    let sized = all_files(alloc, shelf, stations)?;
+    let slots = slots_together(&sized);
+    if slots > MOST_SLOTS {
+        return Err(Refusal::Due(Due::Limit(Quantity::Slots, slots)));
+    }
+    Ok(sized)
 }

@@ -1,8 +1,10 @@
 //! The schedule and the job of an order, and the plan that comes of both.
-ghost use Rattle.std.specs.Prelude.{◌≡◌, ◌≢◌, ◌≤◌, ◌<◌, ◌^◌, length, IsTrue, IsSome, IfOk, IfErr, OnOk, Ok};
+ghost use Rattle.std.specs.Prelude.{◌≡◌, ◌≢◌, ◌≤◌, ◌<◌, ◌^◌, length, IsTrue, IsSome, IfOk, IfErr, OnOk, Ok, Some};
 ghost use Rattle.std.specs.List.{All};
 ghost use Rattle.std.specs.Str.{IsUtf8};
 ghost use Rattle.dev_traits.specs.Told.{WhereTold};
+ghost use Rattle.piece_plan.specs.Epochs.{epochs_of};
+ghost use Rattle.job_epochs.specs.Sizes.{sizes_of};
 ghost use Rattle.job_text.specs.Answer.{job_in};
 ghost use Rattle.job_join.specs.Joined.{joined};
 ghost use Rattle.run_notes.specs.Answers.{job_answer};
@@ -92,22 +94,39 @@ fn job_of(alloc: Global, text: &[u8], inline: bool) -> Result<Job, Refusal>
     }
 }
 
+/// A schedule, and its text.
+#[derive(Drop)]
+pub struct ScheduleRead {
+    pub text: Vec<u8>,
+    pub list: ScanList,
+}
+
+/// A job, and its text.
+#[derive(Drop)]
+pub struct JobRead {
+    pub text: Vec<u8>,
+    pub job: Job,
+}
+
 /// The schedule under a name.
 pub fn load_schedule<F: Shelf>(
     alloc: Global,
     shelf: &mut F,
     name: &Name,
-) -> Result<ScanList, Refusal>
+) -> Result<ScheduleRead, Refusal>
     requires text { IsUtf8 name.now }
     ensures same { F.told shelf.new ≡ F.told shelf.old }
-    ensures scans { IfOk result (λ list. WhereTold (F.told shelf.old) (λ files. ScheduleOf files name.now (Ok list.scans))) }
-    ensures few { IfOk result (λ list. length list.scans ≤ 8388608) }
+    ensures text { IfOk result (λ read. WhereTold (F.told shelf.old) (λ files. files name.now ≡ Some read.text.items)) }
+    ensures short { IfOk result (λ read. length read.text.items ≤ 8388608) }
+    ensures scans { IfOk result (λ read. WhereTold (F.told shelf.old) (λ files. ScheduleOf files name.now (Ok read.list.scans))) }
+    ensures few { IfOk result (λ read. length read.list.scans ≤ 8388608) }
     ensures cause { IfErr result (λ r. WhereTold (F.told shelf.old) (λ files. IsCause r (ScheduleOf files name.now))) }
     ensures stage { IfErr result IsOfFiles }
     ensures counts { CountsReads (F.faults shelf.old) (F.faults shelf.new) result }
 {
     let text = load_text(alloc, shelf, name, Quantity::Schedule, MOST_SCHEDULE_BYTES)?;
-    scans_of(alloc, &text)
+    let list = scans_of(alloc, &text)?;
+    Ok(ScheduleRead { text, list })
 }
 
 /// The job under a name, read beside a schedule or, inline, without one.
@@ -116,19 +135,22 @@ pub fn load_job<F: Shelf>(
     shelf: &mut F,
     name: &Name,
     inline: bool,
-) -> Result<Job, Refusal>
+) -> Result<JobRead, Refusal>
     requires text { IsUtf8 name.now }
     ensures same { F.told shelf.new ≡ F.told shelf.old }
-    ensures job { IfOk result (λ job. WhereTold (F.told shelf.old) (λ files. JobOf files name.now inline (Ok job))) }
-    ensures rate { IfOk result (λ job. IsTrue inline → IsSome job.rate) }
-    ensures few { IfOk result (λ job. All HasFewFiles job.stations) }
-    ensures few_scans { IfOk result (λ job. length job.scans ≤ 8388608) }
+    ensures text { IfOk result (λ read. WhereTold (F.told shelf.old) (λ files. files name.now ≡ Some read.text.items)) }
+    ensures short { IfOk result (λ read. length read.text.items ≤ 4194304) }
+    ensures job { IfOk result (λ read. WhereTold (F.told shelf.old) (λ files. JobOf files name.now inline (Ok read.job))) }
+    ensures rate { IfOk result (λ read. IsTrue inline → IsSome read.job.rate) }
+    ensures few { IfOk result (λ read. All HasFewFiles read.job.stations) }
+    ensures few_scans { IfOk result (λ read. length read.job.scans ≤ 8388608) }
     ensures cause { IfErr result (λ r. WhereTold (F.told shelf.old) (λ files. IsCause r (JobOf files name.now inline))) }
     ensures stage { IfErr result IsOfFiles }
     ensures counts { CountsReads (F.faults shelf.old) (F.faults shelf.new) result }
 {
     let text = load_text(alloc, shelf, name, Quantity::Job, MOST_JOB_BYTES)?;
-    job_of(alloc, &text, inline)
+    let job = job_of(alloc, &text, inline)?;
+    Ok(JobRead { text, job })
 }
 
 // The name of a take of a job.
@@ -190,11 +212,15 @@ pub fn plan_of(alloc: Global, job: &Job, list: &ScanList) -> Result<Plan0, Refus
     ensures plan { IfOk result (λ plan. Is (answered (cause_answer job.now list.now.scans) (joined job.now list.now.scans)) (Ok plan)) }
     ensures few { IfOk result (λ plan. All (λ s. length s.files < 2 ^ 32) plan.stations) }
     ensures few_scans { IfOk result (λ plan. length plan.scans ≤ 8388608) }
+    ensures few_epochs { IfOk result (λ plan. length (epochs_of (sizes_of plan)) ≤ 4294967296) }
     ensures cause { IfErr result (λ r. IsCause r (Is (answered (cause_answer job.now list.now.scans) (joined job.now list.now.scans)))) }
     ensures stage { IfErr result IsOfTexts }
 {
     match join_job(alloc, job, list) {
-        Ok(plan) => Ok(plan),
+        Ok(plan) => {
+            let _ranges = plan.plan();
+            Ok(plan)
+        }
         Err(fault) => Err(Refusal::Due(join_due(alloc, job, list, fault)?)),
     }
 }

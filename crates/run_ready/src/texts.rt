@@ -54,6 +54,7 @@ pub fn load_text<F: Shelf>(
     requires text { IsUtf8 name.now }
     ensures same { F.told shelf.new ≡ F.told shelf.old }
     ensures text { IfOk result (λ text. WhereTold (F.told shelf.old) (λ files. Is (text_under files name.now quantity most) (Ok text.items))) }
+    ensures bytes { IfOk result (λ text. WhereTold (F.told shelf.old) (λ files. files name.now ≡ Some text.items)) }
     ensures short { IfOk result (λ text. length text.items ≤ most) }
     ensures cause { IfErr result (λ r. WhereTold (F.told shelf.old) (λ files. IsCause r (Is (text_under files name.now quantity most)))) }
     ensures stage { IfErr result IsOfFiles }

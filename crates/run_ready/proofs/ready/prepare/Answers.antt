@@ -1,41 +1,57 @@
-use Rattle.std.proofs.Common.{None, Some, Ok}
-use Rattle.std.proofs.lemmas.Result.{IfOk-weaker, IfErr-weaker}
+use Rattle.std.proofs.Common.{◌≡◌, ◌∙◌, None, Ok, sym, ap, subst}
+use Rattle.std.proofs.lemmas.Result.{err_from_is_err_and, IfOk-weaker, IfErr-weaker}
+use Rattle.dev_traits.specs.Told.{WhereTold}
 use Rattle.dev_traits.proofs.ToldLemmas.{WhereTold-weaker}
-use Rattle.run_ready.specs.Outcome.{PlanUnder, PlanOf}
-use Rattle.run_ready.proofs.StepLemmas.{IsCause-among}
-use Rattle.run_ready.proofs.OrderLemmas.{PlanOf-names}
+use Rattle.job_plan.specs.declared.plan.Plan.{Plan}
+use Rattle.run_ready.specs.Recordings.{first_foreign}
+use Rattle.run_ready.specs.Identities.{identity_under}
+use Rattle.run_ready.specs.Outcome.{PlanOf}
+use Rattle.run_ready.proofs.ToldLemmas.{WhereTold-moved, WhereTold-then}
+use Rattle.run_ready.proofs.StepLemmas.{IfOk-both}
+use Rattle.run_ready.proofs.LaterLemmas.{PlanOf-plan, IsCause-surveyed, IsCause-foreign}
 use Rattle.run_ready.proofs.ready.prepare.Goals as goal
 
-pub returns-in-None-clause-plan : goal.returns-in-None-clause-plan
-returns-in-None-clause-plan g c =
-    IfOk-weaker c.prepare_inline.result _ _
-    (λ ready is. WhereTold-weaker (g.F.Shelf.told c.args.shelf.now) _ _
-    (λ files under. PlanOf-names files c.args.order.now c.job_of-job.result.now None (Ok ready.plan)
-    c.requires.job c.job_of-job.ensures.name c.in-None.ensures.name under) is)
-    c.prepare_inline.ensures.plan
+pub indexed-requires : goal.indexed-requires
+indexed-requires g c =
+    let told = g.F.Shelf.told in
+    WhereTold-moved (told c.survey.new.shelf) (told c.args.shelf.now) _ (sym c.survey.ensures.same) c.in_ok-survey.ensures.shelved
 
-pub returns-in-None-clause-cause : goal.returns-in-None-clause-cause
-returns-in-None-clause-cause g c =
-    IfErr-weaker c.prepare_inline.result _ _
-    (λ r cause. WhereTold-weaker (g.F.Shelf.told c.args.shelf.now) _ _
-    (λ files under. IsCause-among r (PlanUnder files c.job_of-job.result.now None) (PlanOf files c.args.order.now)
-    (λ outcome is. PlanOf-names files c.args.order.now c.job_of-job.result.now None outcome
-    c.requires.job c.job_of-job.ensures.name c.in-None.ensures.name is) under) cause)
-    c.prepare_inline.ensures.cause
+pub returns-in_err-survey-clause-cause : goal.returns-in_err-survey-clause-cause
+returns-in_err-survey-clause-cause g c =
+    let p = err_from_is_err_and c.from_residual.result c.from_residual.ensures.1 in
+    rw (p.1, p.2)
+    (WhereTold-weaker (g.F.Shelf.told c.args.shelf.now) _ _
+    (λ files cause. IsCause-surveyed files c.args.order.now c.in_err-survey.field-0.0 c.in_err-survey.ensures.stage cause) c.in_err-survey.ensures.cause)
 
-pub returns-in-Some-clause-plan : goal.returns-in-Some-clause-plan
-returns-in-Some-clause-plan g c =
-    IfOk-weaker c.prepare_beside.result _ _
-    (λ ready is. WhereTold-weaker (g.F.Shelf.told c.args.shelf.now) _ _
-    (λ files under. PlanOf-names files c.args.order.now c.job_of-job.result.now (Some c.in-Some.vex.now) (Ok ready.plan)
-    c.requires.job c.job_of-job.ensures.name c.in-Some.ensures.name under) is)
-    c.prepare_beside.ensures.plan
+pub returns-clause-plan : goal.returns-clause-plan
+returns-clause-plan g c =
+    let told = g.F.Shelf.told in
+    let plan = c.in_ok-survey.survey.plan in
+    IfOk-both c.indexed.result _ (λ _. WhereTold (told c.survey.new.shelf) (λ files. first_foreign files plan.stations ≡ None)) _
+    (λ ready same held. WhereTold-then (told c.args.shelf.now) (told c.survey.new.shelf) _ _ _
+    (λ files is none. subst (λ (p : Plan). PlanOf files c.args.order.now (Ok p)) (sym same) (PlanOf-plan files c.args.order.now plan None none is))
+    c.survey.ensures.same c.in_ok-survey.ensures.plan held)
+    c.indexed.ensures.plan c.indexed.ensures.agrees
 
-pub returns-in-Some-clause-cause : goal.returns-in-Some-clause-cause
-returns-in-Some-clause-cause g c =
-    IfErr-weaker c.prepare_beside.result _ _
-    (λ r cause. WhereTold-weaker (g.F.Shelf.told c.args.shelf.now) _ _
-    (λ files under. IsCause-among r (PlanUnder files c.job_of-job.result.now (Some c.in-Some.vex.now)) (PlanOf files c.args.order.now)
-    (λ outcome is. PlanOf-names files c.args.order.now c.job_of-job.result.now (Some c.in-Some.vex.now) outcome
-    c.requires.job c.job_of-job.ensures.name c.in-Some.ensures.name is) under) cause)
-    c.prepare_beside.ensures.cause
+pub returns-clause-recorded : goal.returns-clause-recorded
+returns-clause-recorded g c =
+    let told = g.F.Shelf.told in
+    IfOk-weaker c.indexed.result _ _
+    (λ ready are. WhereTold-moved (told c.args.shelf.now) (told c.survey.new.shelf) _ c.survey.ensures.same are)
+    c.indexed.ensures.recorded
+
+pub returns-clause-identity : goal.returns-clause-identity
+returns-clause-identity g c =
+    IfOk-both c.indexed.result _ _ _
+    (λ ready same alike. WhereTold-weaker (g.F.Shelf.told c.args.shelf.now) _ _
+    (λ files is. alike ∙ is ∙ ap (λ (p : Plan). identity_under files c.args.order.now p) (sym same)) c.in_ok-survey.ensures.identity)
+    c.indexed.ensures.plan c.indexed.ensures.identity
+
+pub returns-clause-cause : goal.returns-clause-cause
+returns-clause-cause g c =
+    let told = g.F.Shelf.told in
+    IfErr-weaker c.indexed.result _ _
+    (λ r due. WhereTold-then (told c.args.shelf.now) (told c.survey.new.shelf) _ _ _
+    (λ files is late. IsCause-foreign files c.args.order.now c.in_ok-survey.survey.plan r is late)
+    c.survey.ensures.same c.in_ok-survey.ensures.plan due)
+    c.indexed.ensures.due

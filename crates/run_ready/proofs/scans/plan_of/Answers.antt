@@ -1,4 +1,5 @@
 use Rattle.std.proofs.Common.{arith}
+use Rattle.run_ready.proofs.EpochLemmas.{few_epochs-joined}
 use Rattle.run_ready.proofs.JoinLemmas.{few-joined, length-joined}
 use Rattle.run_ready.proofs.scans.plan_of.Goals as goal
 
@@ -8,3 +9,7 @@ returns-in-Ok-clause-few c = few-joined c.args.job.now c.args.list.now.scans c.i
 pub returns-in-Ok-clause-few_scans : goal.returns-in-Ok-clause-few_scans
 returns-in-Ok-clause-few_scans c =
     omega (arith, length-joined c.args.job.now c.args.list.now.scans c.in-Ok.plan c.in-Ok.ensures, c.requires.few_scans)
+
+pub returns-in-Ok-clause-few_epochs : goal.returns-in-Ok-clause-few_epochs
+returns-in-Ok-clause-few_epochs c =
+    few_epochs-joined c.args.job.now c.args.list.now.scans c.in-Ok.plan c.plan-ranges.ensures.ranges c.in-Ok.ensures

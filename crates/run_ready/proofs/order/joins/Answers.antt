@@ -4,10 +4,10 @@ use Rattle.frame_index.proofs.ToldLemmas.{WhereTold-always}
 use Rattle.job_plan.specs.declared.plan.Plan.{Plan}
 use Rattle.job_join.specs.Joined.{joined}
 use Rattle.run_ready.specs.Steps.{Is, answered, unless}
-use Rattle.run_ready.specs.Recordings.{recordings_answer}
+use Rattle.run_ready.specs.Recordings.{files_answer}
 use Rattle.run_ready.specs.Outcome.{cause_answer}
 use Rattle.run_ready.proofs.StepLemmas.{IsOfFiles-texts, MatchRead-texts, IfErr-both, Told-first, Told-next, Told-done}
-use Rattle.run_ready.proofs.ready.joins.Goals as goal
+use Rattle.run_ready.proofs.order.joins.Goals as goal
 
 pub returns-in_err-plan-clause-cause : goal.returns-in_err-plan-clause-cause
 returns-in_err-plan-clause-cause g c =
@@ -17,7 +17,7 @@ returns-in_err-plan-clause-cause g c =
     rw (p.1, p.2)
     (Told-first (told c.args.shelf.now) c.in_err-plan.field-0.0
     (λ files. Is (answered (cause_answer c.args.job.now scans) (joined c.args.job.now scans)))
-    (λ files (plan : Plan). Is (unless (recordings_answer files plan.stations) plan))
+    (λ files (plan : Plan). Is (unless (files_answer files plan.stations) plan))
     (IsOfFiles-texts c.in_err-plan.field-0.0 c.in_err-plan.ensures.stage)
     (WhereTold-always (told c.args.shelf.now) _ (λ files. c.in_err-plan.ensures.cause)))
 
@@ -35,22 +35,22 @@ pub returns-clause-plan : goal.returns-clause-plan
 returns-clause-plan g c =
     let told = g.F.Shelf.told in
     let scans = c.args.list.now.scans in
-    IfOk-weaker c.recorded.result _ _
-    (λ ready is. Told-done (told c.args.shelf.now) (told c.args.shelf.now)
+    IfOk-weaker c.surveyed.result _ _
+    (λ s is. Told-done (told c.args.shelf.now) (told c.args.shelf.now)
     (λ files. Is (answered (cause_answer c.args.job.now scans) (joined c.args.job.now scans)))
-    (λ files (plan : Plan). Is (unless (recordings_answer files plan.stations) plan))
-    c.in_ok-plan.plan ready.plan refl
+    (λ files (plan : Plan). Is (unless (files_answer files plan.stations) plan))
+    c.in_ok-plan.plan s.plan refl
     (WhereTold-always (told c.args.shelf.now) _ (λ files. c.in_ok-plan.ensures.plan)) is)
-    c.recorded.ensures.plan
+    c.surveyed.ensures.plan
 
 pub returns-clause-cause : goal.returns-clause-cause
 returns-clause-cause g c =
     let told = g.F.Shelf.told in
     let scans = c.args.list.now.scans in
-    IfErr-both c.recorded.result _ _ _
+    IfErr-both c.surveyed.result _ _ _
     (λ r stage cause. Told-next (told c.args.shelf.now) (told c.args.shelf.now) r
     (λ files. Is (answered (cause_answer c.args.job.now scans) (joined c.args.job.now scans)))
-    (λ files (plan : Plan). Is (unless (recordings_answer files plan.stations) plan))
+    (λ files (plan : Plan). Is (unless (files_answer files plan.stations) plan))
     c.in_ok-plan.plan refl stage
     (WhereTold-always (told c.args.shelf.now) _ (λ files. c.in_ok-plan.ensures.plan)) cause)
-    c.recorded.ensures.stage c.recorded.ensures.cause
+    c.surveyed.ensures.stage c.surveyed.ensures.cause

@@ -1,16 +1,14 @@
-use Rattle.std.proofs.Common.{◌∙◌, ◌<◌, ◌^◌, length, sym, ap, subst, arith}
+use Rattle.std.proofs.Common.{◌∙◌, ◌≤◌, ◌<◌, ◌^◌, length, sym, ap, subst, arith}
 use Rattle.std.specs.List.{All}
-use Rattle.std.proofs.lemmas.Result.{err_from_is_err_and, IfErr-weaker, on_ok_weaker}
+use Rattle.std.proofs.lemmas.Result.{err_from_is_err_and}
 use Rattle.std.proofs.lemmas.Slice.Zip.{AllZip-long}
 use Rattle.frame_index.proofs.ToldLemmas.{WhereTold-both}
 use Rattle.dev_traits.proofs.ToldLemmas.{WhereTold-weaker}
 use Rattle.run_ready.specs.declared.recordings.StationFiles.{StationFiles}
-use Rattle.run_ready.specs.Due.{IsDue}
 use Rattle.run_ready.specs.Sizes.{IsSizedBy, slots_together}
-use Rattle.run_ready.proofs.ToldLemmas.{WhereTold-then}
-use Rattle.run_ready.proofs.FilesLemmas.{bound-sized}
-use Rattle.run_ready.proofs.RecordingLemmas.{IsDue-no_file, recordings_answer-slots, recordings_answer-foreign}
-use Rattle.run_ready.proofs.indexes.recordings_of.Goals as goal
+use Rattle.run_ready.proofs.FilesLemmas.{bound-sized, few-together}
+use Rattle.run_ready.proofs.RecordingLemmas.{IsDue-no_file, files_answer-slots, files_answer-none}
+use Rattle.run_ready.proofs.recordings.files_of.Goals as goal
 
 pub returns-in_err-sized-clause-due : goal.returns-in_err-sized-clause-due
 returns-in_err-sized-clause-due g c =
@@ -31,32 +29,19 @@ slots_together-slots-requires-clause-bounds g c =
 pub returns-then-slots-gt-MOST_SLOTS-clause-due : goal.returns-then-slots-gt-MOST_SLOTS-clause-due
 returns-then-slots-gt-MOST_SLOTS-clause-due g c =
     WhereTold-both (g.F.Shelf.told c.args.shelf.now) _ _ _
-    (λ files are none. recordings_answer-slots files c.args.stations.now c.in_ok-sized.sized.items c.slots_together-slots.result
+    (λ files are none. files_answer-slots files c.args.stations.now c.in_ok-sized.sized.items c.slots_together-slots.result
     c.in_ok-sized.ensures.sized are (c.slots_together-slots.ensures ∙ ap slots_together c.deref.ensures.value) none c.if-slots-gt-MOST_SLOTS.true)
     c.in_ok-sized.ensures.shelved c.in_ok-sized.ensures.there
 
+pub returns-clause-slots : goal.returns-clause-slots
+returns-clause-slots g c =
+    let few : slots_together c.in_ok-sized.sized.items ≤ 2 ^ 26 =
+    omega (arith, c.slots_together-slots.ensures ∙ ap slots_together c.deref.ensures.value, c.if-slots-gt-MOST_SLOTS.false) in
+    few-together c.in_ok-sized.sized.items few
+
 pub returns-clause-accepted : goal.returns-clause-accepted
 returns-clause-accepted g c =
-    let told = g.F.Shelf.told in
-    on_ok_weaker c.index_all.result
-    (λ agrees. WhereTold-then (told c.args.shelf.now) (told c.all_files.new.shelf) _ _ _
-    (λ files is none. is ∙ none) c.all_files.ensures.same
-    (WhereTold-both (told c.args.shelf.now) _ _ _
-    (λ files are none. recordings_answer-foreign files c.args.stations.now c.in_ok-sized.sized.items c.slots_together-slots.result
+    WhereTold-both (g.F.Shelf.told c.args.shelf.now) _ _ _
+    (λ files are none. files_answer-none files c.args.stations.now c.in_ok-sized.sized.items c.slots_together-slots.result
     c.in_ok-sized.ensures.sized are (c.slots_together-slots.ensures ∙ ap slots_together c.deref.ensures.value) none c.if-slots-gt-MOST_SLOTS.false)
-    c.in_ok-sized.ensures.shelved c.in_ok-sized.ensures.there)
-    agrees)
-    c.index_all.ensures.agrees
-
-pub returns-clause-due : goal.returns-clause-due
-returns-clause-due g c =
-    let told = g.F.Shelf.told in
-    IfErr-weaker c.index_all.result _ _
-    (λ r due. WhereTold-then (told c.args.shelf.now) (told c.all_files.new.shelf) _ _ _
-    (λ files is late. subst (IsDue r) (sym is) late) c.all_files.ensures.same
-    (WhereTold-both (told c.args.shelf.now) _ _ _
-    (λ files are none. recordings_answer-foreign files c.args.stations.now c.in_ok-sized.sized.items c.slots_together-slots.result
-    c.in_ok-sized.ensures.sized are (c.slots_together-slots.ensures ∙ ap slots_together c.deref.ensures.value) none c.if-slots-gt-MOST_SLOTS.false)
-    c.in_ok-sized.ensures.shelved c.in_ok-sized.ensures.there)
-    due)
-    c.index_all.ensures.due
+    c.in_ok-sized.ensures.shelved c.in_ok-sized.ensures.there

@@ -1,0 +1,109 @@
+-- What an order comes to where its recordings may be wrong besides its files.
+use Rattle.std.proofs.Common.{◌≡◌, ℕ, true, false, List, Option, None, Some, Result, Ok, Err, refl, sym, ap, subst, inl, inr}
+use Rattle.corr_model.specs.Files.{Files}
+use Rattle.vex_schedule.specs.declared.scan.Scan.{Scan}
+use Rattle.job_text.specs.Job.{JobFields}
+use Rattle.job_text.specs.Inline.{scans_of}
+use Rattle.job_join.specs.Joined.{joined}
+use Rattle.job_plan.specs.declared.plan.Plan.{Plan}
+use Rattle.run_words.specs.declared.order.Order.{Order}
+use Rattle.run_words.specs.declared.order.Order.TheVariants.{Run, Plain, Check, Status, Dump, Gen}
+use Rattle.run_notes.specs.Answers.{Answer}
+use Rattle.run_notes.specs.Refusals.{Outcomes, IsCause, due_answer}
+use Rattle.run_notes.specs.declared.refusal.Refusal.{Refusal}
+use Rattle.run_notes.specs.declared.refusal.Refusal.TheVariants.{Memory, Due as DueRefusal, Read, Journal, Write}
+use Rattle.run_ready.specs.Due.{IsDue}
+use Rattle.run_ready.specs.Steps.{Is, Then, answered, unless, or_else}
+use Rattle.run_ready.specs.Stage.{IsOfFiles}
+use Rattle.run_ready.specs.Recordings.{files_answer, first_foreign, recordings_answer}
+use Rattle.run_ready.specs.Outcome.{cause_answer, Wrong, Joins, JobOf, ScheduleOf, PlanUnder, PlanBy, SurveyOf, PlanOf}
+
+-- another outcome, which is the same where it is an answer
+abbrev Stays : {A : Type 0} → Result A Answer → Result A Answer → Type 0
+Stays {A} x y = (answer : Answer) → x ≡ Err answer → y ≡ Err answer
+
+Then-turn : {A B : Type 0} (first : Outcomes A) (next other : A → Outcomes B) (x y : Result B Answer)
+    → Stays x y → ((a : A) → next a x → other a y) → Then first next x → Then first other y
+Then-turn first next other (Ok b) (Ok c) stays turn p = (p.0, p.1, turn p.0 p.2)
+Then-turn first next other (Ok b) (Err d) stays turn p = inr (p.0, p.1, turn p.0 p.2)
+Then-turn first next other (Err e) (Ok c) stays turn p = absurd (let h : Ok c ≡ Err e = stays e refl in cc)
+Then-turn first next other (Err e) (Err d) stays turn (inl p) =
+    let h : Err d ≡ Err e = stays e refl in
+    let same : e ≡ d = cc in
+    inl (subst (λ (a : Answer). first (Err a)) same p)
+Then-turn first next other (Err e) (Err d) stays turn (inr p) = inr (p.0, p.1, turn p.0 p.2)
+
+-- one outcome by what is wrong, another by what else is
+abbrev Turns : Wrong → Wrong → Result Plan Answer → Result Plan Answer → Type 0
+Turns w v x y = (plan : Plan) → x ≡ unless (w plan.stations) plan → y ≡ unless (v plan.stations) plan
+
+Joins-turn : (w v : Wrong) (job : JobFields) (scans : List Scan) (x y : Result Plan Answer) → Stays x y → Turns w v x y → Joins w job scans x → Joins v job scans y
+Joins-turn w v job scans x y stays turns p =
+    Then-turn (Is (answered (cause_answer job scans) (joined job scans)))
+    (λ (plan : Plan). Is (unless (w plan.stations) plan)) (λ (plan : Plan). Is (unless (v plan.stations) plan)) x y stays turns p
+
+PlanUnder-turn : (files : Files) (w v : Wrong) (job : List ℕ) (vex : Option (List ℕ)) (x y : Result Plan Answer)
+    → Stays x y → Turns w v x y → PlanUnder files w job vex x → PlanUnder files v job vex y
+PlanUnder-turn files w v job None x y stays turns p =
+    Then-turn (JobOf files job true) (λ fields. Joins w fields (scans_of fields)) (λ fields. Joins v fields (scans_of fields)) x y stays
+    (λ fields. Joins-turn w v fields (scans_of fields) x y stays turns) p
+PlanUnder-turn files w v job (Some vex) x y stays turns p =
+    Then-turn (ScheduleOf files vex)
+    (λ scans. Then (JobOf files job false) (λ fields. Joins w fields scans)) (λ scans. Then (JobOf files job false) (λ fields. Joins v fields scans)) x y stays
+    (λ scans. Then-turn (JobOf files job false) (λ fields. Joins w fields scans) (λ fields. Joins v fields scans) x y stays
+    (λ fields. Joins-turn w v fields scans x y stays turns)) p
+
+PlanBy-turn : (files : Files) (w v : Wrong) (order : Order) (x y : Result Plan Answer)
+    → Stays x y → Turns w v x y → PlanBy files w order x → PlanBy files v order y
+PlanBy-turn files w v (Run job vex workers piece) x y stays turns p = PlanUnder-turn files w v job vex x y stays turns p
+PlanBy-turn files w v (Plain job vex) x y stays turns p = PlanUnder-turn files w v job vex x y stays turns p
+PlanBy-turn files w v (Check job vex) x y stays turns p = PlanUnder-turn files w v job vex x y stays turns p
+PlanBy-turn files w v (Status job vex) x y stays turns p = PlanUnder-turn files w v job vex x y stays turns p
+PlanBy-turn files w v (Dump file) x y stays turns p = absurd p
+PlanBy-turn files w v (Gen seed seconds workers piece) x y stays turns p = absurd p
+
+-- a plan whose files stand becomes what its recordings come to
+turns-plan : (files : Files) (plan : Plan) (o : Option Answer) → first_foreign files plan.stations ≡ o
+    → Turns (files_answer files) (recordings_answer files) (Ok plan) (unless o plan)
+unfolding recordings_answer
+turns-plan files plan o held other is = by (files_answer files other.stations) is
+  where
+    by : (v : Option Answer) → Ok plan ≡ unless v other → unless o plan ≡ unless (or_else v (first_foreign files other.stations)) other
+    by None e =
+        let same : plan ≡ other = cc in
+        subst (λ (p : Plan). unless o plan ≡ unless (first_foreign files p.stations) p) same (ap (λ w. unless w plan) (sym held))
+    by (Some answer) e = absurd cc
+
+-- and an answer stays
+turns-answer : (files : Files) (answer : Answer) → Turns (files_answer files) (recordings_answer files) (Err answer) (Err answer)
+unfolding recordings_answer
+turns-answer files answer other is = by (files_answer files other.stations) is
+  where
+    by : (v : Option Answer) → Err answer ≡ unless v other → Err answer ≡ unless (or_else v (first_foreign files other.stations)) other
+    by None e = absurd cc
+    by (Some told) e = e
+
+pub PlanOf-plan : (files : Files) (order : Order) (plan : Plan) (o : Option Answer) → first_foreign files plan.stations ≡ o
+    → SurveyOf files order (Ok plan) → PlanOf files order (unless o plan)
+PlanOf-plan files order plan o held is =
+    PlanBy-turn files (files_answer files) (recordings_answer files) order (Ok plan) (unless o plan)
+    (λ answer e. absurd (cc)) (turns-plan files plan o held) is
+
+-- the cause that a survey is refused for
+pub IsCause-surveyed : (files : Files) (order : Order) (r : Refusal) → IsOfFiles r → IsCause r (SurveyOf files order) → IsCause r (PlanOf files order)
+IsCause-surveyed files order Memory stage cause = tt
+IsCause-surveyed files order (DueRefusal due) stage cause =
+    PlanBy-turn files (files_answer files) (recordings_answer files) order (Err (due_answer due)) (Err (due_answer due))
+    (λ answer e. e) (turns-answer files (due_answer due)) cause
+IsCause-surveyed files order Read stage cause = tt
+IsCause-surveyed files order (Journal kept) stage cause = absurd stage
+IsCause-surveyed files order Write stage cause = absurd stage
+
+-- and the one that its recordings are
+pub IsCause-foreign : (files : Files) (order : Order) (plan : Plan) (r : Refusal) → SurveyOf files order (Ok plan)
+    → IsDue r (first_foreign files plan.stations) → IsCause r (PlanOf files order)
+IsCause-foreign files order plan Memory is due = tt
+IsCause-foreign files order plan (DueRefusal d) is due = PlanOf-plan files order plan (Some (due_answer d)) due is
+IsCause-foreign files order plan Read is due = tt
+IsCause-foreign files order plan (Journal kept) is due = absurd due
+IsCause-foreign files order plan Write is due = absurd due

@@ -1,0 +1,94 @@
+//! What a command knows of its job before the recordings are looked into.
+ghost use Rattle.std.specs.Prelude.{◌≡◌, ◌≤◌, ◌<◌, ◌^◌, IfOk, IfErr, Ok, length};
+ghost use Rattle.std.specs.List.{All, AllZip};
+ghost use Rattle.dev_traits.specs.Told.{WhereTold};
+ghost use Rattle.piece_plan.specs.Epochs.{epochs_of};
+ghost use Rattle.job_epochs.specs.Sizes.{sizes_of};
+ghost use Rattle.checkpoint_journal.specs.Identity.{identity_of};
+ghost use Rattle.run_notes.specs.Refusals.{IsCause};
+ghost use Rattle.run_notes.specs.Counted.{CountsReads};
+ghost use Rattle.run_ready.specs.Steps.{Is, unless};
+ghost use Rattle.run_ready.specs.Recordings.{files_answer};
+ghost use Rattle.run_ready.specs.Identities.{lengths_of};
+ghost use Rattle.run_ready.specs.Sizes.{IsSizedBy, AreShelved, sizes_in};
+ghost use Rattle.run_ready.specs.Props.{AreSized-prop};
+ghost use Rattle.run_ready.specs.Stage.{IsOfFiles};
+
+use crate::identity::identity_of;
+use crate::recordings::{StationFiles, files_of};
+use checkpoint_journal::Identity;
+use dev_traits::Shelf;
+use job_epochs::plan_epochs;
+use job_plan::Plan0;
+use piece_plan::JobPlan;
+use run_notes::Refusal;
+use std::alloc::{AllocError, Global};
+
+/// A plan, its epochs, the files of its stations with their sizes, in the stations' order, and the identity of its job.
+#[derive(Drop)]
+pub struct Survey {
+    pub plan: Plan0,
+    pub epochs: JobPlan,
+    pub files: Vec<StationFiles>,
+    pub identity: Identity,
+    pub ghost sized: { AllZip IsSizedBy plan.stations files.items } by { AreSized-prop plan.stations files.items },
+    pub ghost slots: { All (λ z. z.slots ≤ 2 ^ 26) files.items },
+    pub ghost few: { length plan.scans ≤ 8388608 },
+    pub ghost cut: { epochs ≡ sizes_of plan },
+    pub ghost few_epochs: { length (epochs_of epochs) ≤ 4294967296 },
+    pub ghost short: { length identity < 2 ^ 62 },
+}
+
+// The survey of a plan whose stations have these files, of a job with these texts.
+fn survey_of(
+    alloc: Global,
+    schedule: &[u8],
+    job: &[u8],
+    plan: Plan0,
+    files: Vec<StationFiles>,
+) -> Result<Survey, AllocError>
+    requires short_schedule { length schedule.now ≤ 8388608 }
+    requires short_job { length job.now ≤ 4194304 }
+    requires few_scans { length plan.scans ≤ 8388608 }
+    requires few_epochs { length (epochs_of (sizes_of plan)) ≤ 4294967296 }
+    requires few_stations { length plan.stations ≤ 32 }
+    requires sized { AllZip IsSizedBy plan.stations files.items }
+    requires slots { All (λ z. z.slots ≤ 2 ^ 26) files.items }
+    ensures plan { IfOk result (λ s. s.plan ≡ plan) }
+    ensures files { IfOk result (λ s. s.files ≡ files) }
+    ensures identity { IfOk result (λ s. s.identity ≡ identity_of schedule.now job.now (sizes_in files.items)) }
+{
+    let epochs = plan_epochs(alloc, &plan)?;
+    let identity = identity_of(alloc, schedule, job, &files)?;
+    Ok(Survey {
+        plan,
+        epochs,
+        files,
+        identity,
+    })
+}
+
+/// The survey of a plan, of a job with these texts: its stations' files are looked at.
+pub fn surveyed<F: Shelf>(
+    alloc: Global,
+    shelf: &mut F,
+    schedule: &[u8],
+    job: &[u8],
+    plan: Plan0,
+) -> Result<Survey, Refusal>
+    requires short_schedule { length schedule.now ≤ 8388608 }
+    requires short_job { length job.now ≤ 4194304 }
+    requires few { All (λ s. length s.files < 2 ^ 32) plan.stations }
+    requires few_scans { length plan.scans ≤ 8388608 }
+    requires few_epochs { length (epochs_of (sizes_of plan)) ≤ 4294967296 }
+    ensures same { F.told shelf.new ≡ F.told shelf.old }
+    ensures plan { IfOk result (λ s. WhereTold (F.told shelf.old) (λ files. Is (unless (files_answer files plan.stations) plan) (Ok s.plan))) }
+    ensures shelved { IfOk result (λ s. WhereTold (F.told shelf.old) (AreShelved s.files.items)) }
+    ensures identity { IfOk result (λ s. WhereTold (F.told shelf.old) (λ files. s.identity ≡ identity_of schedule.now job.now (lengths_of files s.plan.stations))) }
+    ensures cause { IfErr result (λ r. WhereTold (F.told shelf.old) (λ files. IsCause r (Is (unless (files_answer files plan.stations) plan)))) }
+    ensures stage { IfErr result IsOfFiles }
+    ensures counts { CountsReads (F.faults shelf.old) (F.faults shelf.new) result }
+{
+    let files = files_of(alloc, shelf, plan.plan().stations.items())?;
+    Ok(survey_of(alloc, schedule, job, plan, files)?)
+}

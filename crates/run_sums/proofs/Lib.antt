@@ -1,0 +1,5 @@
+pub mod PairLemmas
+pub mod PlaceLemmas
+pub mod FoundLemmas
+pub mod ReachLemmas
+pub mod SumsLemmas

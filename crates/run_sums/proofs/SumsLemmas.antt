@@ -1,0 +1,130 @@
+-- The sums of an epoch from the streams of its scan are those of the plan's definition.
+use Rattle.std.specs.Prelude.{flat_map, option_map, slice_get}
+use Rattle.std.specs.List.{range_with_len}
+use Rattle.std.specs.Option.{option_map_or}
+use Rattle.std.proofs.Common.{◌≡◌, ℕ, ◌*◌, ◌<◌, pos, ◌+ℤ◌, List, [], ◌∷◌, ◌++◌, length, map, Some, refl, sym, ap, ◌∙◌, arith}
+use Rattle.std.proofs.lemmas.List.{length-append, length-map}
+use Rattle.std.proofs.lemmas.List.Concat.{flat_map-append}
+use Rattle.std.proofs.lemmas.List.Folds.{flat_map-map}
+use Rattle.std.proofs.lemmas.List.FromFn.{length-map-range_with_len, get_or-map-range_with_len, fill_by_all}
+use Rattle.corr_model.specs.declared.cell.Cell.{Cell}
+use Rattle.corr_model.specs.declared.cell.Pair.{Pair}
+use Rattle.corr_model.specs.Cell.{Samples, no_cell, cell_in}
+use Rattle.corr_model.specs.Files.{Files}
+use Rattle.corr_model.specs.Lags.{lag_of}
+use Rattle.corr_model.proofs.CellLemmas.{cell_in-values}
+use Rattle.piece_plan.specs.declared.epoch.EpochPlan.{EpochPlan}
+use Rattle.piece_plan.specs.Epochs.{JobSizes, epochs_of, cell_count}
+use Rattle.checkpoint_journal.specs.Image.{cells_of_epoch}
+use Rattle.job_plan.specs.declared.plan.ProductPlan.{ProductPlan}
+use Rattle.job_plan.specs.declared.plan.BaselinePlan.{BaselinePlan}
+use Rattle.job_plan.specs.declared.plan.ScanPlan.{ScanPlan}
+use Rattle.job_plan.specs.declared.plan.Plan.{Plan}
+use Rattle.job_plan.specs.Values.{rotated}
+use Rattle.job_epochs.specs.Sums.{pair_of, lag_cells, baseline_cells, range_cells, epoch_sums, sums_of}
+use Rattle.job_epochs.specs.Sizes.{sizes_of}
+use Rattle.scan_values.specs.declared.values.ScanValues.{ScanValues}
+use Rattle.epoch_run.specs.Streamed.{streamed}
+use Rattle.epoch_run.specs.Sums.{pair_cells, cells_in_epoch}
+use Rattle.run_sums.specs.Found.{IsEpochOf, IsFound}
+use Rattle.run_sums.specs.Reach.{AreReached}
+use Rattle.run_sums.specs.Pairs.{placed_pair, pairs_in}
+use Rattle.run_sums.proofs.PlaceLemmas.{streamed-place}
+use Rattle.run_sums.proofs.ReachLemmas.{inside-epoch, inside-lagged}
+
+-- ---- lists of lists
+
+flat_map-flat_map : {X Y Z : Type 0} (f : Y → List Z) (g : X → List Y) (xs : List X) → flat_map f (flat_map g xs) ≡ flat_map (λ x. flat_map f (g x)) xs
+flat_map-flat_map f g [] = refl
+flat_map-flat_map f g (x ∷ xs) = flat_map-append f (g x) (flat_map g xs) ∙ ap (λ rest. flat_map f (g x) ++ rest) (flat_map-flat_map f g xs)
+
+flat_map-same : {X Y : Type 0} (f g : X → List Y) (xs : List X) → ((x : X) → f x ≡ g x) → flat_map f xs ≡ flat_map g xs
+flat_map-same f g xs same = ap (λ h. flat_map h xs) (λ i x. same x i)
+
+length-flat_map_each : {X Y : Type 0} (f : X → List Y) (per : ℕ) (xs : List X) → ((x : X) → length (f x) ≡ per) → length (flat_map f xs) ≡ length xs * per
+length-flat_map_each f per [] each = omega arith
+length-flat_map_each f per (x ∷ xs) each =
+    omega (arith, length-append (f x) (flat_map f xs), each x, length-flat_map_each f per xs each)
+
+-- ---- the number of cells
+
+length-pairs_in : (v : ScanValues) (plan : Plan) (scan : ScanPlan) → length (pairs_in v plan scan) ≡ length plan.products * length scan.baselines
+length-pairs_in v plan scan =
+    length-flat_map_each (λ (p : ProductPlan). map (placed_pair v p) scan.baselines) (length scan.baselines) plan.products
+    (λ p. length-map scan.baselines (placed_pair v p))
+
+-- a pair for each of the epoch's groups
+pub length-pairs_in_epoch : (v : ScanValues) (plan : Plan) (scan : ScanPlan) (e : EpochPlan) → IsEpochOf plan scan e
+    → length (pairs_in v plan scan) ≡ e.products * e.baselines
+length-pairs_in_epoch v plan scan e is =
+    length-pairs_in v plan scan ∙ sym (ap (λ n. n * e.baselines) is.products ∙ ap (λ n. length plan.products * n) is.baselines)
+
+length-cells_in_epoch : (z : Samples) (pairs : List Pair) (samples : ℕ) (e : EpochPlan) → length (cells_in_epoch z pairs samples e) ≡ length pairs * e.lags
+length-cells_in_epoch z pairs samples e =
+    length-flat_map_each (pair_cells z samples e.lags e.from e.to) e.lags pairs
+    (λ pair. length-map-range_with_len (λ i. cell_in z pair samples (lag_of e.lags i) e.from e.to) 0 e.lags)
+
+-- ---- the cells
+
+-- equal cells at each lag
+map-range-same : (f g : ℕ → Cell) (n : ℕ) → ((i : ℕ) → i < n → f i ≡ g i) → map f (range_with_len 0 n) ≡ map g (range_with_len 0 n)
+map-range-same f g n same =
+    fill_by_all g (map f (range_with_len 0 n)) n no_cell (length-map-range_with_len f 0 n)
+    (λ i less. get_or-map-range_with_len f 0 n i i no_cell less (omega arith) ∙ same i less)
+
+cell-reached : (plan : Plan) (scan : ScanPlan) (e : EpochPlan) (v : ScanValues) (files : Files) (p : ProductPlan) (b : BaselinePlan) (i : ℕ)
+    → IsEpochOf plan scan e → AreReached plan scan e v files → i < e.lags
+    → cell_in (streamed v.streams.items) (placed_pair v p b) scan.samples (lag_of e.lags i) e.from e.to
+    ≡ cell_in (rotated plan files scan) (pair_of p b) scan.samples (lag_of e.lags i) e.from e.to
+cell-reached plan scan e v files p b i is are lag =
+    cell_in-values (streamed v.streams.items) (rotated plan files scan) (placed_pair v p b) (pair_of p b) scan.samples (lag_of e.lags i) e.from e.to
+    (λ n begun under.
+    let in_reach = inside-epoch e.from e.to e.lags scan.samples n is.of_plan.lags.some is.inside begun under in
+    streamed-place v b.a p.x (pos n) ∙ are b.a p.x (pos n) in_reach.begun in_reach.under)
+    (λ n begun under inside.
+    let in_reach = inside-lagged e.from e.to e.lags scan.samples n i is.of_plan.lags.even begun under lag inside in
+    streamed-place v b.b p.y (pos n +ℤ lag_of e.lags i) ∙ are b.b p.y (pos n +ℤ lag_of e.lags i) in_reach.begun in_reach.under)
+
+pair_cells-reached : (plan : Plan) (scan : ScanPlan) (e : EpochPlan) (v : ScanValues) (files : Files) (p : ProductPlan) (b : BaselinePlan)
+    → IsEpochOf plan scan e → AreReached plan scan e v files
+    → pair_cells (streamed v.streams.items) scan.samples e.lags e.from e.to (placed_pair v p b)
+    ≡ lag_cells plan (rotated plan files scan) scan e.from e.to p b
+pair_cells-reached plan scan e v files p b is are =
+    let z : Samples = rotated plan files scan in
+    map-range-same (λ i. cell_in (streamed v.streams.items) (placed_pair v p b) scan.samples (lag_of e.lags i) e.from e.to)
+    (λ i. cell_in z (pair_of p b) scan.samples (lag_of e.lags i) e.from e.to) e.lags
+    (λ i less. cell-reached plan scan e v files p b i is are less)
+    ∙ ap (λ lags. pair_cells z scan.samples lags e.from e.to (pair_of p b)) is.lags
+
+-- the cells of all pairs, from streams that hold what the epoch's lags reach
+range_cells-reached : (plan : Plan) (scan : ScanPlan) (e : EpochPlan) (v : ScanValues) (files : Files) → IsEpochOf plan scan e → AreReached plan scan e v files
+    → cells_in_epoch (streamed v.streams.items) (pairs_in v plan scan) scan.samples e ≡ range_cells plan (rotated plan files scan) scan e.from e.to
+range_cells-reached plan scan e v files is are =
+    let z : Samples = rotated plan files scan in
+    let cells : Pair → List Cell = pair_cells (streamed v.streams.items) scan.samples e.lags e.from e.to in
+    let pairs : ProductPlan → List Pair = λ p. map (placed_pair v p) scan.baselines in
+    flat_map-flat_map cells pairs plan.products
+    ∙ flat_map-same (λ p. flat_map cells (pairs p)) (baseline_cells plan z scan e.from e.to) plan.products
+    (λ p. flat_map-map cells (placed_pair v p) scan.baselines
+    ∙ flat_map-same (λ b. cells (placed_pair v p b)) (lag_cells plan z scan e.from e.to p) scan.baselines
+    (λ b. pair_cells-reached plan scan e v files p b is are))
+
+-- ---- the epoch with a number
+
+pub sums_of-reached : (plan : Plan) (job : JobSizes) (i : ℕ) (e : EpochPlan) (scan : ScanPlan) (v : ScanValues) (files : Files) (sums : List Cell)
+    → IsFound plan job i e scan → job ≡ sizes_of plan
+    → sums ≡ cells_in_epoch (streamed v.streams.items) (pairs_in v plan scan) scan.samples e
+    → AreReached plan scan e v files → sums ≡ sums_of plan files i
+sums_of-reached plan job i e scan v files sums found cut are_cells are =
+    let at : slice_get (epochs_of (sizes_of plan)) i ≡ Some e = ap (λ (j : JobSizes). slice_get (epochs_of j) i) (sym cut) ∙ found.at in
+    are_cells ∙ range_cells-reached plan scan e v files found.of_scan are
+    ∙ sym (ap (λ o. option_map_or (epoch_sums plan files) o []) at
+    ∙ ap (λ o. option_map_or (λ (s : ScanPlan). range_cells plan (rotated plan files s) s e.from e.to) o []) found.there)
+
+pub cells_of_epoch-found : (plan : Plan) (job : JobSizes) (i : ℕ) (e : EpochPlan) (scan : ScanPlan) (v : ScanValues) (sums : List Cell)
+    → IsFound plan job i e scan → sums ≡ cells_in_epoch (streamed v.streams.items) (pairs_in v plan scan) scan.samples e
+    → cells_of_epoch job i ≡ Some (length sums)
+cells_of_epoch-found plan job i e scan v sums found are_cells =
+    ap (option_map cell_count) found.at
+    ∙ ap Some (sym (ap length are_cells ∙ length-cells_in_epoch (streamed v.streams.items) (pairs_in v plan scan) scan.samples e
+    ∙ ap (λ n. n * e.lags) (length-pairs_in_epoch v plan scan e found.of_scan)))

@@ -1,0 +1,4 @@
+pub mod Refused
+pub mod Found
+pub mod Reach
+pub mod Pairs

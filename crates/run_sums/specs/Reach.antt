@@ -1,0 +1,23 @@
+-- The samples that the lags of an epoch reach, and values of these.
+use Rattle.std.specs.Prelude.{◌≡◌, ℕ, ◌+◌, ◌-◌, ◌/◌, min, ℤ, pos, ◌≤ℤ◌, ◌<ℤ◌}
+use Rattle.corr_model.specs.Files.{Files}
+use Rattle.piece_plan.specs.declared.epoch.EpochPlan.{EpochPlan}
+use Rattle.job_plan.specs.declared.plan.ScanPlan.{ScanPlan}
+use Rattle.job_plan.specs.declared.plan.Plan.{Plan}
+use Rattle.job_plan.specs.Values.{rotated}
+use Rattle.scan_values.specs.declared.values.ScanValues.{ScanValues}
+use Rattle.scan_values.specs.Values.{values_of}
+
+-- the first of them, not before the scan: the least lag is half their number below 0
+abbrev pub reach_from : EpochPlan → ℕ
+reach_from e = e.from - e.lags / 2
+
+-- the sample behind the last one, not past a scan of so many samples: the greatest lag is 1 less than half their number
+abbrev pub reach_to : EpochPlan → ℕ → ℕ
+reach_to e samples = min samples (e.to + (e.lags / 2 - 1))
+
+-- at the samples that the lags reach these values are those of the scan
+abbrev pub AreReached : Plan → ScanPlan → EpochPlan → ScanValues → Files → Type 0
+AreReached plan scan e v files =
+    (station chan : ℕ) (n : ℤ) → pos (reach_from e) ≤ℤ n → n <ℤ pos (reach_to e scan.samples)
+    → values_of v station chan n ≡ rotated plan files scan station chan n

@@ -1,0 +1,2 @@
+pub mod ExtendLemmas
+pub mod RoomLemmas

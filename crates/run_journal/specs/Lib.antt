@@ -1,0 +1,3 @@
+pub mod Extended
+pub mod Refused
+pub mod Steps

@@ -1,0 +1,112 @@
+-- The lines of stations are those of their files.
+use Rattle.std.proofs.Common.{◌≡◌, ℕ, ◌+◌, ◌<◌, ◌≤◌, List, [], ◌∷◌, ◌++◌, length, map, take, get_or, Option, Some, None, refl, ap, subst, sym, ◌∙◌, append_assoc}
+use Rattle.std.specs.List.{flat_map, slice_get}
+use Rattle.std.specs.Prelude.{codes, decimal}
+use Rattle.std.proofs.lemmas.List.{take_all}
+use Rattle.std.proofs.lemmas.Option.{slice_get-get_or}
+use Rattle.corr_model.specs.Files.{Files, bytes_under}
+use Rattle.corr_model.specs.Slots.{station_slots}
+use Rattle.dev_traits.specs.Files.{bytes_of}
+use Rattle.frame_index.specs.Counted.{counts_of}
+use Rattle.frame_index.specs.Recording.{bytes_on}
+use Rattle.frame_index.specs.declared.recording.FileRef.{FileRef}
+use Rattle.job_plan.specs.declared.plan.StationPlan.{StationPlan}
+use Rattle.job_plan.specs.declared.plan.Plan.{Plan}
+use Rattle.job_epochs.specs.Sizes.{sizes_of}
+use Rattle.piece_plan.specs.Epochs.{epochs_of}
+use Rattle.sink_text.specs.Written.{StretchState, Puts}
+use Rattle.sink_text.proofs.WrittenText.{Puts-then, Puts-nothing, flat_map-next}
+use Rattle.station_stream.specs.declared.recording.Recording.{Recording}
+use Rattle.station_stream.specs.Part.{IsRecordingOf, IsNamedBy}
+use Rattle.station_stream.specs.Recorded.{AreNamed}
+use Rattle.run_summary.specs.Lines.{PutsLines}
+use Rattle.run_summary.specs.Summaries.{counts_line, station_line, check_text}
+
+-- the bytes of a file, read or looked up
+bytes_of-bytes_under : (files : Files) (name : List ℕ) → bytes_of (files name) ≡ bytes_under files name
+bytes_of-bytes_under files name = under (files name) refl
+  where
+    under : (file : Option (List ℕ)) → files name ≡ file → bytes_of (files name) ≡ bytes_under files name
+    under None is = rw is refl
+    under (Some bytes) is = rw is refl
+
+-- the bytes of a recording's files are those under their names
+bytes_on-names : (files : Files) (refs : List FileRef) → bytes_on files refs ≡ map (bytes_under files) (map (λ (f : FileRef). f.name) refs)
+bytes_on-names files [] = refl
+bytes_on-names files (f ∷ refs) =
+    ap (λ (rest : List (List ℕ)). bytes_of (files f.name) ∷ rest) (bytes_on-names files refs)
+    ∙ ap (λ (bytes : List ℕ). bytes ∷ map (bytes_under files) (map (λ (g : FileRef). g.name) refs)) (bytes_of-bytes_under files f.name)
+
+-- the line of a station's recording
+counts_line-recorded : (files : Files) (s : StationPlan) (r : Recording) → IsNamedBy s r → IsRecordingOf files s r
+    → counts_line s.key r.index.counts ≡ station_line files s
+counts_line-recorded files s r named recorded =
+    ap (counts_line s.key)
+    (recorded.index.counts
+    ∙ ap (λ (bytes : List (List ℕ)). counts_of s.shape (station_slots s.shape.frame_bytes bytes))
+    (bytes_on-names files r.files ∙ ap (map (bytes_under files)) named.names))
+
+-- the same text by another name
+pub Puts-as : {a text : List ℕ} {s₀ s₁ : StretchState} {t₀ t₁ : Option (List ℕ)} {f₀ f₁ : ℕ} → text ≡ a
+    → Puts a s₀ s₁ t₀ t₁ f₀ f₁
+    → Puts text s₀ s₁ t₀ t₁ f₀ f₁
+Puts-as {s₀ = s₀} {s₁ = s₁} {t₀ = t₀} {t₁ = t₁} {f₀ = f₀} {f₁ = f₁} is puts =
+    subst (λ (t : List ℕ). Puts t s₀ s₁ t₀ t₁ f₀ f₁) (sym is) puts
+
+-- a word, a key and five words with their numbers, one after another
+pub append-line : (word key a k b l c m d n e o end : List ℕ)
+    → word ++ key ++ (a ++ k) ++ (b ++ l) ++ (c ++ m) ++ (d ++ n) ++ (e ++ o) ++ end
+    ≡ word ++ (key ++ (a ++ (k ++ (b ++ (l ++ (c ++ (m ++ (d ++ (n ++ (e ++ (o ++ end)))))))))))
+append-line word key a k b l c m d n e o end = simp append_assoc
+
+-- no line
+pub PutsLines-none : (stations : List StationPlan) (recordings : List Recording) (s : StretchState) (t : Option (List ℕ)) (f : ℕ)
+    → PutsLines stations recordings (λ files. flat_map (station_line files) (take 0 stations)) s s t t f f
+PutsLines-none stations recordings s t f = record { text = []; puts = Puts-nothing s t f; same = λ files recorded. refl }
+
+-- one station more
+pub PutsLines-next : (stations : List StationPlan) (recordings : List Recording) (i : ℕ) (s : StationPlan) (r : Recording)
+    {s₀ s₁ s₂ : StretchState} {t₀ t₁ t₂ : Option (List ℕ)} {f₀ f₁ f₂ : ℕ}
+    → AreNamed stations recordings
+    → i < length stations
+    → s ≡ get_or stations i s
+    → i < length recordings
+    → r ≡ get_or recordings i r
+    → PutsLines stations recordings (λ files. flat_map (station_line files) (take i stations)) s₀ s₁ t₀ t₁ f₀ f₁
+    → Puts (counts_line s.key r.index.counts) s₁ s₂ t₁ t₂ f₁ f₂
+    → PutsLines stations recordings (λ files. flat_map (station_line files) (take (i + 1) stations)) s₀ s₂ t₀ t₂ f₀ f₂
+PutsLines-next stations recordings i s r named within is within' is' so_far next =
+    let line : List ℕ = counts_line s.key r.index.counts in
+    let at : slice_get stations i ≡ Some s = slice_get-get_or stations i s within ∙ ap Some (sym is) in
+    let at' : slice_get recordings i ≡ Some r = slice_get-get_or recordings i r within' ∙ ap Some (sym is') in
+    record {
+      text = so_far.text ++ line;
+      puts = Puts-then refl so_far.puts next;
+      same = λ files recorded.
+          ap (λ (t : List ℕ). t ++ line) (so_far.same files recorded)
+          ∙ ap (λ (t : List ℕ). flat_map (station_line files) (take i stations) ++ t)
+          (counts_line-recorded files s r (named.named i s r at at') (recorded i s r at at') ∙ ap (station_line files) is)
+          ∙ sym (flat_map-next (station_line files) stations i s within);
+    }
+
+-- all stations
+pub PutsLines-all : (stations : List StationPlan) (recordings : List Recording) (i : ℕ)
+    {s₀ s₁ : StretchState} {t₀ t₁ : Option (List ℕ)} {f₀ f₁ : ℕ}
+    → length stations ≤ i
+    → PutsLines stations recordings (λ files. flat_map (station_line files) (take i stations)) s₀ s₁ t₀ t₁ f₀ f₁
+    → PutsLines stations recordings (λ files. flat_map (station_line files) stations) s₀ s₁ t₀ t₁ f₀ f₁
+PutsLines-all stations recordings i all lines = record {
+  text = lines.text;
+  puts = lines.puts;
+  same = λ files recorded.
+      lines.same files recorded ∙ ap (λ (some : List StationPlan). flat_map (station_line files) some) (take_all i stations all);
+}
+
+-- the head and the stations' lines
+pub check_text-lines : (plan : Plan) (files : Files) (scans epochs : ℕ) (text : List ℕ)
+    → scans ≡ length plan.scans
+    → epochs ≡ length (epochs_of (sizes_of plan))
+    → text ≡ flat_map (station_line files) plan.stations
+    → codes "scans " ++ decimal scans ++ 10 ∷ [] ++ codes "epochs " ++ decimal epochs ++ 10 ∷ [] ++ text ≡ check_text plan files
+unfolding check_text
+check_text-lines plan files scans epochs text many all lines = rw (many, all, lines) refl

@@ -1,0 +1,110 @@
+//! Summaries.
+ghost use Rattle.std.specs.Prelude.{◌≡◌, ◌++◌, ◌∷◌, [], ℕ, List, length, flat_map, codes, decimal};
+ghost use Rattle.corr_model.specs.Files.{Files};
+ghost use Rattle.sink_text.specs.Appends.{Appends};
+ghost use Rattle.sink_text.specs.Written.{Puts};
+ghost use Rattle.station_stream.specs.Recorded.{AreRecorded, AreNamed};
+ghost use Rattle.run_summary.specs.Lines.{PutsLines};
+ghost use Rattle.run_summary.specs.Summaries.{check_text, counts_line, kept_line, station_line};
+
+use dev_traits::{Failed, Sink};
+use frame_index::Counts;
+use job_plan::StationPlan;
+use run_ready::Ready;
+use sink_text::{Piece, Stretch, append_pieces};
+use station_stream::Recording;
+
+/// Appends what a job and its recordings hold: the lines `scans N` and `epochs N`, and for each station in order its key and the
+/// counts of its slots.
+pub fn write_check<S: Sink>(ready: &Ready, out: &mut S) -> Result<(), Failed>
+    ensures { (text : List ℕ) × Appends (S.told out.old) (S.told out.new) text (S.faults out.old) (S.faults out.new) result
+        × ((files : Files) → AreRecorded files ready.now.plan.stations ready.now.recordings.items → text ≡ check_text ready.now.plan files) }
+{
+    let plan = ready.plan.plan();
+    let mut lines = Stretch::new();
+    put_head(
+        plan.scans.items().len() as u64,
+        ready.epochs.epochs(),
+        &mut lines,
+        out,
+    );
+    put_stations(plan.stations.items(), &ready.recordings, &mut lines, out);
+    lines.finish(out)
+}
+
+// Puts the lines of the numbers of scans and epochs.
+pub(crate) fn put_head<S: Sink>(scans: u64, epochs: u64, lines: &mut Stretch, out: &mut S)
+    ensures { Puts (codes "scans " ++ decimal scans ++ 10 ∷ [] ++ codes "epochs " ++ decimal epochs ++ 10 ∷ [])
+        lines.old lines.new (S.told out.old) (S.told out.new) (S.faults out.old) (S.faults out.new) }
+{
+    lines.put_pieces(
+        &[
+            Piece::Text("scans "),
+            Piece::Number(scans),
+            Piece::Text("\nepochs "),
+            Piece::Number(epochs),
+            Piece::Text("\n"),
+        ],
+        out,
+    );
+}
+
+// Puts each station's line.
+fn put_stations<S: Sink>(
+    stations: &[StationPlan],
+    recordings: &[Recording],
+    lines: &mut Stretch,
+    out: &mut S,
+)
+    requires { AreNamed stations.now recordings.now }
+    ensures { PutsLines stations.now recordings.now (λ files. flat_map (station_line files) stations.now)
+        lines.old lines.new (S.told out.old) (S.told out.new) (S.faults out.old) (S.faults out.new) }
+{
+    for (i, station) in stations.iter().enumerate() {
+        put_station(
+            station.key.bytes(),
+            &recordings[i].index.counts(),
+            lines,
+            out,
+        );
+    }
+}
+
+// Puts the line of a station.
+pub(crate) fn put_station<S: Sink>(key: &[u8], counts: &Counts, lines: &mut Stretch, out: &mut S)
+    ensures { Puts (counts_line key.now counts.now) lines.old lines.new (S.told out.old) (S.told out.new) (S.faults out.old) (S.faults out.new) }
+{
+    lines.put_pieces(
+        &[
+            Piece::Text("station "),
+            Piece::Bytes(key),
+            Piece::Text(" slots "),
+            Piece::Number(counts.slots),
+            Piece::Text(" doubled "),
+            Piece::Number(counts.doubled),
+            Piece::Text(" invalid "),
+            Piece::Number(counts.invalid),
+            Piece::Text(" foreign "),
+            Piece::Number(counts.foreign),
+            Piece::Text(" late "),
+            Piece::Number(counts.late),
+            Piece::Text("\n"),
+        ],
+        out,
+    );
+}
+
+/// Appends how many of a job's epochs its journal keeps: `K of N epochs kept`.
+pub fn write_kept<S: Sink>(kept: u64, epochs: u64, out: &mut S) -> Result<(), Failed>
+    ensures { Appends (S.told out.old) (S.told out.new) (kept_line kept epochs) (S.faults out.old) (S.faults out.new) result }
+{
+    append_pieces(
+        &[
+            Piece::Number(kept),
+            Piece::Text(" of "),
+            Piece::Number(epochs),
+            Piece::Text(" epochs kept\n"),
+        ],
+        out,
+    )
+}

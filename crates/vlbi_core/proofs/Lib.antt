@@ -1,3 +1,9 @@
 pub mod ScanLemmas
 pub mod PlainLemmas
+pub mod OrderLemmas
+pub mod ExtendLemmas
+pub mod CommandLemmas
+pub mod JournalLemmas
+pub mod CorrelationLemmas
 pub mod TopLemmas
+pub mod NoteLemmas

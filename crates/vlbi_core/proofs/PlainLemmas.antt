@@ -19,7 +19,7 @@ use Rattle.vis_writer.specs.Texts.{text_at}
 use Rattle.vis_writer.specs.Writes.{Composes, Writes, Appended, SinkCounts, SourceGoes}
 use Rattle.vis_writer.proofs.PlanText.{output-numbered}
 use Rattle.run_notes.specs.Counted.{CountsReads, CountsWrites}
-use Rattle.run_notes.specs.Refusals.{IsNoVerdict}
+use Rattle.vlbi_core.specs.Steps.{IsOfOutput}
 use Rattle.vlbi_core.specs.Shelf.{ShelfState, state, head_at, cells_at, stays, fails}
 use Rattle.vlbi_core.specs.Faults.{answer_with}
 
@@ -95,10 +95,10 @@ module _ (plan : Plan) (told told' : Option Files) (faults faults' : ℕ) (head 
           (ap (λ (h : Head). vis_text h (all_cells h (cells_from plan files))) is ∙ output-numbered plan files)
           (other (vis_text head (all_cells head (cells_from plan files))) a)
 
-  pub file-stage : IfErr (answer_with result) IsNoVerdict
+  pub file-stage : IfErr (answer_with result) IsOfOutput
   file-stage = by result
     where
-      by : (r : Result (Unit {0}) (WriteFault StreamFault)) → IfErr (answer_with r) IsNoVerdict
+      by : (r : Result (Unit {0}) (WriteFault StreamFault)) → IfErr (answer_with r) IsOfOutput
       by (Ok x) = tt
       by (Err Sink) = tt
       by (Err (Source Read)) = tt

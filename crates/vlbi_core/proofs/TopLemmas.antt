@@ -1,109 +1,152 @@
--- What a call comes to, its status, what it appended and its note, by what its words and files come to.
-use Rattle.std.specs.Prelude.{IsErr, IsOk, IfErr}
-use Rattle.std.proofs.Common.{◌≡◌, ◌⊎◌, ℕ, List, [], Option, Some, None, Result, Ok, Err, refl, sym, ap, subst, inl, inr, arith}
+-- The status of a call, what it appended, what it left in the journal and its note.
+use Rattle.std.specs.Prelude.{IsErr, IsOk, IfErr, OnOk, IsSome, codes, decimal, drop}
+use Rattle.std.proofs.Common.{◌≡◌, ◌∙◌, ◌⊎◌, ⊎_elim, inl, inr, ℕ, ◌+◌, ◌≤◌, ◌<◌, Bool, true, false, List, [], ◌++◌, length, Option, Some, None, Result, Ok, Err, refl, sym, ap, subst, arith}
 use Rattle.std.proofs.lemmas.List.{append-nil}
 use Rattle.dev_traits.specs.Fault.{HasRisen}
 use Rattle.dev_traits.specs.Told.{more, PrefixMore, WhereTold}
+use Rattle.dev_traits.specs.Moments.{Runs, NeverFalls}
+use Rattle.dev_traits.proofs.Moments.{always, never_falls}
 use Rattle.sink_text.specs.Appends.{Appends}
 use Rattle.sink_text.proofs.AppendedText.{Appends-part}
 use Rattle.corr_model.specs.Files.{Files}
 use Rattle.job_plan.specs.declared.plan.Plan.{Plan}
 use Rattle.job_plan.specs.Output.{output}
+use Rattle.checkpoint_journal.specs.declared.fault.Differs.{Differs}
+use Rattle.checkpoint_journal.specs.Finding.{IsOther}
+use Rattle.checkpoint_journal.specs.Runs.{Looks, Changes, StepTold, KeepsBodies}
+use Rattle.checkpoint_journal.proofs.RunLemmas.{changes_looks, told_value}
 use Rattle.run_words.specs.declared.fault.WordsFault.{WordsFault}
 use Rattle.run_words.specs.declared.order.Order.{Order}
+use Rattle.run_words.specs.declared.order.Order.TheVariants.{Run, Plain, Check, Status, Dump, Gen}
 use Rattle.run_notes.specs.declared.refusal.Due.{Due}
-use Rattle.run_notes.specs.declared.refusal.Due.TheVariants.{Words, Vex, Schedule, Job, Join, Limit, NoFile, Recording}
+use Rattle.run_notes.specs.declared.refusal.Due.TheVariants.{Words, Vex, Schedule, Job, Join, Limit, NoFile, Recording, Other}
 use Rattle.run_notes.specs.declared.refusal.Refusal.{Refusal}
-use Rattle.run_notes.specs.declared.refusal.Refusal.TheVariants.{Memory, Due as DueRefusal, Read, Write}
-use Rattle.run_notes.specs.Answers.{Answer, words_answer}
-use Rattle.run_notes.specs.Refusals.{Outcomes, IsCause, IsNoVerdict, MatchRead, MatchWrite, answer_of, due_answer}
-use Rattle.run_ready.specs.Steps.{Is, answered}
-use Rattle.run_ready.specs.Outcome.{PlanOf}
-use Rattle.run_ready.specs.Stage.{IsOfFiles}
-use Rattle.run_ready.proofs.LawLemmas.{AreOne, Then-one, Is-one}
-use Rattle.vis_writer.specs.Writes.{Appended}
-use Rattle.vis_writer.proofs.WritesLemmas.{where_both}
-use Rattle.vlbi_core.specs.Run.{plain_order, OutcomeOf, IsVerdictStatus, IsStatus, IsVerdict, IsAppended, IsLineOf, IsNoted}
-use Rattle.vlbi_core.specs.Steps.{IsOfWords, IsWordedBy, IsPartly, MatchDue}
+use Rattle.run_notes.specs.declared.refusal.Refusal.TheVariants.{Memory, Due as DueRefusal, Read, Journal, Write}
+use Rattle.run_notes.specs.Answers.{Answer, words_answer, memory_answer, read_answer, journal_answer, write_answer, other_answer}
+use Rattle.run_notes.specs.Refusals.{Outcomes, MatchRead, MatchJournal, MatchWrite, answer_of, due_answer}
+use Rattle.run_ready.specs.Steps.{Is, Then, answered}
+use Rattle.run_ready.specs.Recordings.{files_answer, recordings_answer}
+use Rattle.run_ready.specs.Outcome.{Wrong, PlanBy, SurveyOf, PlanOf}
+use Rattle.run_journal.specs.Extended.{AreFrom, Extends}
+use Rattle.vlbi_core.specs.Calls.{Call, PlanFor, CallFor, identity_for, sizes_for, bodies_for, kept_for, is_run, uses_journal}
+use Rattle.vlbi_core.specs.Texts.{IsSums, IsPart, epochs_for}
+use Rattle.vlbi_core.specs.Run.{IsVerdictStatus, IsDueStatus, IsStatus, IsUsable, IsForeign, IsVerdict, IsAppended, IsJournalLine, IsLineOf, IsNoted}
+use Rattle.vlbi_core.specs.Restart.{IsHonest, Continues, StaysHonest, SaysKept, IsRunOf, IsNoRun}
+use Rattle.vlbi_core.specs.Steps.{OutcomeFrom, IsWordedBy, IsOpened, IsCauseOf, IsDueCause, IsPartly, IsDone, IsRunning, Does, MatchDue, MatchEarly, MatchOther, MatchVerdict, Leaves, SaysFor}
+use Rattle.vlbi_core.proofs.ExtendLemmas.{some_bodies, AreFrom-append, Extends-stays, Extends-counts}
+use Rattle.vlbi_core.proofs.CommandLemmas.{not_both}
 
--- ---- outcomes
+-- ---- outcomes, of which there is one
 
-pub outcome-plan : (texts : List (List ℕ)) (files : Files) (order : Order) (plan : Plan) → plain_order texts ≡ Ok order → PlanOf files order (Ok plan)
-    → OutcomeOf texts files (Ok plan)
-outcome-plan texts files order plan is there = (order, sym (ap (answered words_answer) is), there)
+-- there is at most one of these outcomes
+abbrev pub AreOne : {A : Type 0} → Outcomes A → Type 0
+AreOne {A} outcomes = (a b : Result A Answer) → outcomes a → outcomes b → a ≡ b
 
--- a refusal by the words
-pub cause-words : (texts : List (List ℕ)) (files : Files) (r : Refusal) → IsOfWords (plain_order texts) r → IsCause r (OutcomeOf texts files)
-cause-words texts files Memory of = tt
-cause-words texts files (DueRefusal (Words fault)) of = inl (sym (ap (answered words_answer) of))
-cause-words texts files (DueRefusal (Vex fault)) of = absurd of
-cause-words texts files (DueRefusal (Schedule fault)) of = absurd of
-cause-words texts files (DueRefusal (Job fault)) of = absurd of
-cause-words texts files (DueRefusal (Join fault name)) of = absurd of
-cause-words texts files (DueRefusal (Limit quantity value)) of = absurd of
-cause-words texts files (DueRefusal (NoFile name)) of = absurd of
-cause-words texts files (DueRefusal (Recording key field)) of = absurd of
-cause-words texts files Read of = absurd of
-cause-words texts files Write of = absurd of
+-- the law of plans
+abbrev pub OneOutcome : Type 0
+OneOutcome = (files : Files) (wrong : Wrong) (order : Order) (a b : Result Plan Answer) → PlanBy files wrong order a → PlanBy files wrong order b → a ≡ b
 
--- a refusal behind the words
-pub cause-files : (texts : List (List ℕ)) (files : Files) (order : Order) (r : Refusal) → plain_order texts ≡ Ok order → IsOfFiles r
-    → IsCause r (PlanOf files order) → IsCause r (OutcomeOf texts files)
-cause-files texts files order Memory is stage cause = tt
-cause-files texts files order (DueRefusal due) is stage cause = inr (order, sym (ap (answered words_answer) is), cause)
-cause-files texts files order Read is stage cause = tt
-cause-files texts files order Write is stage cause = absurd stage
+Then-one : {A B : Type 0} (first : Outcomes A) (next : A → Outcomes B) → AreOne first → ((a : A) → AreOne (next a)) → AreOne (Then first next)
+Then-one {A} {B} first next one ones = by
+  where
+    same : (a c : A) → first (Ok a) → first (Ok c) → a ≡ c
+    same a c p q = let e : Ok a ≡ Ok c = one (Ok a) (Ok c) p q in cc
 
--- a refusal of the output
-pub cause-output : (outcomes : Outcomes Plan) (plan : Plan) (r : Refusal) → outcomes (Ok plan) → IsNoVerdict r → IsCause r outcomes
-cause-output outcomes plan Memory there stage = tt
-cause-output outcomes plan (DueRefusal due) there stage = absurd stage
-cause-output outcomes plan Read there stage = tt
-cause-output outcomes plan Write there stage = (plan, there)
+    same_err : (d e : Answer) → first (Err d) → first (Err e) → d ≡ e
+    same_err d e p q =
+        let x : Result A Answer = Err d in
+        let y : Result A Answer = Err e in
+        let h : x ≡ y = one x y p q in
+        cc
 
-pub OutcomeOf-one : ((files : Files) (order : Order) → AreOne (PlanOf files order)) → (texts : List (List ℕ)) (files : Files) → AreOne (OutcomeOf texts files)
-OutcomeOf-one ones texts files =
-    Then-one (Is (answered words_answer (plain_order texts))) (PlanOf files) (Is-one (answered words_answer (plain_order texts))) (λ order. ones files order)
+    both : (x y : Result B Answer) (a c : A) → first (Ok a) → first (Ok c) → next a x → next c y → x ≡ y
+    both x y a c p q s t = ones c x y (subst (λ (w : A). next w x) (same a c p q) s) t
+
+    not : (a : A) (e : Answer) → first (Ok a) → first (Err e) → ⊥
+    not a e p q = let h : Ok a ≡ Err e = one (Ok a) (Err e) p q in cc
+
+    by : AreOne (Then first next)
+    by (Ok x) (Ok y) p q = both (Ok x) (Ok y) p.0 q.0 p.1 q.1 p.2 q.2
+    by (Ok x) (Err e) p (inl q) = absurd (not p.0 e p.1 q)
+    by (Ok x) (Err e) p (inr q) = both (Ok x) (Err e) p.0 q.0 p.1 q.1 p.2 q.2
+    by (Err d) (Ok y) (inl p) q = absurd (not q.0 d q.1 p)
+    by (Err d) (Ok y) (inr p) q = both (Err d) (Ok y) p.0 q.0 p.1 q.1 p.2 q.2
+    by (Err d) (Err e) (inl p) (inl q) = ap Err (same_err d e p q)
+    by (Err d) (Err e) (inl p) (inr q) = absurd (not q.0 d q.1 p)
+    by (Err d) (Err e) (inr p) (inl q) = absurd (not p.0 e p.1 q)
+    by (Err d) (Err e) (inr p) (inr q) = both (Err d) (Err e) p.0 q.0 p.1 q.1 p.2 q.2
+
+plan-one : OneOutcome → (files : Files) (order : Order) → AreOne (PlanFor files order)
+plan-one law files (Run job vex workers piece) a b p q = law files (recordings_answer files) (Run job vex workers piece) a b p q
+plan-one law files (Plain job vex) a b p q = law files (recordings_answer files) (Plain job vex) a b p q
+plan-one law files (Check job vex) a b p q = law files (recordings_answer files) (Check job vex) a b p q
+plan-one law files (Status job vex) a b p q = law files (files_answer files) (Status job vex) a b p q
+plan-one law files (Dump file) a b p q = law files (recordings_answer files) (Dump file) a b p q
+plan-one law files (Gen seed seconds workers piece) a b p q = law files (recordings_answer files) (Gen seed seconds workers piece) a b p q
+
+call-one : OneOutcome → (files : Files) (order : Order) → AreOne (CallFor files order)
+call-one law files order (Ok a) (Ok b) p q =
+    let plans : Ok a.plan ≡ Ok b.plan = plan-one law files order (Ok a.plan) (Ok b.plan) p.1 q.1 in
+    let one : a.order ≡ b.order = p.0 ∙ sym q.0 in
+    let two : a.plan ≡ b.plan = cc in
+    ap Ok (λ i. record { order = one i; plan = two i })
+call-one law files order (Ok a) (Err e) p q = let h : Ok a.plan ≡ Err e = plan-one law files order (Ok a.plan) (Err e) p.1 q in cc
+call-one law files order (Err d) (Ok b) p q = let h : Ok b.plan ≡ Err d = plan-one law files order (Ok b.plan) (Err d) q.1 p in cc
+call-one law files order (Err d) (Err e) p q =
+    let x : Result Plan Answer = Err d in
+    let y : Result Plan Answer = Err e in
+    let h : x ≡ y = plan-one law files order x y p q in
+    let same : d ≡ e = cc in
+    ap Err same
+
+pub outcome-one : OneOutcome → (wanted : Result Order WordsFault) (files : Files) → AreOne (OutcomeFrom wanted files)
+outcome-one law wanted files =
+    Then-one (Is (answered words_answer wanted)) (CallFor files) (λ a b p q. p ∙ sym q) (λ order. call-one law files order)
+
+-- ---- statuses
+
+due-status : (due : Due) → IsDueStatus (due_answer due).status
+due-status (Words fault) = inr (inl refl)
+due-status (Vex fault) = inr (inr (inl refl))
+due-status (Schedule fault) = inr (inr (inl refl))
+due-status (Job fault) = inr (inr (inr (inl refl)))
+due-status (Join fault name) = inr (inr (inr (inl refl)))
+due-status (Recording key field) = inr (inr (inr (inr (inl refl))))
+due-status (Limit quantity value) = inr (inr (inr (inr (inr (inl refl)))))
+due-status (NoFile name) = inr (inr (inr (inr (inr (inr refl)))))
+due-status (Other d) = inl refl
+
+pub refusal-status : (r : Refusal) → IsStatus (answer_of r).status
+refusal-status Memory = inr (inl refl)
+refusal-status (DueRefusal due) = inr (inr (inr (inr (inr (due-status due)))))
+refusal-status Read = inr (inr (inl refl))
+refusal-status (Journal None) = inr (inr (inr (inl refl)))
+refusal-status (Journal (Some k)) = inr (inr (inr (inl refl)))
+refusal-status Write = inr (inr (inr (inr (inl refl))))
+
+journal-status : (kept : Option ℕ) → (journal_answer kept).status ≡ 8
+journal-status None = refl
+journal-status (Some k) = refl
+
+-- no status of what is wrong is one of the others
+pub due-not : (status other : ℕ) → IsDueStatus status → status ≡ other → (other ≡ 0) ⊎ ((other ≡ 1) ⊎ ((other ≡ 7) ⊎ ((other ≡ 8) ⊎ (other ≡ 9)))) → ⊥
+due-not status other is same of = grind arith
+
+verdict-due : (status : ℕ) → IsVerdictStatus status → IsDueStatus status
+verdict-due status is = inr is
+
+not_due : (due : Due) (other : ℕ) → (due_answer due).status ≡ other → (other ≡ 0) ⊎ ((other ≡ 1) ⊎ ((other ≡ 7) ⊎ ((other ≡ 8) ⊎ (other ≡ 9)))) → ⊥
+not_due due other same of = due-not (due_answer due).status other (due-status due) same of
+
+not_journal : (kept : Option ℕ) (other : ℕ) → (journal_answer kept).status ≡ other → (other ≡ 8 → ⊥) → ⊥
+not_journal None other is not = not (sym is)
+not_journal (Some k) other is not = not (sym is)
 
 -- ---- words
 
-worded-of : (wanted : Result Order WordsFault) (r : Refusal) → IsOfWords wanted r → IsWordedBy wanted r
-worded-of wanted Memory of = tt
-worded-of wanted (DueRefusal (Words fault)) of = of
-worded-of wanted (DueRefusal (Vex fault)) of = absurd of
-worded-of wanted (DueRefusal (Schedule fault)) of = absurd of
-worded-of wanted (DueRefusal (Job fault)) of = absurd of
-worded-of wanted (DueRefusal (Join fault name)) of = absurd of
-worded-of wanted (DueRefusal (Limit quantity value)) of = absurd of
-worded-of wanted (DueRefusal (NoFile name)) of = absurd of
-worded-of wanted (DueRefusal (Recording key field)) of = absurd of
-worded-of wanted Read of = absurd of
-worded-of wanted Write of = absurd of
-
-pub worded-words : (wanted : Result Order WordsFault) (r : Refusal) → IsOfWords wanted r → IsWordedBy wanted r
-worded-words = worded-of
-
-pub ok-words : (wanted : Result Order WordsFault) (order : Order) → wanted ≡ Ok order → IsOk wanted
-ok-words wanted order is = subst (λ (w : Result Order WordsFault). IsOk w) (sym is) refl
-
-pub worded-files : (wanted : Result Order WordsFault) (r : Refusal) → IsOk wanted → IsOfFiles r → IsWordedBy wanted r
-worded-files wanted Memory ok stage = tt
-worded-files wanted (DueRefusal (Words fault)) ok stage = absurd stage
-worded-files wanted (DueRefusal (Vex fault)) ok stage = ok
-worded-files wanted (DueRefusal (Schedule fault)) ok stage = ok
-worded-files wanted (DueRefusal (Job fault)) ok stage = ok
-worded-files wanted (DueRefusal (Join fault name)) ok stage = ok
-worded-files wanted (DueRefusal (Limit quantity value)) ok stage = ok
-worded-files wanted (DueRefusal (NoFile name)) ok stage = ok
-worded-files wanted (DueRefusal (Recording key field)) ok stage = ok
-worded-files wanted Read ok stage = ok
-worded-files wanted Write ok stage = absurd stage
-
-pub worded-output : (wanted : Result Order WordsFault) (r : Refusal) → IsOk wanted → IsNoVerdict r → IsWordedBy wanted r
-worded-output wanted Memory ok stage = tt
-worded-output wanted (DueRefusal due) ok stage = absurd stage
-worded-output wanted Read ok stage = ok
-worded-output wanted Write ok stage = ok
+not-ok : (wanted : Result Order WordsFault) → IsOk wanted → IsErr wanted → ⊥
+not-ok (Ok order) ok err = cc
+not-ok (Err fault) ok err = cc
 
 -- the status is 2 with a fault of the words alone
 pub status-words : (wanted : Result Order WordsFault) (r : Refusal) → IsWordedBy wanted r → (answer_of r).status ≡ 2 → IsErr wanted
@@ -116,52 +159,27 @@ status-words wanted (DueRefusal (Join fault name)) by is = absurd cc
 status-words wanted (DueRefusal (Limit quantity value)) by is = absurd cc
 status-words wanted (DueRefusal (NoFile name)) by is = absurd cc
 status-words wanted (DueRefusal (Recording key field)) by is = absurd cc
+status-words wanted (DueRefusal (Other d)) by is = absurd cc
 status-words wanted Read by is = absurd cc
+status-words wanted (Journal kept) by is = absurd (not_journal kept 2 is (λ e. cc))
 status-words wanted Write by is = absurd cc
-
-not-both : (wanted : Result Order WordsFault) → IsOk wanted → IsErr wanted → ⊥
-not-both (Ok order) ok err = cc
-not-both (Err fault) ok err = cc
 
 -- and it is, or want of memory, with each
 pub words-status : (wanted : Result Order WordsFault) (r : Refusal) → IsWordedBy wanted r → IsErr wanted
     → ((answer_of r).status ≡ 2) ⊎ ((answer_of r).status ≡ 1)
 words-status wanted Memory by err = inr refl
 words-status wanted (DueRefusal (Words fault)) by err = inl refl
-words-status wanted (DueRefusal (Vex fault)) by err = absurd (not-both wanted by err)
-words-status wanted (DueRefusal (Schedule fault)) by err = absurd (not-both wanted by err)
-words-status wanted (DueRefusal (Job fault)) by err = absurd (not-both wanted by err)
-words-status wanted (DueRefusal (Join fault name)) by err = absurd (not-both wanted by err)
-words-status wanted (DueRefusal (Limit quantity value)) by err = absurd (not-both wanted by err)
-words-status wanted (DueRefusal (NoFile name)) by err = absurd (not-both wanted by err)
-words-status wanted (DueRefusal (Recording key field)) by err = absurd (not-both wanted by err)
-words-status wanted Read by err = absurd (not-both wanted by err)
-words-status wanted Write by err = absurd (not-both wanted by err)
-
--- ---- statuses
-
-due-status : (due : Due) → IsVerdictStatus (due_answer due).status
-due-status (Words fault) = inl refl
-due-status (Vex fault) = inr (inl refl)
-due-status (Schedule fault) = inr (inl refl)
-due-status (Job fault) = inr (inr (inl refl))
-due-status (Join fault name) = inr (inr (inl refl))
-due-status (Recording key field) = inr (inr (inr (inl refl)))
-due-status (Limit quantity value) = inr (inr (inr (inr (inl refl))))
-due-status (NoFile name) = inr (inr (inr (inr (inr refl))))
-
-pub refusal-status : (r : Refusal) → IsStatus (answer_of r).status
-refusal-status Memory = inr (inl refl)
-refusal-status (DueRefusal due) = inr (inr (inr (inr (due-status due))))
-refusal-status Read = inr (inr (inl refl))
-refusal-status Write = inr (inr (inr (inl refl)))
-
--- no verdict has one of the other statuses
-verdict-not : (status other : ℕ) → IsVerdictStatus status → status ≡ other → (other ≡ 0) ⊎ ((other ≡ 1) ⊎ ((other ≡ 7) ⊎ (other ≡ 9))) → ⊥
-verdict-not status other is same of = grind arith
-
-not_due : (due : Due) (other : ℕ) → (due_answer due).status ≡ other → (other ≡ 0) ⊎ ((other ≡ 1) ⊎ ((other ≡ 7) ⊎ (other ≡ 9))) → ⊥
-not_due due other same of = verdict-not (due_answer due).status other (due-status due) same of
+words-status wanted (DueRefusal (Vex fault)) by err = absurd (not-ok wanted by err)
+words-status wanted (DueRefusal (Schedule fault)) by err = absurd (not-ok wanted by err)
+words-status wanted (DueRefusal (Job fault)) by err = absurd (not-ok wanted by err)
+words-status wanted (DueRefusal (Join fault name)) by err = absurd (not-ok wanted by err)
+words-status wanted (DueRefusal (Limit quantity value)) by err = absurd (not-ok wanted by err)
+words-status wanted (DueRefusal (NoFile name)) by err = absurd (not-ok wanted by err)
+words-status wanted (DueRefusal (Recording key field)) by err = absurd (not-ok wanted by err)
+words-status wanted (DueRefusal (Other d)) by err = absurd (not-ok wanted by err)
+words-status wanted Read by err = absurd (not-ok wanted by err)
+words-status wanted (Journal kept) by err = absurd (not-ok wanted by err)
+words-status wanted Write by err = absurd (not-ok wanted by err)
 
 -- ---- counts
 
@@ -169,175 +187,370 @@ pub read-risen : (r : Refusal) (P Q : Type 0) → MatchRead r P Q → (answer_of
 read-risen Memory P Q fact is = absurd cc
 read-risen (DueRefusal due) P Q fact is = absurd (not_due due 7 is (inr (inr (inl refl))))
 read-risen Read P Q fact is = fact
+read-risen (Journal kept) P Q fact is = absurd (not_journal kept 7 is (λ e. cc))
 read-risen Write P Q fact is = absurd cc
-
-pub read-fault : (r : Refusal) (P Q : Type 0) → MatchRead r P Q → MatchRead r P (Unit {0})
-read-fault Memory P Q fact = tt
-read-fault (DueRefusal due) P Q fact = tt
-read-fault Read P Q fact = fact
-read-fault Write P Q fact = tt
-
-pub write-fault : (r : Refusal) (P Q : Type 0) → MatchWrite r P Q → MatchWrite r P (Unit {0})
-write-fault Memory P Q fact = tt
-write-fault (DueRefusal due) P Q fact = tt
-write-fault Read P Q fact = tt
-write-fault Write P Q fact = fact
 
 pub read-kept : (r : Refusal) (P Q : Type 0) → MatchRead r P Q → ((answer_of r).status ≡ 7 → ⊥) → Q
 read-kept Memory P Q fact not = fact
 read-kept (DueRefusal due) P Q fact not = fact
 read-kept Read P Q fact not = absurd (not refl)
+read-kept (Journal kept) P Q fact not = fact
 read-kept Write P Q fact not = fact
+
+pub journal-risen : (r : Refusal) (P Q : Type 0) → MatchJournal r P Q → (answer_of r).status ≡ 8 → P
+journal-risen Memory P Q fact is = absurd cc
+journal-risen (DueRefusal due) P Q fact is = absurd (not_due due 8 is (inr (inr (inr (inl refl)))))
+journal-risen Read P Q fact is = absurd cc
+journal-risen (Journal kept) P Q fact is = fact
+journal-risen Write P Q fact is = absurd cc
+
+pub journal-kept : (r : Refusal) (P Q : Type 0) → MatchJournal r P Q → ((answer_of r).status ≡ 8 → ⊥) → Q
+journal-kept Memory P Q fact not = fact
+journal-kept (DueRefusal due) P Q fact not = fact
+journal-kept Read P Q fact not = fact
+journal-kept (Journal kept) P Q fact not = absurd (not (journal-status kept))
+journal-kept Write P Q fact not = fact
 
 pub write-risen : (r : Refusal) (P Q : Type 0) → MatchWrite r P Q → (answer_of r).status ≡ 9 → P
 write-risen Memory P Q fact is = absurd cc
-write-risen (DueRefusal due) P Q fact is = absurd (not_due due 9 is (inr (inr (inr refl))))
+write-risen (DueRefusal due) P Q fact is = absurd (not_due due 9 is (inr (inr (inr (inr refl)))))
 write-risen Read P Q fact is = absurd cc
+write-risen (Journal kept) P Q fact is = absurd (not_journal kept 9 is (λ e. cc))
 write-risen Write P Q fact is = fact
 
 pub write-kept : (r : Refusal) (P Q : Type 0) → MatchWrite r P Q → ((answer_of r).status ≡ 9 → ⊥) → Q
 write-kept Memory P Q fact not = fact
 write-kept (DueRefusal due) P Q fact not = fact
 write-kept Read P Q fact not = fact
+write-kept (Journal kept) P Q fact not = fact
 write-kept Write P Q fact not = absurd (not refl)
 
 -- ---- verdicts
 
-module _ (outcomes : Outcomes Plan) (one : AreOne outcomes) (read_fault write_fault : Type 0) where
-  plan-not : (plan : Plan) (answer : Answer) → outcomes (Ok plan) → outcomes (Err answer) → ⊥
-  plan-not plan answer p q = let h : Ok plan ≡ Err answer = one (Ok plan) (Err answer) p q in cc
+abbrev no_reading : Option (List (List ℕ))
+no_reading = None
+
+module _ (outcomes : Outcomes Call) (one : AreOne outcomes) where
+  pub call-not : (call : Call) (answer : Answer) → outcomes (Ok call) → outcomes (Err answer) → ⊥
+  call-not call answer p q = let h : Ok call ≡ Err answer = one (Ok call) (Err answer) p q in cc
+
+  pub calls-same : (a b : Call) → outcomes (Ok a) → outcomes (Ok b) → a ≡ b
+  calls-same a b p q = let h : Ok a ≡ Ok b = one (Ok a) (Ok b) p q in cc
 
   answers-same : (a b : Answer) → outcomes (Err a) → outcomes (Err b) → a ≡ b
   answers-same a b p q =
-      let x : Result Plan Answer = Err a in
-      let y : Result Plan Answer = Err b in
+      let x : Result Call Answer = Err a in
+      let y : Result Call Answer = Err b in
       let h : x ≡ y = one x y p q in
       cc
 
-  pub verdict-done : (plan : Plan) → outcomes (Ok plan) → IsVerdict outcomes 0 read_fault write_fault
-  verdict-done plan there = record {
-    due = λ is. absurd (verdict-not 0 0 is refl (inl refl));
-    refused = λ answer fact. absurd (plan-not plan answer there fact);
-    complete = λ _ _ _ _. inl refl;
+  -- a journal that was opened is not another job's
+  opened-not : (files : Files) (a b : Call) (journal : Option (List ℕ)) (image : List ℕ) → outcomes (Ok a) → outcomes (Ok b) → IsOpened files a journal
+      → journal ≡ Some image → IsForeign files b image → ⊥
+  opened-not files a b journal image p q opened is foreign =
+      let same : b ≡ a = calls-same b a q p in
+      let at : IsForeign files a image = subst (λ (c : Call). IsForeign files c image) same foreign in
+      let some : IsSome (bodies_for files a image) = told_value journal (λ v. IsSome (bodies_for files a v)) image is (opened at.uses) in
+      let gone : IsSome no_reading = subst (λ (o : Option (List (List ℕ))). IsSome o) at.unread some in
+      cc
+
+  pub verdict-done : {D : Type 0} (files : Files) (seen : D → Option (List ℕ)) (moment : D → ℕ) (may_leave : D → ℕ → List ℕ → Type 0) (before after : D) (old new : Option (List ℕ))
+      (read_fault journal_fault write_fault : Type 0) → IsDone outcomes files seen moment may_leave before after old new
+      → IsVerdict outcomes files (seen before) 0 read_fault journal_fault write_fault
+  verdict-done files seen moment may_leave before after old new read_fault journal_fault write_fault done = record {
+    due = λ is. absurd (due-not 0 0 (inr is) refl (inl refl));
+    refused = λ answer fact. absurd (call-not done.call answer done.outcome fact);
+    other = λ is. absurd cc;
+    foreign = λ call image there is foreign. absurd (opened-not files done.call call (seen before) image done.outcome there done.opened is foreign);
+    complete = λ _ _ _ _ _. inl refl;
   }
 
-  pub verdict-refused : (r : Refusal) → IsCause r outcomes → MatchRead r read_fault (Unit {0}) → MatchWrite r write_fault (Unit {0})
-      → IsVerdict outcomes (answer_of r).status read_fault write_fault
-  verdict-refused Memory cause reads writes = record {
-    due = λ is. absurd (verdict-not 1 1 is refl (inr (inl refl)));
-    refused = λ _ _. inr (inl refl);
-    complete = λ _ _ _ _. inr refl;
-  }
-  verdict-refused (DueRefusal due) cause reads writes = record {
+  -- a verdict on words and files
+  verdict-of-due : (files : Files) (due : Due) (before : Option (List ℕ)) (read_fault journal_fault write_fault : Type 0)
+      → outcomes (Err (due_answer due)) → IsVerdictStatus (due_answer due).status
+      → IsVerdict outcomes files before (due_answer due).status read_fault journal_fault write_fault
+  verdict-of-due files due before read_fault journal_fault write_fault cause is = record {
     due = λ _. (due_answer due, cause, refl);
     refused = λ answer fact. inl (ap (λ (a : Answer). a.status) (answers-same (due_answer due) answer cause fact));
-    complete = λ plan there _ _. absurd (plan-not plan (due_answer due) there cause);
+    other = λ ten. absurd (not-ten (due_answer due).status is ten);
+    foreign = λ call image there _ _. absurd (call-not call (due_answer due) there cause);
+    complete = λ call there _ _ _. absurd (call-not call (due_answer due) there cause);
   }
-  verdict-refused Read cause reads writes = record {
-    due = λ is. absurd (verdict-not 7 7 is refl (inr (inr (inl refl))));
+    where
+      not-ten : (status : ℕ) → IsVerdictStatus status → status ≡ 10 → ⊥
+      not-ten status is ten = grind arith
+
+  verdict-other : (files : Files) (d : Differs) (before : Option (List ℕ)) (read_fault journal_fault write_fault : Type 0) → IsDueCause (Other d) outcomes files before
+      → IsVerdict outcomes files before 10 read_fault journal_fault write_fault
+  verdict-other files d before read_fault journal_fault write_fault cause = record {
+    due = λ is. absurd (ten-not 10 is refl);
+    refused = λ answer fact. absurd (call-not cause.call answer cause.outcome fact);
+    other = λ _. (cause.call, cause.outcome, foreign before cause.other);
+    foreign = λ _ _ _ _ _. inl refl;
+    complete = λ call there _ _ usable. absurd (unusable call there usable);
+  }
+    where
+      ten-not : (status : ℕ) → IsVerdictStatus status → status ≡ 10 → ⊥
+      ten-not status is ten = grind arith
+
+      foreign : (o : Option (List ℕ)) → WhereTold o (λ image. IsOther (identity_for files cause.call) (sizes_for cause.call) image d) → WhereTold o (IsForeign files cause.call)
+      foreign None other = tt
+      foreign (Some image) other = record { uses = cause.uses; unread = other.unread }
+
+      unusable : (call : Call) → outcomes (Ok call) → IsUsable files call before journal_fault → ⊥
+      unusable call there usable =
+          let same : call ≡ cause.call = calls-same call cause.call there cause.outcome in
+          let usable_here : IsUsable files cause.call before journal_fault = subst (λ (c : Call). IsUsable files c before journal_fault) same usable in
+          let at = usable_here cause.uses in
+          let unread = (told_value before (λ image. IsOther (identity_for files cause.call) (sizes_for cause.call) image d) at.1.0 at.1.1 cause.other).unread in
+          let gone : IsSome no_reading = subst (λ (o : Option (List (List ℕ))). IsSome o) unread at.1.2 in
+          cc
+
+  pub verdict-refused : (files : Files) (images : List ℕ → Type 0) (before after old new : Option (List ℕ)) (read_fault journal_fault write_fault Q R S : Type 0) (r : Refusal)
+      → IsCauseOf r outcomes files images before after old new → MatchRead r read_fault Q → MatchJournal r journal_fault R → MatchWrite r write_fault S
+      → IsVerdict outcomes files before (answer_of r).status read_fault journal_fault write_fault
+  verdict-refused files images before after old new read_fault journal_fault write_fault Q R S Memory cause reads journal writes = record {
+    due = λ is. absurd (due-not 1 1 (inr is) refl (inr (inl refl)));
+    refused = λ _ _. inr (inl refl);
+    other = λ is. absurd cc;
+    foreign = λ _ _ _ _ _. inr (inl refl);
+    complete = λ _ _ _ _ _. inr refl;
+  }
+  verdict-refused files images before after old new read_fault journal_fault write_fault Q R S (DueRefusal (Words fault)) cause reads journal writes =
+      verdict-of-due files (Words fault) before read_fault journal_fault write_fault cause (inl refl)
+  verdict-refused files images before after old new read_fault journal_fault write_fault Q R S (DueRefusal (Vex fault)) cause reads journal writes =
+      verdict-of-due files (Vex fault) before read_fault journal_fault write_fault cause (inr (inl refl))
+  verdict-refused files images before after old new read_fault journal_fault write_fault Q R S (DueRefusal (Schedule fault)) cause reads journal writes =
+      verdict-of-due files (Schedule fault) before read_fault journal_fault write_fault cause (inr (inl refl))
+  verdict-refused files images before after old new read_fault journal_fault write_fault Q R S (DueRefusal (Job fault)) cause reads journal writes =
+      verdict-of-due files (Job fault) before read_fault journal_fault write_fault cause (inr (inr (inl refl)))
+  verdict-refused files images before after old new read_fault journal_fault write_fault Q R S (DueRefusal (Join fault name)) cause reads journal writes =
+      verdict-of-due files (Join fault name) before read_fault journal_fault write_fault cause (inr (inr (inl refl)))
+  verdict-refused files images before after old new read_fault journal_fault write_fault Q R S (DueRefusal (Recording key field)) cause reads journal writes =
+      verdict-of-due files (Recording key field) before read_fault journal_fault write_fault cause (inr (inr (inr (inl refl))))
+  verdict-refused files images before after old new read_fault journal_fault write_fault Q R S (DueRefusal (Limit quantity value)) cause reads journal writes =
+      verdict-of-due files (Limit quantity value) before read_fault journal_fault write_fault cause (inr (inr (inr (inr (inl refl)))))
+  verdict-refused files images before after old new read_fault journal_fault write_fault Q R S (DueRefusal (NoFile name)) cause reads journal writes =
+      verdict-of-due files (NoFile name) before read_fault journal_fault write_fault cause (inr (inr (inr (inr (inr refl)))))
+  verdict-refused files images before after old new read_fault journal_fault write_fault Q R S (DueRefusal (Other d)) cause reads journal writes =
+      verdict-other files d before read_fault journal_fault write_fault cause
+  verdict-refused files images before after old new read_fault journal_fault write_fault Q R S Read cause reads journal writes = record {
+    due = λ is. absurd (due-not 7 7 (inr is) refl (inr (inr (inl refl))));
     refused = λ _ _. inr (inr refl);
-    complete = λ _ _ no_read _. absurd (no_read reads);
+    other = λ is. absurd cc;
+    foreign = λ _ _ _ _ _. inr (inr (inl refl));
+    complete = λ _ _ no_read _ _. absurd (no_read reads);
   }
-  verdict-refused Write cause reads writes = record {
-    due = λ is. absurd (verdict-not 9 9 is refl (inr (inr (inr refl))));
-    refused = λ answer fact. absurd (plan-not cause.0 answer cause.1 fact);
-    complete = λ _ _ _ no_write. absurd (no_write writes);
+  verdict-refused files images before after old new read_fault journal_fault write_fault Q R S (Journal kept) cause reads journal writes =
+      subst (λ (status : ℕ). IsVerdict outcomes files before status read_fault journal_fault write_fault) (sym (journal-status kept)) (record {
+        due = λ is. absurd (due-not 8 8 (inr is) refl (inr (inr (inr (inl refl)))));
+        refused = λ answer fact. absurd (call-not cause.call answer cause.outcome fact);
+        other = λ is. absurd cc;
+        foreign = λ _ _ _ _ _. inr (inr (inr refl));
+        complete = λ call there _ _ usable.
+            let same : call ≡ cause.call = calls-same call cause.call there cause.outcome in
+            let usable_here : IsUsable files cause.call before journal_fault = subst (λ (c : Call). IsUsable files c before journal_fault) same usable in
+            absurd ((usable_here cause.uses).0 journal);
+      })
+  verdict-refused files images before after old new read_fault journal_fault write_fault Q R S Write cause reads journal writes = record {
+    due = λ is. absurd (due-not 9 9 (inr is) refl (inr (inr (inr (inr refl)))));
+    refused = λ answer fact. absurd (call-not cause.call answer cause.outcome fact);
+    other = λ is. absurd cc;
+    foreign = λ call image there is foreign. absurd (opened-not files cause.call call before image cause.outcome there cause.opened is foreign);
+    complete = λ _ _ _ no_write _. absurd (no_write writes);
   }
 
 -- ---- what is appended
 
-pub appended-done : (outcomes : Outcomes Plan) (files : Files) (old new : Option (List ℕ)) (plan : Plan) → outcomes (Ok plan) → new ≡ more old (output plan files)
-    → IsAppended outcomes files 0 old new
-appended-done outcomes files old new plan there told = record {
-  done = λ _. (plan, there, told);
-  nothing = λ is. absurd (verdict-not 0 0 is refl (inl refl));
+pub appended-done : {D : Type 0} (outcomes : Outcomes Call) (files : Files) (seen : D → Option (List ℕ)) (moment : D → ℕ) (may_leave : D → ℕ → List ℕ → Type 0) (before after : D)
+    (old new : Option (List ℕ)) → IsDone outcomes files seen moment may_leave before after old new → IsAppended outcomes files (seen before) (seen after) 0 old new
+appended-done outcomes files seen moment may_leave before after old new done = record {
+  done = λ _. (done.call, done.outcome, (done.text, done.is, done.told));
+  nothing = λ is. absurd (due-not 0 0 is refl (inl refl));
   part = λ is. absurd (grind arith);
   write = λ is. absurd cc;
 }
 
-pub appended-refused : (outcomes : Outcomes Plan) (files : Files) (old new : Option (List ℕ)) (r : Refusal) → IsPartly r outcomes files old new
-    → IsAppended outcomes files (answer_of r).status old new
-appended-refused outcomes files old new Memory part = record {
+pub appended-refused : (outcomes : Outcomes Call) (files : Files) (before after old new : Option (List ℕ)) (r : Refusal) → IsPartly r outcomes files before after old new
+    → IsAppended outcomes files before after (answer_of r).status old new
+appended-refused outcomes files before after old new Memory part = record {
   done = λ is. absurd cc;
-  nothing = λ is. absurd (verdict-not 1 1 is refl (inr (inl refl)));
+  nothing = λ is. absurd (due-not 1 1 is refl (inr (inl refl)));
   part = λ _. part;
   write = λ is. absurd cc;
 }
-appended-refused outcomes files old new (DueRefusal due) part = record {
+appended-refused outcomes files before after old new (DueRefusal due) part = record {
   done = λ is. absurd (not_due due 0 is (inl refl));
   nothing = λ _. part;
   part = λ _. inl part;
-  write = λ is. absurd (not_due due 9 is (inr (inr (inr refl))));
+  write = λ is. absurd (not_due due 9 is (inr (inr (inr (inr refl)))));
 }
-appended-refused outcomes files old new Read part = record {
+appended-refused outcomes files before after old new Read part = record {
   done = λ is. absurd cc;
-  nothing = λ is. absurd (verdict-not 7 7 is refl (inr (inr (inl refl))));
+  nothing = λ is. absurd (due-not 7 7 is refl (inr (inr (inl refl))));
   part = λ _. part;
   write = λ is. absurd cc;
 }
-appended-refused outcomes files old new Write part = record {
+appended-refused outcomes files before after old new (Journal kept) part =
+    subst (λ (status : ℕ). IsAppended outcomes files before after status old new) (sym (journal-status kept)) (record {
+      done = λ is. absurd cc;
+      nothing = λ is. absurd (due-not 8 8 is refl (inr (inr (inr (inl refl)))));
+      part = λ _. part;
+      write = λ is. absurd cc;
+    })
+appended-refused outcomes files before after old new Write part = record {
   done = λ is. absurd cc;
-  nothing = λ is. absurd (verdict-not 9 9 is refl (inr (inr (inr refl))));
+  nothing = λ is. absurd (due-not 9 9 is refl (inr (inr (inr (inr refl)))));
   part = λ is. absurd (grind arith);
   write = λ _. part;
 }
 
--- what a call that was refused before the output appended
-pub partly-nothing : (outcomes : Outcomes Plan) (files : Files) (old : Option (List ℕ)) (r : Refusal) → IsOfFiles r → IsPartly r outcomes files old old
-partly-nothing outcomes files old Memory stage = inl refl
-partly-nothing outcomes files old (DueRefusal due) stage = refl
-partly-nothing outcomes files old Read stage = inl refl
-partly-nothing outcomes files old Write stage = absurd stage
-
-pub partly-words : (wanted : Result Order WordsFault) (outcomes : Outcomes Plan) (files : Files) (old : Option (List ℕ)) (r : Refusal) → IsOfWords wanted r
-    → IsPartly r outcomes files old old
-partly-words wanted outcomes files old Memory of = inl refl
-partly-words wanted outcomes files old (DueRefusal due) of = refl
-partly-words wanted outcomes files old Read of = absurd of
-partly-words wanted outcomes files old Write of = absurd of
-
--- and what one that was refused in it did
-pub partly-output : (outcomes : Outcomes Plan) (files : Files) (old new : Option (List ℕ)) (plan : Plan) (r : Refusal) → outcomes (Ok plan) → IsNoVerdict r
-    → PrefixMore old (output plan files) new → IsPartly r outcomes files old new
-partly-output outcomes files old new plan Memory there stage part = inr (plan, there, part)
-partly-output outcomes files old new plan (DueRefusal due) there stage part = absurd stage
-partly-output outcomes files old new plan Read there stage part = inr (plan, there, part)
-partly-output outcomes files old new plan Write there stage part = (plan, there, part)
-
--- of a call whose output failed
-pub part-output : (told told' : Option Files) (texts : List (List ℕ)) (order : Order) (plan : Plan) (old new : Option (List ℕ)) (result : Result (Unit {0}) Refusal)
-    → told' ≡ told → plain_order texts ≡ Ok order → WhereTold told (λ files. PlanOf files order (Ok plan))
-    → WhereTold told' (λ files. Appended old (output plan files) new result) → IfErr result IsNoVerdict
-    → IfErr result (λ r. WhereTold told (λ files. IsPartly r (OutcomeOf texts files) files old new))
-part-output told told' texts order plan old new (Ok x) same is there written stage = tt
-part-output told told' texts order plan old new (Err r) same is there written stage =
-    where_both told (λ files. PlanOf files order (Ok plan)) (λ files. Appended {T = Unit {0}} old (output plan files) new (Err r))
-    (λ files. IsPartly r (OutcomeOf texts files) files old new)
-    (λ files planned appended. partly-output (OutcomeOf texts files) files old new plan r (outcome-plan texts files order plan is planned) stage appended.part)
-    there
-    (subst (λ (o : Option Files). WhereTold o (λ files. Appended {T = Unit {0}} old (output plan files) new (Err r))) same written)
-
 -- with the statuses of what is wrong nothing
-pub due-nothing : (r : Refusal) (P : Type 0) → MatchDue r P → IsVerdictStatus (answer_of r).status → P
-due-nothing Memory P fact is = absurd (verdict-not 1 1 is refl (inr (inl refl)))
+pub due-nothing : (r : Refusal) (P : Type 0) → MatchDue r P → IsDueStatus (answer_of r).status → P
+due-nothing Memory P fact is = absurd (due-not 1 1 is refl (inr (inl refl)))
 due-nothing (DueRefusal due) P fact is = fact
-due-nothing Read P fact is = absurd (verdict-not 7 7 is refl (inr (inr (inl refl))))
-due-nothing Write P fact is = absurd (verdict-not 9 9 is refl (inr (inr (inr refl))))
+due-nothing Read P fact is = absurd (due-not 7 7 is refl (inr (inr (inl refl))))
+due-nothing (Journal kept) P fact is = absurd (due-not _ 8 is (journal-status kept) (inr (inr (inr (inl refl)))))
+due-nothing Write P fact is = absurd (due-not 9 9 is refl (inr (inr (inr (inr refl)))))
 
-pub due-output : {T : Type 0} (result : Result T Refusal) (P : Type 0) → IfErr result IsNoVerdict → IfErr result (λ r. MatchDue r P)
-due-output (Ok x) P stage = tt
-due-output (Err Memory) P stage = tt
-due-output (Err (DueRefusal due)) P stage = absurd stage
-due-output (Err Read) P stage = tt
-due-output (Err Write) P stage = tt
+-- with want of memory and with a read fault
+pub early-nothing : (r : Refusal) (P : Type 0) → MatchEarly r P → ((answer_of r).status ≡ 1) ⊎ ((answer_of r).status ≡ 7) → P
+early-nothing Memory P fact is = fact
+early-nothing (DueRefusal due) P fact (inl is) = absurd (not_due due 1 is (inr (inl refl)))
+early-nothing (DueRefusal due) P fact (inr is) = absurd (not_due due 7 is (inr (inr (inl refl))))
+early-nothing Read P fact is = fact
+early-nothing (Journal kept) P fact (inl is) = absurd (not_journal kept 1 is (λ e. cc))
+early-nothing (Journal kept) P fact (inr is) = absurd (not_journal kept 7 is (λ e. cc))
+early-nothing Write P fact (inl is) = absurd cc
+early-nothing Write P fact (inr is) = absurd cc
+
+pub verdict-not : (status other : ℕ) → IsVerdictStatus status → status ≡ other → (other ≡ 10) ⊎ ((other ≡ 0) ⊎ ((other ≡ 1) ⊎ ((other ≡ 7) ⊎ ((other ≡ 8) ⊎ (other ≡ 9))))) → ⊥
+verdict-not status other is same of = grind arith
+
+-- with the statuses of what is wrong with words and files, and with that of another job's journal
+pub verdict-fact : (r : Refusal) (P Q : Type 0) → MatchVerdict r P Q → IsVerdictStatus (answer_of r).status → Q
+verdict-fact Memory P Q fact is = absurd (due-not 1 1 (inr is) refl (inr (inl refl)))
+verdict-fact (DueRefusal (Words fault)) P Q fact is = fact
+verdict-fact (DueRefusal (Vex fault)) P Q fact is = fact
+verdict-fact (DueRefusal (Schedule fault)) P Q fact is = fact
+verdict-fact (DueRefusal (Job fault)) P Q fact is = fact
+verdict-fact (DueRefusal (Join fault name)) P Q fact is = fact
+verdict-fact (DueRefusal (Limit quantity value)) P Q fact is = fact
+verdict-fact (DueRefusal (NoFile name)) P Q fact is = fact
+verdict-fact (DueRefusal (Recording key field)) P Q fact is = fact
+verdict-fact (DueRefusal (Other d)) P Q fact is = absurd (verdict-not 10 10 is refl (inl refl))
+verdict-fact Read P Q fact is = absurd (due-not 7 7 (inr is) refl (inr (inr (inl refl))))
+verdict-fact (Journal kept) P Q fact is = absurd (due-not _ 8 (inr is) (journal-status kept) (inr (inr (inr (inl refl)))))
+verdict-fact Write P Q fact is = absurd (due-not 9 9 (inr is) refl (inr (inr (inr (inr refl)))))
+
+pub other-fact : (r : Refusal) (P Q : Type 0) → MatchVerdict r P Q → (answer_of r).status ≡ 10 → P
+other-fact Memory P Q fact is = absurd cc
+other-fact (DueRefusal (Words fault)) P Q fact is = absurd cc
+other-fact (DueRefusal (Vex fault)) P Q fact is = absurd cc
+other-fact (DueRefusal (Schedule fault)) P Q fact is = absurd cc
+other-fact (DueRefusal (Job fault)) P Q fact is = absurd cc
+other-fact (DueRefusal (Join fault name)) P Q fact is = absurd cc
+other-fact (DueRefusal (Limit quantity value)) P Q fact is = absurd cc
+other-fact (DueRefusal (NoFile name)) P Q fact is = absurd cc
+other-fact (DueRefusal (Recording key field)) P Q fact is = absurd cc
+other-fact (DueRefusal (Other d)) P Q fact is = fact
+other-fact Read P Q fact is = absurd cc
+other-fact (Journal kept) P Q fact is = absurd (not_journal kept 10 is (λ e. cc))
+other-fact Write P Q fact is = absurd cc
+
+-- ---- the journal
+
+honest-extends : (files : Files) (call : Call) (v image : List ℕ) → IsHonest files call v
+    → Extends (IsSums files call.plan) (identity_for files call) (sizes_for call) v image → IsHonest files call image
+honest-extends files call v image honest (inl e) = record { bodies = honest.bodies; reads = e ∙ honest.reads; sums = honest.sums }
+honest-extends files call v image honest (inr g) =
+    let same : honest.bodies ≡ g.old = some_bodies honest.bodies g.old (sym honest.reads ∙ g.before) in
+    let begun : AreFrom (IsSums files call.plan) 0 g.old = subst (λ (l : List (List ℕ)). AreFrom (IsSums files call.plan) 0 l) same honest.sums in
+    let from : length g.old ≡ 0 + length g.old = omega arith in
+    record {
+      bodies = g.old ++ g.more;
+      reads = g.after;
+      sums = AreFrom-append (IsSums files call.plan) 0 g.old g.more begun (subst (λ (n : ℕ). AreFrom (IsSums files call.plan) n g.more) from g.each);
+    }
+
+module _ {D : Type 0} (seen : D → Option (List ℕ)) (moment : D → ℕ) (may_leave : D → ℕ → List ℕ → Type 0) where
+  -- a call that continues its job, by what happened to the journal
+  goes-call : (outcomes : Outcomes Call) (one : AreOne outcomes) (files : Files) (before after : D) (call : Call) → outcomes (Ok call)
+      → Looks seen moment may_leave before after ⊎ IsRunning outcomes files seen moment may_leave before after
+      → Changes seen moment may_leave (Extends (IsSums files call.plan) (identity_for files call) (sizes_for call)) before after
+  goes-call outcomes one files before after call there (inl looks) =
+      changes_looks seen moment may_leave (Extends (IsSums files call.plan) (identity_for files call) (sizes_for call)) (Extends-stays _ _ _) before after looks
+  goes-call outcomes one files before after call there (inr running) =
+      subst (λ (c : Call). Changes seen moment may_leave (Extends (IsSums files c.plan) (identity_for files c) (sizes_for c)) before after)
+      (calls-same outcomes one running.call call running.outcome there) running.changes
+
+  pub stays-honest : (outcomes : Outcomes Call) (one : AreOne outcomes) (files : Files) (before after : D) (status : ℕ)
+      → Looks seen moment may_leave before after ⊎ IsRunning outcomes files seen moment may_leave before after
+      → ((call : Call) → outcomes (Ok call) → is_run call.order ≡ true → status ≡ 0 → (image : List ℕ) → may_leave after (moment after) image → kept_for files call image ≡ epochs_for call)
+      → (call : Call) → outcomes (Ok call) → Continues files call (may_leave before (moment before)) → StaysHonest files call status moment may_leave before after
+  stays-honest outcomes one files before after status goes all call there continues =
+      let changes = goes-call outcomes one files before after call there goes in
+      record {
+        honest = always moment may_leave (IsHonest files call) (Extends (IsSums files call.plan) (identity_for files call) (sizes_for call)) before after changes.runs continues.honest
+            (λ v image honest step. honest-extends files call v image honest step);
+        never_falls = never_falls moment may_leave (kept_for files call) (Extends (IsSums files call.plan) (identity_for files call) (sizes_for call)) before after
+            (λ v image step. Extends-counts _ _ _ v image step) changes.runs;
+        all = λ done. all call there continues.run done;
+      }
+
+  pub all-done : (outcomes : Outcomes Call) (one : AreOne outcomes) (files : Files) (before after : D) (old new : Option (List ℕ)) → IsDone outcomes files seen moment may_leave before after old new
+      → (call : Call) → outcomes (Ok call) → is_run call.order ≡ true → ◌≡◌ {A = ℕ} 0 0 → (image : List ℕ) → may_leave after (moment after) image → kept_for files call image ≡ epochs_for call
+  all-done outcomes one files before after old new done call there run zero image now =
+      let same : done.call ≡ call = calls-same outcomes one done.call call done.outcome there in
+      let at : is_run done.call.order ≡ true = subst (λ (c : Call). is_run c.order ≡ true) (sym same) run in
+      subst (λ (c : Call). kept_for files c image ≡ epochs_for c) same (done.all at image now)
+
+  pub headline-done : (outcomes : Outcomes Call) (one : AreOne outcomes) (files : Files) (before after : D) (old new : Option (List ℕ)) → WhereTold (seen before) (may_leave before (moment before))
+      → IsDone outcomes files seen moment may_leave before after old new
+      → WhereTold (seen before) (λ image. (call : Call) → outcomes (Ok call) → Continues files call (may_leave before (moment before)) → ◌≡◌ {A = ℕ} 0 0 → new ≡ more old (output call.plan files))
+  headline-done outcomes one files before after old new law done = by (seen before) law done.sums
+    where
+      by : (o : Option (List ℕ)) → WhereTold o (may_leave before (moment before))
+          → (is_run done.call.order ≡ true → WhereTold o (λ image. IsHonest files done.call image → new ≡ more old (output done.call.plan files)))
+          → WhereTold o (λ image. (call : Call) → outcomes (Ok call) → Continues files call (may_leave before (moment before)) → ◌≡◌ {A = ℕ} 0 0 → new ≡ more old (output call.plan files))
+      by None now sums = tt
+      by (Some image) now sums = λ call there continues zero.
+          let same : done.call ≡ call = calls-same outcomes one done.call call done.outcome there in
+          let run : is_run done.call.order ≡ true = subst (λ (c : Call). is_run c.order ≡ true) (sym same) continues.run in
+          let honest : IsHonest files done.call image = subst (λ (c : Call). IsHonest files c image) (sym same) (continues.honest image now) in
+          subst (λ (c : Call). new ≡ more old (output c.plan files)) same (sums run honest)
+
+  pub headline-refused : (P : List ℕ → Call → Type 0) (status : ℕ) (o : Option (List ℕ)) (outcomes : Outcomes Call) (Q : Call → Type 0) → (status ≡ 0 → ⊥)
+      → WhereTold o (λ image. (call : Call) → outcomes (Ok call) → Q call → status ≡ 0 → P image call)
+  headline-refused P status None outcomes Q not = tt
+  headline-refused P status (Some image) outcomes Q not = λ call there q zero. absurd (not zero)
+
+pub refusal-not-zero : (r : Refusal) → (answer_of r).status ≡ 0 → ⊥
+refusal-not-zero Memory is = cc
+refusal-not-zero (DueRefusal due) is = not_due due 0 is (inl refl)
+refusal-not-zero Read is = cc
+refusal-not-zero (Journal kept) is = not_journal kept 0 is (λ e. cc)
+refusal-not-zero Write is = cc
 
 -- ---- notes
 
-pub line-refused : (outcomes : Outcomes Plan) (r : Refusal) → IsCause r outcomes → IsLineOf outcomes (answer_of r).status (answer_of r).note
-line-refused outcomes Memory cause = inl (inr (inl (refl, refl)))
-line-refused outcomes (DueRefusal due) cause = inr (due-status due, (due_answer due, cause, (refl, refl)))
-line-refused outcomes Read cause = inl (inr (inr (inl (refl, refl))))
-line-refused outcomes Write cause = inl (inr (inr (inr (refl, refl))))
+pub line-refused : (outcomes : Outcomes Call) (files : Files) (images : List ℕ → Type 0) (before after old new : Option (List ℕ)) (r : Refusal)
+    → IsCauseOf r outcomes files images before after old new → IsLineOf outcomes files before (answer_of r).status (answer_of r).note
+line-refused outcomes files images before after old new Memory cause = inl (inr (inl (refl, refl)))
+line-refused outcomes files images before after old new (DueRefusal (Words fault)) cause = inr (inr (inl refl, (words_answer fault, cause, (refl, refl))))
+line-refused outcomes files images before after old new (DueRefusal (Vex fault)) cause = inr (inr (inr (inl refl), (due_answer (Vex fault), cause, (refl, refl))))
+line-refused outcomes files images before after old new (DueRefusal (Schedule fault)) cause = inr (inr (inr (inl refl), (due_answer (Schedule fault), cause, (refl, refl))))
+line-refused outcomes files images before after old new (DueRefusal (Job fault)) cause = inr (inr (inr (inr (inl refl)), (due_answer (Job fault), cause, (refl, refl))))
+line-refused outcomes files images before after old new (DueRefusal (Join fault name)) cause = inr (inr (inr (inr (inl refl)), (due_answer (Join fault name), cause, (refl, refl))))
+line-refused outcomes files images before after old new (DueRefusal (Recording key field)) cause = inr (inr (inr (inr (inr (inl refl))), (due_answer (Recording key field), cause, (refl, refl))))
+line-refused outcomes files images before after old new (DueRefusal (Limit quantity value)) cause = inr (inr (inr (inr (inr (inr (inl refl)))), (due_answer (Limit quantity value), cause, (refl, refl))))
+line-refused outcomes files images before after old new (DueRefusal (NoFile name)) cause = inr (inr (inr (inr (inr (inr (inr refl)))), (due_answer (NoFile name), cause, (refl, refl))))
+line-refused outcomes files images before after old new (DueRefusal (Other d)) cause =
+    inr (inl (refl, record { call = cause.call; outcome = cause.outcome; differs = d; other = cause.other; line_is = refl }))
+line-refused outcomes files images before after old new Read cause = inl (inr (inr (inl (refl, refl))))
+line-refused outcomes files images before after old new (Journal None) cause = inl (inr (inr (inr (inl (refl, (None, refl))))))
+line-refused outcomes files images before after old new (Journal (Some k)) cause = inl (inr (inr (inr (inl (refl, (Some k, refl))))))
+line-refused outcomes files images before after old new Write cause = inl (inr (inr (inr (inr (refl, refl)))))
 
 more-none : (told : Option (List ℕ)) → told ≡ more told []
 more-none None = refl

@@ -1,4 +1,4 @@
--- The refusal of a fault of the output.
+-- The refusals of faults of the output.
 use Rattle.std.specs.Prelude.{Result, Ok, Err}
 use Rattle.station_stream.specs.declared.fault.StreamFault.{StreamFault}
 use Rattle.station_stream.specs.declared.fault.StreamFault.TheVariants.{Read, Memory}
@@ -15,3 +15,8 @@ refusal_of Sink = Write
 abbrev pub answer_with : Result (Unit {0}) (WriteFault StreamFault) → Result (Unit {0}) Refusal
 answer_with (Ok x) = Ok x
 answer_with (Err fault) = Err (refusal_of fault)
+
+-- that of a sink which failed
+abbrev pub written_with : {E : Type 0} → Result (Unit {0}) E → Result (Unit {0}) Refusal
+written_with (Ok x) = Ok x
+written_with (Err failed) = Err Write

@@ -1,14 +1,64 @@
--- A call before its status: its refusals by the words, and what it appended where it was refused.
-use Rattle.std.specs.Prelude.{◌≡◌, ◌⊎◌, ⊤, ℕ, List, Option, Result, Ok, Err, IsOk}
+-- A call before its status: what it did where it is done, and what it was refused for.
+use Rattle.std.specs.Prelude.{◌≡◌, ◌⊎◌, ⊤, ℕ, ◌+◌, ◌≤◌, ◌<◌, ◌^◌, Bool, true, false, List, Option, None, Some, IsSome, Result, Ok, Err, IsOk, OnOk, IfErr}
+use Rattle.dev_traits.specs.Told.{more, PrefixMore, WhereTold}
 use Rattle.corr_model.specs.Files.{Files}
 use Rattle.job_plan.specs.declared.plan.Plan.{Plan}
+use Rattle.job_plan.specs.Output.{output}
+use Rattle.checkpoint_journal.specs.declared.fault.Differs.{Differs}
+use Rattle.checkpoint_journal.specs.Finding.{IsOther}
+use Rattle.checkpoint_journal.specs.Runs.{Looks, Changes, StepTold, KeepsBodies}
 use Rattle.run_words.specs.declared.fault.WordsFault.{WordsFault}
 use Rattle.run_words.specs.declared.order.Order.{Order}
-use Rattle.run_notes.specs.declared.refusal.Due.TheVariants.{Words}
+use Rattle.run_words.specs.declared.order.Order.TheVariants.{Run, Plain, Check, Status}
+use Rattle.run_notes.specs.declared.refusal.Due.{Due}
+use Rattle.run_notes.specs.declared.refusal.Due.TheVariants.{Words, Other}
 use Rattle.run_notes.specs.declared.refusal.Refusal.{Refusal}
-use Rattle.run_notes.specs.declared.refusal.Refusal.TheVariants.{Memory, Due as DueRefusal, Read, Write}
-use Rattle.run_notes.specs.Refusals.{Outcomes}
-use Rattle.vlbi_core.specs.Run.{IsPart}
+use Rattle.run_notes.specs.declared.refusal.Refusal.TheVariants.{Memory, Due as DueRefusal, Read, Journal, Write}
+use Rattle.run_notes.specs.Answers.{words_answer}
+use Rattle.run_notes.specs.Refusals.{Outcomes, IsCause, due_answer}
+use Rattle.run_ready.specs.Steps.{Is, Then, answered}
+use Rattle.run_ready.specs.Outcome.{PlanOf}
+use Rattle.run_journal.specs.Extended.{Extends}
+use Rattle.vlbi_core.specs.Calls.{Call, CallFor, identity_for, sizes_for, bodies_for, kept_for, is_run, uses_journal}
+use Rattle.vlbi_core.specs.Texts.{IsSums, IsText, IsPart, epochs_for}
+use Rattle.vlbi_core.specs.Restart.{IsHonest, IsRunOf, IsNoRun}
+
+-- ---- orders
+
+-- the number of workers and the samples of a piece, in their ranges
+pub record IsWork (workers piece : ℕ) : Type 0 where
+  pub some : 1 ≤ workers
+  pub few : workers ≤ 64
+  pub least : 64 ≤ piece
+  pub most : piece ≤ 4194304
+
+-- an order whose numbers are in their ranges
+abbrev pub IsNumbered : Order → Type 0
+IsNumbered (Run job vex workers piece) = IsWork workers piece
+IsNumbered _ = ⊤
+
+-- an order of each command
+abbrev pub IsPlainOrder : Order → Type 0
+IsPlainOrder (Plain job vex) = ⊤
+IsPlainOrder _ = ⊥
+
+abbrev pub IsCheckOrder : Order → Type 0
+IsCheckOrder (Check job vex) = ⊤
+IsCheckOrder _ = ⊥
+
+abbrev pub IsRunOrder : Order → Type 0
+IsRunOrder (Run job vex workers piece) = ⊤
+IsRunOrder _ = ⊥
+
+abbrev pub IsStatusOrder : Order → Type 0
+IsStatusOrder (Status job vex) = ⊤
+IsStatusOrder _ = ⊥
+
+-- what words and files come to, by the order that the words give
+abbrev pub OutcomeFrom : Result Order WordsFault → Files → Outcomes Call
+OutcomeFrom wanted files = Then (Is (answered words_answer wanted)) (CallFor files)
+
+-- ---- refusals by the words
 
 -- a refusal by the words: their fault, or want of memory
 abbrev pub IsOfWords : Result Order WordsFault → Refusal → Type 0
@@ -16,6 +66,7 @@ IsOfWords wanted Memory = ⊤
 IsOfWords wanted (DueRefusal (Words fault)) = wanted ≡ Err fault
 IsOfWords wanted (DueRefusal due) = ⊥
 IsOfWords wanted Read = ⊥
+IsOfWords wanted (Journal kept) = ⊥
 IsOfWords wanted Write = ⊥
 
 -- a refusal is by the words exactly where it is their fault; want of memory may come with any words
@@ -24,23 +75,183 @@ IsWordedBy wanted Memory = ⊤
 IsWordedBy wanted (DueRefusal (Words fault)) = wanted ≡ Err fault
 IsWordedBy wanted (DueRefusal due) = IsOk wanted
 IsWordedBy wanted Read = IsOk wanted
+IsWordedBy wanted (Journal kept) = IsOk wanted
 IsWordedBy wanted Write = IsOk wanted
 
 abbrev pub IsWorded : {T : Type 0} → Result Order WordsFault → Result T Refusal → Type 0
 IsWorded wanted (Ok x) = IsOk wanted
 IsWorded wanted (Err r) = IsWordedBy wanted r
 
--- What a refused call appended: nothing where it was refused for what it was given; nothing or a first part of the records
--- with want of memory and a read fault; and such a part with a write fault.
-abbrev pub IsPartly : Refusal → Outcomes Plan → Files → Option (List ℕ) → Option (List ℕ) → Type 0
-IsPartly Memory outcomes files old new = (new ≡ old) ⊎ IsPart outcomes files old new
-IsPartly (DueRefusal due) outcomes files old new = new ≡ old
-IsPartly Read outcomes files old new = (new ≡ old) ⊎ IsPart outcomes files old new
-IsPartly Write outcomes files old new = IsPart outcomes files old new
+-- a refusal by what is behind the words
+abbrev pub IsBehindWords : Refusal → Type 0
+IsBehindWords (DueRefusal (Words fault)) = ⊥
+IsBehindWords _ = ⊤
 
--- a fact where the call was refused for what it was given
+-- a number of epochs that a refusal names has 64 bits
+abbrev pub IsShort : Refusal → Type 0
+IsShort (Journal kept) = (k : ℕ) → kept ≡ Some k → k < 2 ^ 64
+IsShort _ = ⊤
+
+-- ---- commands that leave the journal alone
+
+-- a first part of the text of the plan that an order comes to
+abbrev pub IsPartOf : Outcomes Plan → (Plan → List ℕ) → Option (List ℕ) → Option (List ℕ) → Type 0
+IsPartOf outcomes text old new = (plan : Plan) × outcomes (Ok plan) × PrefixMore old (text plan) new
+
+-- what such a command appended where it was refused
+abbrev pub IsPartlyOf : Refusal → Outcomes Plan → (Plan → List ℕ) → Option (List ℕ) → Option (List ℕ) → Type 0
+IsPartlyOf Memory outcomes text old new = (new ≡ old) ⊎ IsPartOf outcomes text old new
+IsPartlyOf (DueRefusal due) outcomes text old new = new ≡ old
+IsPartlyOf Read outcomes text old new = (new ≡ old) ⊎ IsPartOf outcomes text old new
+IsPartlyOf (Journal kept) outcomes text old new = ⊥
+IsPartlyOf Write outcomes text old new = IsPartOf outcomes text old new
+
+-- The text of the order's plan was appended; or the order was refused, with its cause, and with a first part of that text
+-- appended or nothing.
+pub record Tells (files : Files) (order : Order) (text : Plan → List ℕ) (old new : Option (List ℕ)) (result : Result (Unit {0}) Refusal) : Type 0 where
+  pub done : OnOk result ((plan : Plan) × PlanOf files order (Ok plan) × (new ≡ more old (text plan)))
+  pub cause : IfErr result (λ r. IsCause r (PlanOf files order))
+  pub part : IfErr result (λ r. IsPartlyOf r (PlanOf files order) text old new)
+
+-- what they may be refused for: anything but a fault of the words, another journal and a fault of the journal
+abbrev pub IsOfFilesOrOutput : Refusal → Type 0
+IsOfFilesOrOutput (DueRefusal (Words fault)) = ⊥
+IsOfFilesOrOutput (DueRefusal (Other d)) = ⊥
+IsOfFilesOrOutput (Journal kept) = ⊥
+IsOfFilesOrOutput _ = ⊤
+
+-- want of memory, and a fault of the shelf or of the output
+abbrev pub IsOfOutput : Refusal → Type 0
+IsOfOutput (DueRefusal due) = ⊥
+IsOfOutput (Journal kept) = ⊥
+IsOfOutput _ = ⊤
+
+-- what a look at the journal may be refused for: want of memory, another job's journal, and a fault that names no epochs
+abbrev pub IsLookedFor : List ℕ → List ℕ → Option (List ℕ) → Refusal → Type 0
+IsLookedFor id sizes before Memory = ⊤
+IsLookedFor id sizes before (DueRefusal (Other d)) = WhereTold before (λ image. IsOther id sizes image d)
+IsLookedFor id sizes before (Journal None) = ⊤
+IsLookedFor id sizes before _ = ⊥
+
+-- a fault of the journal without its number; what a look is never refused for becomes want of memory
+abbrev pub looked : Refusal → Refusal
+looked (DueRefusal due) = DueRefusal due
+looked (Journal kept) = Journal None
+looked _ = Memory
+
+-- ---- causes
+
+-- A journal that a call went on from, where it uses one: what a read gave is blank or of the job's form.
+abbrev pub IsOpened : Files → Call → Option (List ℕ) → Type 0
+IsOpened files call before = uses_journal call.order ≡ true → WhereTold before (λ image. IsSome (bodies_for files call image))
+
+-- another job's journal, where a call uses one
+pub record IsOtherCause (outcomes : Outcomes Call) (files : Files) (before : Option (List ℕ)) (d : Differs) : Type 0 where
+  pub call : Call
+  pub outcome : outcomes (Ok call)
+  pub uses : uses_journal call.order ≡ true
+  pub other : WhereTold before (λ image. IsOther (identity_for files call) (sizes_for call) image d)
+
+-- What a fault of the journal says in a call of `run`: of each image how many epochs it keeps, or that nothing was appended
+-- and all that was kept is kept.
+abbrev pub SaysFor : Option ℕ → Files → Call → (List ℕ → Type 0) → Option (List ℕ) → Option (List ℕ) → Option (List ℕ) → Option (List ℕ) → Type 0
+SaysFor (Some k) files call images before after old new =
+    (image : List ℕ) → images image → (kept_for files call image ≡ k) ⊎ (kept_for files call image ≡ k + 1)
+SaysFor None files call images before after old new =
+    (new ≡ old) × StepTold (KeepsBodies (identity_for files call) (sizes_for call)) before after
+
+pub record IsJournalCause (outcomes : Outcomes Call) (files : Files) (images : List ℕ → Type 0) (before after old new : Option (List ℕ)) (kept : Option ℕ) : Type 0 where
+  pub call : Call
+  pub outcome : outcomes (Ok call)
+  pub uses : uses_journal call.order ≡ true
+  pub says : is_run call.order ≡ true → SaysFor kept files call images before after old new
+  pub unnamed : is_run call.order ≡ false → kept ≡ None
+
+-- a fault of the output comes behind the opening of the journal
+pub record IsWriteCause (outcomes : Outcomes Call) (files : Files) (before : Option (List ℕ)) : Type 0 where
+  pub call : Call
+  pub outcome : outcomes (Ok call)
+  pub opened : IsOpened files call before
+
+-- the cause of a verdict
+abbrev pub IsDueCause : Due → Outcomes Call → Files → Option (List ℕ) → Type 0
+IsDueCause (Other d) outcomes files before = IsOtherCause outcomes files before d
+IsDueCause due outcomes files before = outcomes (Err (due_answer due))
+
+-- a refusal has its cause
+abbrev pub IsCauseOf : Refusal → Outcomes Call → Files → (List ℕ → Type 0) → Option (List ℕ) → Option (List ℕ) → Option (List ℕ) → Option (List ℕ) → Type 0
+IsCauseOf Memory outcomes files images before after old new = ⊤
+IsCauseOf (DueRefusal due) outcomes files images before after old new = IsDueCause due outcomes files before
+IsCauseOf Read outcomes files images before after old new = ⊤
+IsCauseOf (Journal kept) outcomes files images before after old new = IsJournalCause outcomes files images before after old new kept
+IsCauseOf Write outcomes files images before after old new = IsWriteCause outcomes files before
+
+-- ---- what was appended
+
+-- What a refused call appended: nothing where it was refused for what it was given; nothing or a first part of the text with
+-- want of memory, a read fault and a fault of the journal; and such a part with a write fault.
+abbrev pub IsPartly : Refusal → Outcomes Call → Files → Option (List ℕ) → Option (List ℕ) → Option (List ℕ) → Option (List ℕ) → Type 0
+IsPartly Memory outcomes files before after old new = (new ≡ old) ⊎ IsPart outcomes files before after old new
+IsPartly (DueRefusal due) outcomes files before after old new = new ≡ old
+IsPartly Read outcomes files before after old new = (new ≡ old) ⊎ IsPart outcomes files before after old new
+IsPartly (Journal kept) outcomes files before after old new = (new ≡ old) ⊎ IsPart outcomes files before after old new
+IsPartly Write outcomes files before after old new = IsPart outcomes files before after old new
+
+-- A call is done: its text was appended, and behind a call of `run` each image keeps all epochs, and the text is that of the
+-- direct sums where the image on entry was honest.
+pub record IsDone {D : Type 0} (outcomes : Outcomes Call) (files : Files) (seen : D → Option (List ℕ)) (moment : D → ℕ) (may_leave : D → ℕ → List ℕ → Type 0)
+    (before after : D) (old new : Option (List ℕ)) : Type 0 where
+  pub call : Call
+  pub outcome : outcomes (Ok call)
+  pub opened : IsOpened files call (seen before)
+  pub text : List ℕ
+  pub is : IsText files call (seen before) (seen after) text
+  pub told : new ≡ more old text
+  pub all : is_run call.order ≡ true → (image : List ℕ) → may_leave after (moment after) image → kept_for files call image ≡ epochs_for call
+  pub sums : is_run call.order ≡ true → WhereTold (seen before) (λ image. IsHonest files call image → new ≡ more old (output call.plan files))
+
+-- A call wrote to the journal: each image goes on from one before it with sums of the plan.
+pub record IsRunning {D : Type 0} (outcomes : Outcomes Call) (files : Files) (seen : D → Option (List ℕ)) (moment : D → ℕ) (may_leave : D → ℕ → List ℕ → Type 0)
+    (before after : D) : Type 0 where
+  pub call : Call
+  pub outcome : outcomes (Ok call)
+  pub changes : Changes seen moment may_leave (Extends (IsSums files call.plan) (identity_for files call) (sizes_for call)) before after
+
+-- What a call did, by what the words give and where the shelf tells its files.
+pub record Does {D : Type 0} (wanted : Result Order WordsFault) (files : Files) (seen : D → Option (List ℕ)) (moment : D → ℕ) (may_leave : D → ℕ → List ℕ → Type 0)
+    (before after : D) (old new : Option (List ℕ)) (result : Result (Unit {0}) Refusal) : Type 0 where
+  pub goes : Looks seen moment may_leave before after ⊎ IsRunning (OutcomeFrom wanted files) files seen moment may_leave before after
+  pub done : OnOk result (IsDone (OutcomeFrom wanted files) files seen moment may_leave before after old new)
+  pub cause : IfErr result (λ r. IsCauseOf r (OutcomeFrom wanted files) files (may_leave after (moment after)) (seen before) (seen after) old new)
+  pub part : IfErr result (λ r. IsPartly r (OutcomeFrom wanted files) files (seen before) (seen after) old new)
+
+-- ---- whether the devices tell their content or not
+
+-- a fact where a call was refused for what it was given
 abbrev pub MatchDue : Refusal → Type 0 → Type 0
-MatchDue Memory P = ⊤
 MatchDue (DueRefusal due) P = P
-MatchDue Read P = ⊤
-MatchDue Write P = ⊤
+MatchDue _ P = ⊤
+
+-- a fact with want of memory and with a read fault
+abbrev pub MatchEarly : Refusal → Type 0 → Type 0
+MatchEarly Memory P = P
+MatchEarly Read P = P
+MatchEarly _ P = ⊤
+
+-- one fact with another job's journal, another with what is wrong with words and files
+abbrev pub MatchOther : Due → Type 0 → Type 0 → Type 0
+MatchOther (Other d) P Q = P
+MatchOther _ P Q = Q
+
+abbrev pub MatchVerdict : Refusal → Type 0 → Type 0 → Type 0
+MatchVerdict (DueRefusal due) P Q = MatchOther due P Q
+MatchVerdict _ P Q = ⊤
+
+-- What a call left: with a verdict the output, in a call of `run` the output before all is summed, in any other call and where
+-- the words or files are wrong the journal's images, and what is read of another job's journal.
+pub record Leaves {D : Type 0} (wanted : Result Order WordsFault) (seen : D → Option (List ℕ)) (moment : D → ℕ) (may_leave : D → ℕ → List ℕ → Type 0)
+    (before after : D) (old new : Option (List ℕ)) (result : Result (Unit {0}) Refusal) : Type 0 where
+  pub nothing : IfErr result (λ r. MatchDue r (new ≡ old))
+  pub whole : IsRunOf wanted → IfErr result (λ r. MatchEarly r (new ≡ old))
+  pub untouched : IsNoRun wanted → Looks seen moment may_leave before after
+  pub verdict : IfErr result (λ r. MatchVerdict r (seen after ≡ seen before) (Looks seen moment may_leave before after))

@@ -1,12 +1,17 @@
 //! The correlator: the top call `run`, and what it is made of. It stands on `run_words` for the words, on `run_ready` for what
-//! comes before the output, on `scan_values` for the values of a scan, on `vis_writer` for the records, and on `run_notes` for
-//! statuses and notes.
+//! comes before the output, on `scan_values` for the values of a scan, on `run_journal` for the sums of a job in its journal, on
+//! `vis_writer` and `run_records` for the records, on `run_summary` for summaries, and on `run_notes` for statuses and notes.
 //!
-//! `run` reads a schedule, a job and the recordings, and appends the record text over the direct sums of their samples; its
-//! clauses say when each status comes, what is appended with each, and what the notes get.
+//! `run` reads a schedule, a job and the recordings, and does what its command says: it appends the record text over the direct
+//! sums of their samples, in one go or by way of a journal that outlasts a crash, or says what there is. Its clauses say when each
+//! status comes, what is appended with each, what is in the journal at every moment, and what the notes get.
 #![tactic(auto)]
 
+mod check;
+mod correlation;
+mod order;
 mod plain;
+mod status;
 mod top;
 
 pub use top::run;

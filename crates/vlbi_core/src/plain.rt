@@ -1,9 +1,10 @@
 //! The record file of a plan, on one thread: the values of one scan at a time are read, summed and written.
-ghost use Rattle.std.specs.Prelude.{◌≡◌, ◌≤◌, ◌<◌, length, IfErr};
+ghost use Rattle.std.specs.Prelude.{◌≡◌, ◌≤◌, ◌<◌, length, IsSome, IfErr};
 ghost use Rattle.dev_traits.specs.Told.{WhereTold};
 ghost use Rattle.corr_model.specs.Records.{vis_text};
 ghost use Rattle.job_plan.specs.Output.{head_of, output};
-ghost use Rattle.run_notes.specs.Refusals.{IsNoVerdict};
+ghost use Rattle.run_words.specs.Orders.{AreTexts};
+ghost use Rattle.run_ready.specs.Outcome.{job_names};
 ghost use Rattle.run_notes.specs.Counted.{CountsReads, CountsWrites};
 ghost use Rattle.station_stream.specs.Recorded.{AreRecorded};
 ghost use Rattle.vis_writer.specs.Cells.{all_cells, widest};
@@ -12,20 +13,42 @@ ghost use Rattle.vis_writer.specs.Texts.{text_at, scans_text};
 ghost use Rattle.vis_writer.specs.Writes.{Writes, Appended, SinkCounts};
 ghost use Rattle.vlbi_core.specs.Shelf.{ShelfState, state, head_at, cells_at, stays, fails};
 ghost use Rattle.vlbi_core.specs.Faults.{refusal_of, answer_with};
+ghost use Rattle.vlbi_core.specs.Steps.{Tells, IsOfFilesOrOutput, IsOfOutput, MatchDue};
 
 use corr_model::{Cell, Values};
 use dev_traits::{Shelf, Sink};
 use job_plan::Plan0;
 use run_notes::Refusal;
-use run_ready::Ready;
+use run_ready::{Ready, prepare};
+use run_words::Order;
 use scan_values::ScanValues;
 use station_stream::StreamFault;
 use std::alloc::Global;
 use vis_records::{VisHead, write_end, write_head};
 use vis_writer::{OneScan, WriteFault, head_of_plan, record_count, sunk, widest, write_scan_at};
 
-/// Appends the record file of a plan. All memory but that of a scan's values is taken before the first byte.
-pub fn write_plan<F: Shelf, S: Sink>(
+/// Correlates the job of an order, and keeps nothing of it but the output.
+pub fn plain_job<F: Shelf, S: Sink>(
+    alloc: Global,
+    order: &Order,
+    shelf: &mut F,
+    out: &mut S,
+) -> Result<(), Refusal>
+    requires job { IsSome (job_names order.now) }
+    requires texts { AreTexts order.now }
+    ensures same { F.told shelf.new ≡ F.told shelf.old }
+    ensures tells { WhereTold (F.told shelf.old) (λ files. Tells files order.now (λ plan. output plan files) (S.told out.old) (S.told out.new) result) }
+    ensures nothing { IfErr result (λ r. MatchDue r (S.told out.new ≡ S.told out.old)) }
+    ensures stage { IfErr result IsOfFilesOrOutput }
+    ensures reads { CountsReads (F.faults shelf.old) (F.faults shelf.new) result }
+    ensures writes { CountsWrites (S.faults out.old) (S.faults out.new) result }
+{
+    let ready = prepare(alloc, order, shelf)?;
+    write_plan(alloc, &ready, shelf, out)
+}
+
+// Appends the record file of a plan. All memory but that of a scan's values is taken before the first byte.
+fn write_plan<F: Shelf, S: Sink>(
     alloc: Global,
     ready: &Ready,
     shelf: &mut F,
@@ -34,7 +57,7 @@ pub fn write_plan<F: Shelf, S: Sink>(
     requires recorded { WhereTold (F.told shelf.old) (λ files. AreRecorded files ready.now.plan.stations ready.now.recordings.items) }
     ensures same { F.told shelf.new ≡ F.told shelf.old }
     ensures written { WhereTold (F.told shelf.old) (λ files. Appended (S.told out.old) (output ready.now.plan files) (S.told out.new) result) }
-    ensures stage { IfErr result IsNoVerdict }
+    ensures stage { IfErr result IsOfOutput }
     ensures reads { CountsReads (F.faults shelf.old) (F.faults shelf.new) result }
     ensures writes { CountsWrites (S.faults out.old) (S.faults out.new) result }
 {

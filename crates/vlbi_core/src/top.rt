@@ -1,26 +1,33 @@
 //! The top call.
-ghost use Rattle.std.specs.Prelude.{◌≡◌, ◌≢◌, ◌⊎◌, List, ℕ, Ok, IsErr, IsSome, IfOk, IfErr, OnOk};
+ghost use Rattle.std.specs.Prelude.{◌≡◌, ◌≢◌, ◌⊎◌, List, ℕ, Ok, IsErr, IsSome, IfErr};
 ghost use Rattle.dev_traits.specs.Fault.{HasRisen};
 ghost use Rattle.dev_traits.specs.Told.{more, WhereTold};
-ghost use Rattle.job_plan.specs.declared.plan.Plan.{Plan};
 ghost use Rattle.job_plan.specs.Output.{output};
-ghost use Rattle.run_notes.specs.Counted.{CountsReads, CountsWrites};
-ghost use Rattle.run_notes.specs.Refusals.{IsCause};
-ghost use Rattle.vlbi_core.specs.Run.{texts_of, only_plain, plain_order, OutcomeOf, IsVerdictStatus, IsStatus, IsVerdict, IsAppended, IsSomeLine, IsLineOf, IsNoted};
+ghost use Rattle.checkpoint_journal.specs.Runs.{Looks};
 ghost use Rattle.run_words.specs.Orders.{AreTexts};
+ghost use Rattle.run_notes.specs.Counted.{CountsReads, CountsJournal, CountsWrites};
 ghost use Rattle.run_ready.specs.Outcome.{job_names};
-ghost use Rattle.vlbi_core.specs.Steps.{IsOfWords, IsWorded, IsPartly, MatchDue};
+ghost use Rattle.vlbi_core.specs.Calls.{Call, texts_of, order_in, OutcomeOf};
+ghost use Rattle.vlbi_core.specs.Run.{IsVerdictStatus, IsDueStatus, IsStatus, IsVerdict, IsAppended, IsSomeLine, IsLineOf, IsNoted};
+ghost use Rattle.vlbi_core.specs.Restart.{Continues, StaysHonest, SaysKept, IsRunOf, IsNoRun};
+ghost use Rattle.vlbi_core.specs.Steps.{IsNumbered, IsWorded, IsBehindWords, IsShort, Does, Leaves};
 
-use crate::plain::write_plan;
-use dev_traits::{Shelf, Sink};
-use run_notes::{Due, Refusal, status, write_note};
+use crate::check::check_job;
+use crate::correlation::correlate_job;
+use crate::order::read_order;
+use crate::plain::plain_job;
+use crate::status::journal_status;
+use dev_traits::{Disk, Gate, Shelf, Sink};
+use run_notes::{Refusal, status, write_note};
 use run_ready::laws::one_outcome;
-use run_ready::prepare;
-use run_words::{Order, WordsFault, read_words};
+use run_words::Order;
 use std::alloc::Global;
+use std::thread::Threads;
 
-/// Does what the words ask for, and answers the status. `words` are the command and what follows it;
-/// the files are read from `shelf`, the records go to `out`, and a refusal's line to `notes`.
+/// Does what the words ask for, and answers the status. `words` are the command and what follows it; the files are read from
+/// `shelf`, records and summaries go to `out`, and a refusal's line to `notes`. `journal` is the file in which a call of `run`
+/// keeps each epoch once it is summed, so that a later call goes on from there; `status` reads it. `gate` is told each piece
+/// before a worker of `run` sums it; no clause speaks of it.
 ///
 /// | status | |
 /// |---|---|
@@ -32,97 +39,143 @@ use std::alloc::Global;
 /// | 5 | a station's recording has slots, and none agrees with its shape |
 /// | 6 | a quantity is past its greatest |
 /// | 7 | a read failed |
+/// | 8 | the journal failed |
 /// | 9 | the output failed |
+/// | 10 | the journal is another job's |
 /// | 11 | a named file is not there |
-pub fn run<R, F: Shelf, S: Sink, N: Sink>(
-    _rt: &R,
+pub fn run<R: Threads + Sync, F: Shelf, D: Disk, S: Sink, N: Sink, G: Gate + Sync>(
+    rt: &R,
     alloc: Global,
     words: &[String],
     shelf: &mut F,
+    journal: &mut D,
     out: &mut S,
     notes: &mut N,
+    gate: &G,
 ) -> u8
     ensures known { IsStatus result }
 
     // When each status comes, where the shelf tells its files.
-    ensures verdict { WhereTold (F.told shelf.old) (λ files. IsVerdict (OutcomeOf (texts_of words.now) files) result
-        (HasRisen (F.faults shelf.old) (F.faults shelf.new)) (HasRisen (S.faults out.old) (S.faults out.new))) }
-    ensures words { result ≡ 2 → IsErr (plain_order (texts_of words.now)) }
-    ensures wordless { IsErr (plain_order (texts_of words.now)) → (result ≡ 2) ⊎ (result ≡ 1) }
+    ensures verdict { WhereTold (F.told shelf.old) (λ files. IsVerdict (OutcomeOf (texts_of words.now) files) files (D.seen journal.old) result
+        (HasRisen (F.faults shelf.old) (F.faults shelf.new)) (HasRisen (D.faults journal.old) (D.faults journal.new)) (HasRisen (S.faults out.old) (S.faults out.new))) }
+    ensures words { result ≡ 2 → IsErr (order_in (texts_of words.now)) }
+    ensures wordless { IsErr (order_in (texts_of words.now)) → (result ≡ 2) ⊎ (result ≡ 1) }
 
-    // What is appended: with the statuses of what is wrong nothing, whether the shelf tells its files or not.
-    ensures nothing { IsVerdictStatus result → S.told out.new ≡ S.told out.old }
-    ensures appended { WhereTold (F.told shelf.old) (λ files. IsAppended (OutcomeOf (texts_of words.now) files) files result (S.told out.old) (S.told out.new)) }
+    // What is appended: with the statuses of what is wrong nothing, whether the devices tell their content or not, and of `run`
+    // nothing before all is summed.
+    ensures nothing { IsDueStatus result → S.told out.new ≡ S.told out.old }
+    ensures appended { WhereTold (F.told shelf.old) (λ files. IsAppended (OutcomeOf (texts_of words.now) files) files (D.seen journal.old) (D.seen journal.new) result (S.told out.old) (S.told out.new)) }
+    ensures whole { IsRunOf (order_in (texts_of words.now)) → (result ≡ 1) ⊎ (result ≡ 7) → S.told out.new ≡ S.told out.old }
+
+    // The headline: a call of `run` that continues its job keeps every image of the journal honest, at every moment, keeps what
+    // each image keeps, and with status 0 appends the record file of the direct sums.
+    ensures restart { WhereTold (F.told shelf.old) (λ files. (call : Call) → OutcomeOf (texts_of words.now) files (Ok call)
+        → Continues files call (D.may_leave journal.old (D.moment journal.old))
+        → StaysHonest files call result D.moment D.may_leave journal.old journal.new) }
+    ensures headline { WhereTold (F.told shelf.old) (λ files. WhereTold (D.seen journal.old) (λ image. (call : Call) → OutcomeOf (texts_of words.now) files (Ok call)
+        → Continues files call (D.may_leave journal.old (D.moment journal.old))
+        → result ≡ 0 → S.told out.new ≡ more (S.told out.old) (output call.plan files))) }
+
+    // No other call gives the journal an image that it did not have, nor does what is wrong with words and files.
+    ensures untouched { IsNoRun (order_in (texts_of words.now)) → Looks D.seen D.moment D.may_leave journal.old journal.new }
+    ensures unopened { IsVerdictStatus result → Looks D.seen D.moment D.may_leave journal.old journal.new }
+    ensures left { result ≡ 10 → D.seen journal.new ≡ D.seen journal.old }
 
     // The shelf tells what it told.
     ensures same { F.told shelf.new ≡ F.told shelf.old }
 
-    // Statuses 7 and 9: only where a count rose, and else it stays.
+    // Statuses 7, 8 and 9: only where a count rose, and else it stays.
     ensures read { result ≡ 7 → HasRisen (F.faults shelf.old) (F.faults shelf.new) }
     ensures no_read { result ≢ 7 → F.faults shelf.new ≡ F.faults shelf.old }
+    ensures kept { result ≡ 8 → HasRisen (D.faults journal.old) (D.faults journal.new) }
+    ensures no_kept { result ≢ 8 → D.faults journal.new ≡ D.faults journal.old }
     ensures write { result ≡ 9 → HasRisen (S.faults out.old) (S.faults out.new) }
     ensures no_write { result ≢ 9 → S.faults out.new ≡ S.faults out.old }
 
-    // The note: the line of the status, or where the notes failed a first part of it.
+    // The note: the line of the status, or where the notes failed a first part of it. That of a journal's fault says how many
+    // epochs are kept.
     ensures note { (line : List ℕ) × IsSomeLine result line
-        × WhereTold (F.told shelf.old) (λ files. IsLineOf (OutcomeOf (texts_of words.now) files) result line)
+        × WhereTold (F.told shelf.old) (λ files. IsLineOf (OutcomeOf (texts_of words.now) files) files (D.seen journal.old) result line)
+        × WhereTold (F.told shelf.old) (λ files. (call : Call) → OutcomeOf (texts_of words.now) files (Ok call)
+        → SaysKept files call line (D.may_leave journal.new (D.moment journal.new)) (D.seen journal.old) (D.seen journal.new) (S.told out.old) (S.told out.new))
         × IsNoted line (N.told notes.old) (N.told notes.new) (HasRisen (N.faults notes.old) (N.faults notes.new)) }
 {
     one_outcome();
-    match plain(alloc, words, shelf, out) {
+    match call(rt, alloc, words, shelf, journal, out, gate) {
         Ok(()) => 0,
         Err(refusal) => {
+            is_short(&refusal);
             let _ = write_note(&refusal, notes);
             status(&refusal)
         }
     }
 }
 
-// Correlates the job that the words name.
-fn plain<F: Shelf, S: Sink>(
-    alloc: Global,
-    words: &[String],
-    shelf: &mut F,
-    out: &mut S,
-) -> Result<(), Refusal>
-    ensures same { F.told shelf.new ≡ F.told shelf.old }
-    ensures done { OnOk result (WhereTold (F.told shelf.old) (λ files. (plan : Plan) × OutcomeOf (texts_of words.now) files (Ok plan) × (S.told out.new ≡ more (S.told out.old) (output plan files)))) }
-    ensures cause { IfErr result (λ r. WhereTold (F.told shelf.old) (λ files. IsCause r (OutcomeOf (texts_of words.now) files))) }
-    ensures words { IsWorded (plain_order (texts_of words.now)) result }
-    ensures part { IfErr result (λ r. WhereTold (F.told shelf.old) (λ files. IsPartly r (OutcomeOf (texts_of words.now) files) files (S.told out.old) (S.told out.new))) }
-    ensures nothing { IfErr result (λ r. MatchDue r (S.told out.new ≡ S.told out.old)) }
-    ensures reads { CountsReads (F.faults shelf.old) (F.faults shelf.new) result }
-    ensures writes { CountsWrites (S.faults out.old) (S.faults out.new) result }
+// A number of epochs that a refusal names has 64 bits.
+fn is_short(refusal: &Refusal)
+    ensures { IsShort refusal.now }
 {
-    let order = read_order(alloc, words)?;
-    let ready = prepare(alloc, &order, shelf)?;
-    write_plan(alloc, &ready, shelf, out)
-}
-
-// The order that the words give.
-fn read_order(alloc: Global, words: &[String]) -> Result<Order, Refusal>
-    ensures order { IfOk result (λ order. plain_order (texts_of words.now) ≡ Ok order) }
-    ensures texts { IfOk result AreTexts }
-    ensures job { IfOk result (λ order. IsSome (job_names order)) }
-    ensures fault { IfErr result (IsOfWords (plain_order (texts_of words.now))) }
-{
-    match read_words(alloc, words) {
-        Ok(order) => only_plain(order),
-        Err(WordsFault::Memory) => Err(Refusal::Memory),
-        Err(fault) => Err(Refusal::Due(Due::Words(fault))),
+    match refusal {
+        Refusal::Journal(Some(kept)) => {
+            let _kept = *kept;
+        }
+        Refusal::Journal(None) => {}
+        Refusal::Memory => {}
+        Refusal::Due(_) => {}
+        Refusal::Read => {}
+        Refusal::Write => {}
     }
 }
 
-// The order where it is one that there is.
-fn only_plain(order: Order) -> Result<Order, Refusal>
-    requires texts { AreTexts order }
-    ensures order { IfOk result (λ same. only_plain order ≡ Ok same) }
-    ensures texts { IfOk result AreTexts }
-    ensures job { IfOk result (λ same. IsSome (job_names same)) }
-    ensures fault { IfErr result (IsOfWords (only_plain order)) }
+// Does what the words ask for.
+fn call<R: Threads + Sync, F: Shelf, D: Disk, S: Sink, G: Gate + Sync>(
+    rt: &R,
+    alloc: Global,
+    words: &[String],
+    shelf: &mut F,
+    journal: &mut D,
+    out: &mut S,
+    gate: &G,
+) -> Result<(), Refusal>
+    ensures same { F.told shelf.new ≡ F.told shelf.old }
+    ensures does { WhereTold (F.told shelf.old) (λ files. Does (order_in (texts_of words.now)) files D.seen D.moment D.may_leave journal.old journal.new (S.told out.old) (S.told out.new) result) }
+    ensures leaves { Leaves (order_in (texts_of words.now)) D.seen D.moment D.may_leave journal.old journal.new (S.told out.old) (S.told out.new) result }
+    ensures words { IsWorded (order_in (texts_of words.now)) result }
+    ensures reads { CountsReads (F.faults shelf.old) (F.faults shelf.new) result }
+    ensures journal { CountsJournal (D.faults journal.old) (D.faults journal.new) result }
+    ensures writes { CountsWrites (S.faults out.old) (S.faults out.new) result }
+{
+    let order = read_order(alloc, words)?;
+    command(rt, alloc, &order, shelf, journal, out, gate)
+}
+
+// Does what an order asks for.
+fn command<R: Threads + Sync, F: Shelf, D: Disk, S: Sink, G: Gate + Sync>(
+    rt: &R,
+    alloc: Global,
+    order: &Order,
+    shelf: &mut F,
+    journal: &mut D,
+    out: &mut S,
+    gate: &G,
+) -> Result<(), Refusal>
+    requires job { IsSome (job_names order.now) }
+    requires texts { AreTexts order.now }
+    requires numbers { IsNumbered order.now }
+    ensures same { F.told shelf.new ≡ F.told shelf.old }
+    ensures does { WhereTold (F.told shelf.old) (λ files. Does (Ok order.now) files D.seen D.moment D.may_leave journal.old journal.new (S.told out.old) (S.told out.new) result) }
+    ensures leaves { Leaves (Ok order.now) D.seen D.moment D.may_leave journal.old journal.new (S.told out.old) (S.told out.new) result }
+    ensures stage { IfErr result IsBehindWords }
+    ensures reads { CountsReads (F.faults shelf.old) (F.faults shelf.new) result }
+    ensures journal { CountsJournal (D.faults journal.old) (D.faults journal.new) result }
+    ensures writes { CountsWrites (S.faults out.old) (S.faults out.new) result }
 {
     match order {
-        Order::Plain { job, vex } => Ok(Order::Plain { job, vex }),
-        _ => Err(Refusal::Due(Due::Words(WordsFault::UnknownCommand))),
+        Order::Run { workers, piece, .. } => correlate_job(
+            rt, alloc, order, *workers, *piece, shelf, journal, out, gate,
+        ),
+        Order::Status { .. } => journal_status(alloc, order, shelf, journal, out),
+        Order::Check { .. } => check_job(alloc, order, shelf, out),
+        _ => plain_job(alloc, order, shelf, out),
     }
 }

@@ -1,10 +1,11 @@
 //! The program `vlbi`: the devices of the operating system, and one call of `run` over them. Its first
-//! word, the journal's path, is not used yet; the other words are the command's. Standard output gets
-//! the records, standard error a refusal's line, and the exit status is the call's. Where one of the
+//! word is the path of the journal; the other words are the command's. Standard output gets the
+//! records, standard error a refusal's line, and the exit status is the call's. Where one of the
 //! standard streams is closed, no file of the program's gets its number.
 #![tactic(auto)]
 
-use real_devices::{FileShelf, HeldStreams, StdSink, SystemFiles};
+use mem_devices::OpenGate;
+use real_devices::{FileDisk, FileShelf, HeldStreams, StdSink, SystemFiles};
 use run_notes::{Due, Refusal, status, write_note};
 use run_words::WordsFault;
 use std::env;
@@ -16,10 +17,20 @@ fn main(rt: HostRuntime) -> ExitCode {
     let _held = HeldStreams::new(&rt);
     let mut notes = StdSink::new(rt.stderr());
     match words(&rt) {
-        Ok(words) => {
+        Ok((path, words)) => {
             let mut shelf = FileShelf::new(SystemFiles::new(&rt));
+            let mut journal = FileDisk::new(&rt, path);
             let mut out = StdSink::new(rt.stdout());
-            ExitCode::from(run(&rt, rt.alloc(), &words, &mut shelf, &mut out, &mut notes))
+            ExitCode::from(run(
+                &rt,
+                rt.alloc(),
+                &words,
+                &mut shelf,
+                &mut journal,
+                &mut out,
+                &mut notes,
+                &OpenGate::new(),
+            ))
         }
         Err(refusal) => {
             let _ = write_note(&refusal, &mut notes);
@@ -28,10 +39,17 @@ fn main(rt: HostRuntime) -> ExitCode {
     }
 }
 
-// The words behind the program's name and the journal's path. One that is no text is no option.
-fn words(rt: &HostRuntime) -> Result<Vec<String>, Refusal> {
+// The journal's path and the words behind it; the program's name stands before them. A word that is no text is no option.
+fn words(rt: &HostRuntime) -> Result<(String, Vec<String>), Refusal> {
     match env::args(rt) {
-        Ok(all) => Ok(all.skip(2).collect(rt.alloc())?),
+        Ok(mut all) => {
+            let _ = all.next();
+            let path = match all.next() {
+                Some(path) => path,
+                None => String::new(rt.alloc()),
+            };
+            Ok((path, all.collect(rt.alloc())?))
+        }
         Err(error) if error.kind() == ErrorKind::OutOfMemory => Err(Refusal::Memory),
         Err(_) => Err(Refusal::Due(Due::Words(WordsFault::Option))),
     }

@@ -1,32 +1,119 @@
-use Rattle.std.proofs.Common.{refl, sym, inr}
+use Rattle.std.proofs.Common.{refl, sym, inl, inr, [], ℕ, List, Option}
 use Rattle.dev_traits.specs.Fault.{HasRisen}
 use Rattle.run_notes.specs.Refusals.{answer_of}
-use Rattle.vis_writer.proofs.WritesLemmas.{where_then}
-use Rattle.vlbi_core.specs.Run.{texts_of, OutcomeOf}
-use Rattle.vlbi_core.proofs.TopLemmas.{OutcomeOf-one, verdict-done, verdict-refused, read-fault, write-fault, line-refused, noted-appends, due-nothing}
+use Rattle.vis_writer.proofs.WritesLemmas.{where_then, where_always}
+use Rattle.vlbi_core.specs.Calls.{texts_of, order_in}
+use Rattle.vlbi_core.specs.Steps.{OutcomeFrom, IsShort}
+use Rattle.vlbi_core.proofs.TopLemmas.{outcome-one, verdict-done, verdict-refused, appended-done, appended-refused, stays-honest, all-done, headline-done, headline-refused, refusal-not-zero, line-refused, noted-nothing, noted-appends, due-nothing, early-nothing, verdict-fact, other-fact, verdict-not}
+use Rattle.vlbi_core.proofs.NoteLemmas.{nothing-other, other-says, refused-says}
 use Rattle.vlbi_core.proofs.top.run.Goals as goal
 
 pub returns-in-Ok-clause-verdict : goal.returns-in-Ok-clause-verdict
 returns-in-Ok-clause-verdict g c =
+    let wanted = order_in (texts_of c.args.words.now) in
     where_then (g.F.Shelf.told c.args.shelf.now) _ _
-    (λ files done. verdict-done (OutcomeOf (texts_of c.args.words.now) files) (OutcomeOf-one c.one_outcome.ensures (texts_of c.args.words.now) files) _ _ done.0 done.1)
-    c.in-Ok.ensures.done
+    (λ files does. verdict-done (OutcomeFrom wanted files) (outcome-one c.one_outcome.ensures wanted files) files g.D.Disk.seen g.D.Disk.moment g.D.Disk.may_leave
+    c.args.journal.now c.call.new.journal (g.S.Sink.told c.args.out.now) (g.S.Sink.told c.call.new.out) _ _ _ does.done)
+    c.in-Ok.ensures.does
 
 pub returns-in-Err-clause-verdict : goal.returns-in-Err-clause-verdict
 returns-in-Err-clause-verdict g c =
+    let wanted = order_in (texts_of c.args.words.now) in
     rw c.status.ensures (where_then (g.F.Shelf.told c.args.shelf.now) _ _
-    (λ files cause. verdict-refused (OutcomeOf (texts_of c.args.words.now) files) (OutcomeOf-one c.one_outcome.ensures (texts_of c.args.words.now) files)
-    (HasRisen (g.F.Shelf.faults c.args.shelf.now) (g.F.Shelf.faults c.plain.new.shelf)) (HasRisen (g.S.Sink.faults c.args.out.now) (g.S.Sink.faults c.plain.new.out))
-    c.in-Err.refusal cause (read-fault c.in-Err.refusal _ _ c.in-Err.ensures.reads) (write-fault c.in-Err.refusal _ _ c.in-Err.ensures.writes))
-    c.in-Err.ensures.cause)
+    (λ files does. verdict-refused (OutcomeFrom wanted files) (outcome-one c.one_outcome.ensures wanted files) files
+    (g.D.Disk.may_leave c.call.new.journal (g.D.Disk.moment c.call.new.journal)) (g.D.Disk.seen c.args.journal.now) (g.D.Disk.seen c.call.new.journal)
+    (g.S.Sink.told c.args.out.now) (g.S.Sink.told c.call.new.out)
+    (HasRisen (g.F.Shelf.faults c.args.shelf.now) (g.F.Shelf.faults c.call.new.shelf)) (HasRisen (g.D.Disk.faults c.args.journal.now) (g.D.Disk.faults c.call.new.journal))
+    (HasRisen (g.S.Sink.faults c.args.out.now) (g.S.Sink.faults c.call.new.out)) _ _ _
+    c.in-Err.refusal does.cause c.in-Err.ensures.reads c.in-Err.ensures.journal c.in-Err.ensures.writes)
+    c.in-Err.ensures.does)
 
-pub returns-in-Err-clause-note : goal.returns-in-Err-clause-note
-returns-in-Err-clause-note g c = (
-  (answer_of c.in-Err.refusal).note,
-  inr (c.in-Err.refusal, (sym c.status.ensures, refl)),
-  rw c.status.ensures (where_then (g.F.Shelf.told c.args.shelf.now) _ _ (λ files cause. line-refused (OutcomeOf (texts_of c.args.words.now) files) c.in-Err.refusal cause) c.in-Err.ensures.cause),
-  noted-appends (answer_of c.in-Err.refusal).note _ _ _ _ c.write_note.result c.write_note.ensures,
-)
+pub returns-in-Ok-clause-appended : goal.returns-in-Ok-clause-appended
+returns-in-Ok-clause-appended g c =
+    where_then (g.F.Shelf.told c.args.shelf.now) _ _
+    (λ files does. appended-done (OutcomeFrom (order_in (texts_of c.args.words.now)) files) files g.D.Disk.seen g.D.Disk.moment g.D.Disk.may_leave
+    c.args.journal.now c.call.new.journal (g.S.Sink.told c.args.out.now) (g.S.Sink.told c.call.new.out) does.done)
+    c.in-Ok.ensures.does
+
+pub returns-in-Err-clause-appended : goal.returns-in-Err-clause-appended
+returns-in-Err-clause-appended g c =
+    rw c.status.ensures (where_then (g.F.Shelf.told c.args.shelf.now) _ _
+    (λ files does. appended-refused (OutcomeFrom (order_in (texts_of c.args.words.now)) files) files (g.D.Disk.seen c.args.journal.now) (g.D.Disk.seen c.call.new.journal)
+    (g.S.Sink.told c.args.out.now) (g.S.Sink.told c.call.new.out) c.in-Err.refusal does.part)
+    c.in-Err.ensures.does)
+
+pub returns-in-Ok-clause-restart : goal.returns-in-Ok-clause-restart
+returns-in-Ok-clause-restart g c =
+    let wanted = order_in (texts_of c.args.words.now) in
+    where_then (g.F.Shelf.told c.args.shelf.now) _ _
+    (λ files does. stays-honest g.D.Disk.seen g.D.Disk.moment g.D.Disk.may_leave (OutcomeFrom wanted files) (outcome-one c.one_outcome.ensures wanted files) files
+    c.args.journal.now c.call.new.journal 0 does.goes
+    (all-done g.D.Disk.seen g.D.Disk.moment g.D.Disk.may_leave (OutcomeFrom wanted files) (outcome-one c.one_outcome.ensures wanted files) files
+    c.args.journal.now c.call.new.journal (g.S.Sink.told c.args.out.now) (g.S.Sink.told c.call.new.out) does.done))
+    c.in-Ok.ensures.does
+
+pub returns-in-Err-clause-restart : goal.returns-in-Err-clause-restart
+returns-in-Err-clause-restart g c =
+    let wanted = order_in (texts_of c.args.words.now) in
+    rw c.status.ensures (where_then (g.F.Shelf.told c.args.shelf.now) _ _
+    (λ files does. stays-honest g.D.Disk.seen g.D.Disk.moment g.D.Disk.may_leave (OutcomeFrom wanted files) (outcome-one c.one_outcome.ensures wanted files) files
+    c.args.journal.now c.call.new.journal (answer_of c.in-Err.refusal).status does.goes
+    (λ call there run zero image now. absurd (refusal-not-zero c.in-Err.refusal zero)))
+    c.in-Err.ensures.does)
+
+pub returns-in-Ok-clause-headline : goal.returns-in-Ok-clause-headline
+returns-in-Ok-clause-headline g c =
+    let wanted = order_in (texts_of c.args.words.now) in
+    where_then (g.F.Shelf.told c.args.shelf.now) _ _
+    (λ files does. headline-done g.D.Disk.seen g.D.Disk.moment g.D.Disk.may_leave (OutcomeFrom wanted files) (outcome-one c.one_outcome.ensures wanted files) files
+    c.args.journal.now c.call.new.journal (g.S.Sink.told c.args.out.now) (g.S.Sink.told c.call.new.out) (g.met.D.Disk.seen_is_image c.args.journal.now) does.done)
+    c.in-Ok.ensures.does
+
+pub returns-in-Err-clause-headline : goal.returns-in-Err-clause-headline
+returns-in-Err-clause-headline g c =
+    rw c.status.ensures (where_always (g.F.Shelf.told c.args.shelf.now) _
+    (λ files. headline-refused g.D.Disk.seen g.D.Disk.moment g.D.Disk.may_leave _ (answer_of c.in-Err.refusal).status (g.D.Disk.seen c.args.journal.now)
+    (OutcomeFrom (order_in (texts_of c.args.words.now)) files) _ (refusal-not-zero c.in-Err.refusal)))
+
+pub returns-in-Ok-clause-unopened : goal.returns-in-Ok-clause-unopened
+returns-in-Ok-clause-unopened g c = λ is. absurd (verdict-not 0 0 is refl (inr (inl refl)))
+
+pub returns-in-Err-clause-unopened : goal.returns-in-Err-clause-unopened
+returns-in-Err-clause-unopened g c = rw c.status.ensures (λ is. verdict-fact c.in-Err.refusal _ _ c.in-Err.ensures.leaves.verdict is)
+
+pub returns-in-Err-clause-left : goal.returns-in-Err-clause-left
+returns-in-Err-clause-left g c = rw c.status.ensures (λ is. other-fact c.in-Err.refusal _ _ c.in-Err.ensures.leaves.verdict is)
 
 pub returns-in-Err-clause-nothing : goal.returns-in-Err-clause-nothing
-returns-in-Err-clause-nothing g c = rw c.status.ensures (λ is. due-nothing c.in-Err.refusal _ c.in-Err.ensures.nothing is)
+returns-in-Err-clause-nothing g c = rw c.status.ensures (λ is. due-nothing c.in-Err.refusal _ c.in-Err.ensures.leaves.nothing is)
+
+pub returns-in-Err-clause-whole : goal.returns-in-Err-clause-whole
+returns-in-Err-clause-whole g c = rw c.status.ensures (λ run is. early-nothing c.in-Err.refusal _ (c.in-Err.ensures.leaves.whole run) is)
+
+pub returns-in-Ok-clause-note : goal.returns-in-Ok-clause-note
+returns-in-Ok-clause-note g c = (
+  [],
+  inl (refl, refl),
+  where_always (g.F.Shelf.told c.args.shelf.now) _ (λ files. inl (inl (refl, refl))),
+  where_always (g.F.Shelf.told c.args.shelf.now) _
+      (λ files call there. other-says files (g.D.Disk.may_leave c.call.new.journal (g.D.Disk.moment c.call.new.journal)) (g.D.Disk.seen c.args.journal.now) (g.D.Disk.seen c.call.new.journal)
+      (g.S.Sink.told c.args.out.now) (g.S.Sink.told c.call.new.out) call [] nothing-other),
+  noted-nothing (g.N.Sink.told c.args.notes.now) _,
+)
+
+pub returns-in-Err-clause-note : goal.returns-in-Err-clause-note
+returns-in-Err-clause-note g c =
+    let wanted = order_in (texts_of c.args.words.now) in
+    let short : IsShort c.in-Err.refusal = c.is_short.ensures in (
+      (answer_of c.in-Err.refusal).note,
+      inr (c.in-Err.refusal, (sym c.status.ensures, refl)),
+      rw c.status.ensures (where_then (g.F.Shelf.told c.args.shelf.now) _ _
+          (λ files does. line-refused (OutcomeFrom wanted files) files (g.D.Disk.may_leave c.call.new.journal (g.D.Disk.moment c.call.new.journal)) (g.D.Disk.seen c.args.journal.now)
+          (g.D.Disk.seen c.call.new.journal) (g.S.Sink.told c.args.out.now) (g.S.Sink.told c.call.new.out) c.in-Err.refusal does.cause)
+          c.in-Err.ensures.does),
+      where_then (g.F.Shelf.told c.args.shelf.now) _ _
+          (λ files does. refused-says files (g.D.Disk.may_leave c.call.new.journal (g.D.Disk.moment c.call.new.journal)) (g.D.Disk.seen c.args.journal.now) (g.D.Disk.seen c.call.new.journal)
+          (g.S.Sink.told c.args.out.now) (g.S.Sink.told c.call.new.out) (OutcomeFrom wanted files) (outcome-one c.one_outcome.ensures wanted files) c.in-Err.refusal short does.cause)
+          c.in-Err.ensures.does,
+      noted-appends (answer_of c.in-Err.refusal).note _ _ _ _ c.write_note.result c.write_note.ensures,
+    )

@@ -1,0 +1,248 @@
+-- What the commands did that use the journal.
+use Rattle.std.specs.Prelude.{OnOk, IfErr, IfOk, IsSome, slice_get}
+use Rattle.std.proofs.Common.{◌≡◌, ◌∙◌, ◌⊎◌, inl, inr, ⊎_elim, ℕ, ◌+◌, ◌≤◌, ◌<◌, Bool, true, false, List, [], ◌++◌, length, Option, Some, None, Result, Ok, Err, refl, sym, ap, subst, arith}
+use Rattle.dev_traits.specs.Told.{more, PrefixMore, WhereTold}
+use Rattle.sink_text.specs.Appends.{Appends}
+use Rattle.corr_model.specs.Files.{Files}
+use Rattle.piece_plan.specs.Epochs.{JobSizes, epochs_of}
+use Rattle.job_plan.specs.declared.plan.Plan.{Plan}
+use Rattle.job_plan.specs.Ranges.{IsPlan}
+use Rattle.job_plan.specs.Output.{output}
+use Rattle.job_epochs.specs.Sizes.{sizes_of}
+use Rattle.job_epochs.specs.Sums.{sums_of}
+use Rattle.checkpoint_journal.specs.Cells.{body_text}
+use Rattle.checkpoint_journal.specs.Image.{reading, kept_in, body_sizes}
+use Rattle.checkpoint_journal.specs.Finding.{ReadsMany, IsOther}
+use Rattle.checkpoint_journal.specs.Standing.{JournalState, Keeps, Stands}
+use Rattle.checkpoint_journal.specs.Runs.{Looks, Changes, StepTold, KeepsBodies}
+use Rattle.checkpoint_journal.proofs.RunLemmas.{looks_none, changes_looks, changes_both, durable_looks, told_value}
+use Rattle.run_words.specs.declared.order.Order.{Order}
+use Rattle.run_words.specs.declared.order.Order.TheVariants.{Run, Plain, Check, Status, Dump, Gen}
+use Rattle.run_notes.specs.declared.refusal.Due.{Due}
+use Rattle.run_notes.specs.declared.refusal.Due.TheVariants.{Words, Vex, Schedule, Job, Join, Limit, NoFile, Recording, Other}
+use Rattle.run_notes.specs.declared.refusal.Refusal.{Refusal}
+use Rattle.run_notes.specs.declared.refusal.Refusal.TheVariants.{Memory, Due as DueRefusal, Read, Journal, Write}
+use Rattle.run_notes.specs.Refusals.{Outcomes}
+use Rattle.run_ready.specs.Outcome.{SurveyOf, PlanOf}
+use Rattle.run_ready.specs.Identities.{identity_under}
+use Rattle.run_journal.specs.Extended.{IsSummed, AreFrom, Extends}
+use Rattle.run_journal.specs.Refused.{IsRefusedFor, KeepsNamed}
+use Rattle.run_records.specs.Kept.{WritesKept, kept_text}
+use Rattle.run_records.specs.Refused.{IsOfRecords}
+use Rattle.run_summary.specs.Summaries.{kept_line}
+use Rattle.vis_writer.specs.Writes.{Appended}
+use Rattle.vlbi_core.specs.Calls.{Call, identity_for, sizes_for, bodies_for, kept_for, is_run, uses_journal}
+use Rattle.vlbi_core.specs.Texts.{IsSums, IsText, IsPart, epochs_for}
+use Rattle.vlbi_core.specs.Restart.{IsHonest}
+use Rattle.vlbi_core.specs.Faults.{written_with}
+use Rattle.vlbi_core.specs.Steps.{OutcomeFrom, IsBehindWords, IsLookedFor, IsOpened, IsCauseOf, IsPartly, IsDone, Does, MatchDue, MatchVerdict, Leaves, IsRunOrder, IsStatusOrder, SaysFor, looked}
+use Rattle.vlbi_core.proofs.ExtendLemmas.{some_bodies, AreFrom-append, AreFrom-at, Extends-stays, Extends-joins, Extends-split, kept-of}
+use Rattle.vlbi_core.proofs.CommandLemmas.{call_of, planned, not_both, is_some_at}
+
+-- ---- looks at the journal
+
+pub looked-for : (id sizes : List ℕ) (before after : Option (List ℕ)) (r : Refusal) → IsRefusedFor id sizes before after r → IsLookedFor id sizes before (looked r)
+looked-for id sizes before after Memory of = tt
+looked-for id sizes before after (DueRefusal (Words fault)) of = absurd of
+looked-for id sizes before after (DueRefusal (Vex fault)) of = absurd of
+looked-for id sizes before after (DueRefusal (Schedule fault)) of = absurd of
+looked-for id sizes before after (DueRefusal (Job fault)) of = absurd of
+looked-for id sizes before after (DueRefusal (Join fault name)) of = absurd of
+looked-for id sizes before after (DueRefusal (Limit quantity value)) of = absurd of
+looked-for id sizes before after (DueRefusal (NoFile name)) of = absurd of
+looked-for id sizes before after (DueRefusal (Recording key field)) of = absurd of
+looked-for id sizes before after (DueRefusal (Other d)) of = of.0
+looked-for id sizes before after Read of = tt
+looked-for id sizes before after (Journal kept) of = tt
+looked-for id sizes before after Write of = absurd of
+
+pub looked-behind : (id sizes : List ℕ) (before : Option (List ℕ)) (r : Refusal) → IsLookedFor id sizes before r → IsBehindWords r
+looked-behind id sizes before Memory of = tt
+looked-behind id sizes before (DueRefusal (Words fault)) of = absurd of
+looked-behind id sizes before (DueRefusal (Vex fault)) of = tt
+looked-behind id sizes before (DueRefusal (Schedule fault)) of = tt
+looked-behind id sizes before (DueRefusal (Job fault)) of = tt
+looked-behind id sizes before (DueRefusal (Join fault name)) of = tt
+looked-behind id sizes before (DueRefusal (Limit quantity value)) of = tt
+looked-behind id sizes before (DueRefusal (NoFile name)) of = tt
+looked-behind id sizes before (DueRefusal (Recording key field)) of = tt
+looked-behind id sizes before (DueRefusal (Other d)) of = tt
+looked-behind id sizes before Read of = tt
+looked-behind id sizes before (Journal kept) of = tt
+looked-behind id sizes before Write of = tt
+
+module _ {D : Type 0} (seen : D → Option (List ℕ)) (moment : D → ℕ) (may_leave : D → ℕ → List ℕ → Type 0) where
+  looked-cause : (files : Files) (job : List ℕ) (vex : Option (List ℕ)) (plan : Plan) (images : List ℕ → Type 0) (before after old : Option (List ℕ)) (r : Refusal)
+      → SurveyOf files (Status job vex) (Ok plan)
+      → IsLookedFor (identity_under files (Status job vex) plan) (body_sizes (sizes_of plan)) before r
+      → IsCauseOf r (OutcomeFrom (Ok (Status job vex)) files) files images before after old old
+  looked-cause files job vex plan images before after old Memory there of = tt
+  looked-cause files job vex plan images before after old (DueRefusal (Words fault)) there of = absurd of
+  looked-cause files job vex plan images before after old (DueRefusal (Vex fault)) there of = absurd of
+  looked-cause files job vex plan images before after old (DueRefusal (Schedule fault)) there of = absurd of
+  looked-cause files job vex plan images before after old (DueRefusal (Job fault)) there of = absurd of
+  looked-cause files job vex plan images before after old (DueRefusal (Join fault name)) there of = absurd of
+  looked-cause files job vex plan images before after old (DueRefusal (Limit quantity value)) there of = absurd of
+  looked-cause files job vex plan images before after old (DueRefusal (NoFile name)) there of = absurd of
+  looked-cause files job vex plan images before after old (DueRefusal (Recording key field)) there of = absurd of
+  looked-cause files job vex plan images before after old (DueRefusal (Other d)) there of = record {
+    call = call_of (Status job vex) plan;
+    outcome = planned files (Status job vex) plan there;
+    uses = refl;
+    other = of;
+  }
+  looked-cause files job vex plan images before after old Read there of = absurd of
+  looked-cause files job vex plan images before after old (Journal None) there of = record {
+    call = call_of (Status job vex) plan;
+    outcome = planned files (Status job vex) plan there;
+    uses = refl;
+    says = λ run. absurd (not_both false run refl);
+    unnamed = λ _. refl;
+  }
+  looked-cause files job vex plan images before after old (Journal (Some k)) there of = absurd of
+  looked-cause files job vex plan images before after old Write there of = absurd of
+
+  looked-part : (outcomes : Outcomes Call) (files : Files) (id sizes : List ℕ) (before before' after old : Option (List ℕ)) (r : Refusal)
+      → IsLookedFor id sizes before r → IsPartly r outcomes files before' after old old
+  looked-part outcomes files id sizes before before' after old Memory of = inl refl
+  looked-part outcomes files id sizes before before' after old (DueRefusal due) of = refl
+  looked-part outcomes files id sizes before before' after old Read of = inl refl
+  looked-part outcomes files id sizes before before' after old (Journal kept) of = inl refl
+  looked-part outcomes files id sizes before before' after old Write of = absurd of
+
+  does-looked : (files : Files) (order : Order) (plan : Plan) (id : List ℕ) (sizes : JobSizes) (before after : D) (old : Option (List ℕ)) (r : Refusal)
+      → IsStatusOrder order → SurveyOf files order (Ok plan) → id ≡ identity_under files order plan → sizes ≡ sizes_of plan
+      → IsLookedFor id (body_sizes sizes) (seen before) r → Looks seen moment may_leave before after
+      → Does (Ok order) files seen moment may_leave before after old old (Err r)
+  does-looked files (Status job vex) plan id sizes before after old r is there same cut of looks = record {
+    goes = inl looks;
+    done = tt;
+    cause = looked-cause files job vex plan (may_leave after (moment after)) (seen before) (seen after) old r there
+        (subst (λ (i : List ℕ). IsLookedFor i (body_sizes (sizes_of plan)) (seen before) r) same
+        (subst (λ (z : JobSizes). IsLookedFor id (body_sizes z) (seen before) r) cut of));
+    part = looked-part (OutcomeFrom (Ok (Status job vex)) files) files id (body_sizes sizes) (seen before) (seen before) (seen after) old r of;
+  }
+  does-looked files (Run job vex workers piece) plan id sizes before after old r is there same cut of looks = absurd is
+  does-looked files (Plain job vex) plan id sizes before after old r is there same cut of looks = absurd is
+  does-looked files (Check job vex) plan id sizes before after old r is there same cut of looks = absurd is
+  does-looked files (Dump file) plan id sizes before after old r is there same cut of looks = absurd is
+  does-looked files (Gen seed seconds workers piece) plan id sizes before after old r is there same cut of looks = absurd is
+
+  -- the number of epochs that was read, and its line
+  module _ (files : Files) (job : List ℕ) (vex : Option (List ℕ)) (plan : Plan) (there : SurveyOf files (Status job vex) (Ok plan)) (kept epochs : ℕ)
+      (many : epochs ≡ length (epochs_of (sizes_of plan))) where
+    kept-text : (before : Option (List ℕ)) → WhereTold before (ReadsMany (identity_under files (Status job vex) plan) (body_sizes (sizes_of plan)) kept)
+        → WhereTold before (λ image. kept_line kept epochs ≡ kept_line (kept_for files (call_of (Status job vex) plan) image) (epochs_for (call_of (Status job vex) plan)))
+    kept-text None reads = tt
+    kept-text (Some image) reads =
+        let count : kept ≡ kept_for files (call_of (Status job vex) plan) image = sym (kept-of _ _ image reads.0 reads.1 ∙ reads.2) in
+        ap (λ (n : ℕ). kept_line n epochs) count ∙ ap (kept_line (kept_for files (call_of (Status job vex) plan) image)) many
+
+    kept-opened : (before : Option (List ℕ)) → WhereTold before (ReadsMany (identity_under files (Status job vex) plan) (body_sizes (sizes_of plan)) kept)
+        → WhereTold before (λ image. IsSome (bodies_for files (call_of (Status job vex) plan) image))
+    kept-opened None reads = tt
+    kept-opened (Some image) reads = is_some_at _ reads.0 reads.1
+
+    does-kept-at : {E : Type 0} (before after : D) (old new : Option (List ℕ)) (count now : ℕ) (r : Result (Unit {0}) E) → Looks seen moment may_leave before after
+        → WhereTold (seen before) (ReadsMany (identity_under files (Status job vex) plan) (body_sizes (sizes_of plan)) kept)
+        → Appends old new (kept_line kept epochs) count now r
+        → Does (Ok (Status job vex)) files seen moment may_leave before after old new (written_with r)
+    does-kept-at before after old new count now (Ok x) looks reads appends = record {
+      goes = inl looks;
+      done = record {
+        call = call_of (Status job vex) plan;
+        outcome = planned files (Status job vex) plan there;
+        opened = λ _. kept-opened (seen before) reads;
+        text = kept_line kept epochs;
+        is = kept-text (seen before) reads;
+        told = appends.ok;
+        all = λ run. absurd (not_both false run refl);
+        sums = λ run. absurd (not_both false run refl);
+      };
+      cause = tt;
+      part = tt;
+    }
+    does-kept-at before after old new count now (Err e) looks reads appends = record {
+      goes = inl looks;
+      done = tt;
+      cause = record {
+        call = call_of (Status job vex) plan;
+        outcome = planned files (Status job vex) plan there;
+        opened = λ _. kept-opened (seen before) reads;
+      };
+      part = record {
+        call = call_of (Status job vex) plan;
+        outcome = planned files (Status job vex) plan there;
+        text = kept_line kept epochs;
+        is = kept-text (seen before) reads;
+        part = appends.prefix;
+      };
+    }
+
+  does-kept : {E : Type 0} (files : Files) (order : Order) (plan : Plan) (id : List ℕ) (sizes : JobSizes) (kept epochs : ℕ) (before after : D) (old new : Option (List ℕ)) (count now : ℕ) (r : Result (Unit {0}) E)
+      → IsStatusOrder order → SurveyOf files order (Ok plan) → id ≡ identity_under files order plan → sizes ≡ sizes_of plan → epochs ≡ length (epochs_of sizes)
+      → Looks seen moment may_leave before after
+      → WhereTold (seen before) (ReadsMany id (body_sizes sizes) kept)
+      → Appends old new (kept_line kept epochs) count now r
+      → Does (Ok order) files seen moment may_leave before after old new (written_with r)
+  does-kept files (Status job vex) plan id sizes kept epochs before after old new count now r is there same cut many looks reads appends =
+      does-kept-at files job vex plan there kept epochs (many ∙ ap (λ (z : JobSizes). length (epochs_of z)) cut) before after old new count now r looks
+      (subst (λ (i : List ℕ). WhereTold (seen before) (ReadsMany i (body_sizes (sizes_of plan)) kept)) same
+      (subst (λ (z : JobSizes). WhereTold (seen before) (ReadsMany id (body_sizes z) kept)) cut reads)) appends
+  does-kept files (Run job vex workers piece) plan id sizes kept epochs before after old new count now r is there same cut many looks reads appends = absurd is
+  does-kept files (Plain job vex) plan id sizes kept epochs before after old new count now r is there same cut many looks reads appends = absurd is
+  does-kept files (Check job vex) plan id sizes kept epochs before after old new count now r is there same cut many looks reads appends = absurd is
+  does-kept files (Dump file) plan id sizes kept epochs before after old new count now r is there same cut many looks reads appends = absurd is
+  does-kept files (Gen seed seconds workers piece) plan id sizes kept epochs before after old new count now r is there same cut many looks reads appends = absurd is
+
+  -- and where the shelf may tell nothing
+  pub status-looked : (told : Option Files) (order : Order) (plan : Plan) (id : List ℕ) (sizes : JobSizes) (before after : D) (old : Option (List ℕ)) (r : Refusal)
+      → IsStatusOrder order → WhereTold told (λ files. SurveyOf files order (Ok plan)) → WhereTold told (λ files. id ≡ identity_under files order plan) → sizes ≡ sizes_of plan
+      → IsLookedFor id (body_sizes sizes) (seen before) r → Looks seen moment may_leave before after
+      → WhereTold told (λ files. Does (Ok order) files seen moment may_leave before after old old (Err r))
+  status-looked None order plan id sizes before after old r is there same cut of looks = tt
+  status-looked (Some files) order plan id sizes before after old r is there same cut of looks = does-looked files order plan id sizes before after old r is there same cut of looks
+
+  pub status-kept : {E : Type 0} (told : Option Files) (order : Order) (plan : Plan) (id : List ℕ) (sizes : JobSizes) (kept epochs : ℕ) (before after : D) (old new : Option (List ℕ)) (count now : ℕ) (r : Result (Unit {0}) E)
+      → IsStatusOrder order → WhereTold told (λ files. SurveyOf files order (Ok plan)) → WhereTold told (λ files. id ≡ identity_under files order plan)
+      → sizes ≡ sizes_of plan → epochs ≡ length (epochs_of sizes)
+      → Looks seen moment may_leave before after
+      → WhereTold (seen before) (ReadsMany id (body_sizes sizes) kept)
+      → Appends old new (kept_line kept epochs) count now r
+      → WhereTold told (λ files. Does (Ok order) files seen moment may_leave before after old new (written_with r))
+  status-kept None order plan id sizes kept epochs before after old new count now r is there same cut many looks reads appends = tt
+  status-kept (Some files) order plan id sizes kept epochs before after old new count now r is there same cut many looks reads appends =
+      does-kept files order plan id sizes kept epochs before after old new count now r is there same cut many looks reads appends
+
+  verdict-looks : (before after : D) (r : Refusal) → Looks seen moment may_leave before after → MatchVerdict r (seen after ≡ seen before) (Looks seen moment may_leave before after)
+  verdict-looks before after Memory looks = tt
+  verdict-looks before after (DueRefusal (Words fault)) looks = looks
+  verdict-looks before after (DueRefusal (Vex fault)) looks = looks
+  verdict-looks before after (DueRefusal (Schedule fault)) looks = looks
+  verdict-looks before after (DueRefusal (Job fault)) looks = looks
+  verdict-looks before after (DueRefusal (Join fault name)) looks = looks
+  verdict-looks before after (DueRefusal (Limit quantity value)) looks = looks
+  verdict-looks before after (DueRefusal (NoFile name)) looks = looks
+  verdict-looks before after (DueRefusal (Recording key field)) looks = looks
+  verdict-looks before after (DueRefusal (Other x)) looks = looks.same
+  verdict-looks before after Read looks = tt
+  verdict-looks before after (Journal kept) looks = tt
+  verdict-looks before after Write looks = tt
+
+  pub status-leaves : (order : Order) (before after : D) (old new : Option (List ℕ)) (result : Result (Unit {0}) Refusal) → IsStatusOrder order
+      → Looks seen moment may_leave before after → IfErr result (λ r. MatchDue r (new ≡ old)) → Leaves (Ok order) seen moment may_leave before after old new result
+  status-leaves (Status job vex) before after old new result is looks nothing = record {
+    nothing = nothing;
+    whole = λ run. absurd (not_both false run refl);
+    untouched = λ _. looks;
+    verdict = by result;
+  }
+    where
+      by : (q : Result (Unit {0}) Refusal) → IfErr q (λ r. MatchVerdict r (seen after ≡ seen before) (Looks seen moment may_leave before after))
+      by (Ok x) = tt
+      by (Err r) = verdict-looks before after r looks
+  status-leaves (Run job vex workers piece) before after old new result is looks nothing = absurd is
+  status-leaves (Plain job vex) before after old new result is looks nothing = absurd is
+  status-leaves (Check job vex) before after old new result is looks nothing = absurd is
+  status-leaves (Dump file) before after old new result is looks nothing = absurd is
+  status-leaves (Gen seed seconds workers piece) before after old new result is looks nothing = absurd is

@@ -1,0 +1,82 @@
+-- What words and files come to: a command with the plan of its job, or the answer of the first thing that is wrong.
+use Rattle.std.specs.Prelude.{◌≡◌, ⊤, ℕ, Bool, true, false, List, map, Option, Result, Ok, Err, String, string_bytes}
+use Rattle.std.specs.declared.alloc.Global.{Global}
+use Rattle.corr_model.specs.Files.{Files}
+use Rattle.job_plan.specs.declared.plan.Plan.{Plan}
+use Rattle.job_epochs.specs.Sizes.{sizes_of}
+use Rattle.checkpoint_journal.specs.Image.{body_sizes, reading, kept_in}
+use Rattle.run_words.specs.declared.fault.WordsFault.{WordsFault}
+use Rattle.run_words.specs.declared.fault.WordsFault.TheVariants.{UnknownCommand}
+use Rattle.run_words.specs.declared.order.Order.{Order}
+use Rattle.run_words.specs.declared.order.Order.TheVariants.{Run, Plain, Check, Status, Dump, Gen}
+use Rattle.run_words.specs.Orders.{order_of}
+use Rattle.run_notes.specs.Answers.{words_answer}
+use Rattle.run_notes.specs.Refusals.{Outcomes}
+use Rattle.run_ready.specs.Steps.{Is, Then, answered}
+use Rattle.run_ready.specs.Outcome.{SurveyOf, PlanOf}
+use Rattle.run_ready.specs.Identities.{identity_under}
+
+-- the words as texts
+abbrev pub texts_of : List (String Global) → List (List ℕ)
+texts_of words = map string_bytes words
+
+-- the commands that there are
+abbrev pub built : Order → Result Order WordsFault
+built (Run job vex workers piece) = Ok (Run job vex workers piece)
+built (Plain job vex) = Ok (Plain job vex)
+built (Check job vex) = Ok (Check job vex)
+built (Status job vex) = Ok (Status job vex)
+built (Dump file) = Err UnknownCommand
+built (Gen seed seconds workers piece) = Err UnknownCommand
+
+abbrev pub built_of : Result Order WordsFault → Result Order WordsFault
+built_of (Ok order) = built order
+built_of (Err fault) = Err fault
+
+-- the order that words give
+abbrev pub order_in : List (List ℕ) → Result Order WordsFault
+order_in texts = built_of (order_of texts)
+
+-- the commands that sum into the journal, and those that use it
+abbrev pub is_run : Order → Bool
+is_run (Run job vex workers piece) = true
+is_run _ = false
+
+abbrev pub uses_journal : Order → Bool
+uses_journal (Run job vex workers piece) = true
+uses_journal (Status job vex) = true
+uses_journal _ = false
+
+-- a command, and the plan of its job
+pub record Call : Type 0 where
+  pub order : Order
+  pub plan : Plan
+
+-- the plan of an order; `status` looks at the lengths of the recordings alone
+abbrev pub PlanFor : Files → Order → Outcomes Plan
+PlanFor files (Status job vex) = SurveyOf files (Status job vex)
+PlanFor files order = PlanOf files order
+
+-- the call of an order
+abbrev pub CallFor : Files → Order → Outcomes Call
+CallFor files order (Ok call) = (call.order ≡ order) × PlanFor files order (Ok call.plan)
+CallFor files order (Err answer) = PlanFor files order (Err answer)
+
+-- what words and files come to
+abbrev pub OutcomeOf : List (List ℕ) → Files → Outcomes Call
+OutcomeOf texts files = Then (Is (answered words_answer (order_in texts))) (CallFor files)
+
+-- the identity of a call's job, and the sizes of its bodies
+abbrev pub identity_for : Files → Call → List ℕ
+identity_for files call = identity_under files call.order call.plan
+
+abbrev pub sizes_for : Call → List ℕ
+sizes_for call = body_sizes (sizes_of call.plan)
+
+-- the bodies that an image of the journal keeps for a call; none where it is neither blank nor of the job's form
+abbrev pub bodies_for : Files → Call → List ℕ → Option (List (List ℕ))
+bodies_for files call image = reading (identity_for files call) (sizes_for call) image
+
+-- how many epochs it keeps
+abbrev pub kept_for : Files → Call → List ℕ → ℕ
+kept_for files call image = kept_in (identity_for files call) (sizes_for call) image

@@ -1,0 +1,49 @@
+-- What a call leaves in the journal, at every moment.
+use Rattle.std.specs.Prelude.{◌≡◌, ◌⊎◌, ⊤, ℕ, ◌+◌, ◌≤◌, Bool, true, false, List, Option, None, Some, Result, Ok, Err}
+use Rattle.dev_traits.specs.Moments.{NeverFalls}
+use Rattle.corr_model.specs.Files.{Files}
+use Rattle.checkpoint_journal.specs.Runs.{StepTold, KeepsBodies}
+use Rattle.run_words.specs.declared.fault.WordsFault.{WordsFault}
+use Rattle.run_words.specs.declared.order.Order.{Order}
+use Rattle.run_words.specs.declared.order.Order.TheVariants.{Status}
+use Rattle.run_notes.specs.Answers.{journal_answer}
+use Rattle.run_journal.specs.Extended.{AreFrom}
+use Rattle.vlbi_core.specs.Calls.{Call, identity_for, sizes_for, bodies_for, kept_for, is_run}
+use Rattle.vlbi_core.specs.Texts.{IsSums, epochs_for}
+
+-- An image is honest for a call where it is blank, or of the job's form, and each body that it keeps is the text of the sums of
+-- its epoch.
+pub record IsHonest (files : Files) (call : Call) (image : List ℕ) : Type 0 where
+  pub bodies : List (List ℕ)
+  pub reads : bodies_for files call image ≡ Some bodies
+  pub sums : AreFrom (IsSums files call.plan) 0 bodies
+
+-- A call of `run` continues its job where every image that a crash may leave on entry is honest.
+pub record Continues (files : Files) (call : Call) (images : List ℕ → Type 0) : Type 0 where
+  pub run : is_run call.order ≡ true
+  pub honest : (image : List ℕ) → images image → IsHonest files call image
+
+-- Every image of every moment of the call is honest; what each image of a moment keeps, each image of every later moment keeps;
+-- and with status 0 each image at the end keeps all epochs.
+pub record StaysHonest {D : Type 0} (files : Files) (call : Call) (status : ℕ) (moment : D → ℕ) (may_leave : D → ℕ → List ℕ → Type 0) (old new : D) : Type 0 where
+  pub honest : (t : ℕ) (image : List ℕ) → moment old ≤ t → t ≤ moment new → may_leave new t image → IsHonest files call image
+  pub never_falls : NeverFalls moment may_leave (kept_for files call) old new
+  pub all : status ≡ 0 → (image : List ℕ) → may_leave new (moment new) image → kept_for files call image ≡ epochs_for call
+
+-- words of `run`, and words that are not
+abbrev pub IsRunOf : Result Order WordsFault → Type 0
+IsRunOf (Ok order) = is_run order ≡ true
+IsRunOf (Err fault) = ⊥
+
+abbrev pub IsNoRun : Result Order WordsFault → Type 0
+IsNoRun (Ok order) = is_run order ≡ false
+IsNoRun (Err fault) = ⊤
+
+-- What the line of a journal's fault says. Where a call of `run` names k epochs as kept, each image at the end keeps k or k + 1.
+-- Where it names none, nothing was appended, and what the disk reads keeps what it kept. `status` names none.
+pub record SaysKept (files : Files) (call : Call) (line : List ℕ) (images : List ℕ → Type 0) (before after told_old told_new : Option (List ℕ)) : Type 0 where
+  pub named : is_run call.order ≡ true → (k : ℕ) → line ≡ (journal_answer (Some k)).note
+      → (image : List ℕ) → images image → (kept_for files call image ≡ k) ⊎ (kept_for files call image ≡ k + 1)
+  pub unnamed : is_run call.order ≡ true → line ≡ (journal_answer None).note
+      → (told_new ≡ told_old) × StepTold (KeepsBodies (identity_for files call) (sizes_for call)) before after
+  pub status : is_run call.order ≡ false → (k : ℕ) → ¬ (line ≡ (journal_answer (Some k)).note)

@@ -1,0 +1,56 @@
+-- What a call appends where it is done.
+use Rattle.std.specs.Prelude.{◌≡◌, ⊤, ℕ, List, ◌++◌, length, Option, Some, Result, Ok}
+use Rattle.dev_traits.specs.Told.{WhereTold, PrefixMore}
+use Rattle.corr_model.specs.Files.{Files}
+use Rattle.piece_plan.specs.Epochs.{epochs_of}
+use Rattle.job_plan.specs.declared.plan.Plan.{Plan}
+use Rattle.job_plan.specs.Output.{output}
+use Rattle.job_epochs.specs.Sizes.{sizes_of}
+use Rattle.job_epochs.specs.Sums.{sums_of}
+use Rattle.checkpoint_journal.specs.Cells.{body_text}
+use Rattle.run_words.specs.declared.order.Order.{Order}
+use Rattle.run_words.specs.declared.order.Order.TheVariants.{Run, Plain, Check, Status, Dump, Gen}
+use Rattle.run_notes.specs.Refusals.{Outcomes}
+use Rattle.run_journal.specs.Extended.{AreFrom}
+use Rattle.run_records.specs.Kept.{kept_text}
+use Rattle.run_summary.specs.Summaries.{check_text, kept_line}
+use Rattle.vlbi_core.specs.Calls.{Call, bodies_for, kept_for}
+
+-- the number of epochs of a call's job
+abbrev pub epochs_for : Call → ℕ
+epochs_for call = length (epochs_of (sizes_of call.plan))
+
+-- the text of an epoch's sums
+abbrev pub IsSums : Files → Plan → ℕ → List ℕ → Type 0
+IsSums files plan i body = body ≡ body_text (sums_of plan files i)
+
+-- The records of what the journal keeps at the end: first the bodies that it kept on entry, then those of the sums of each
+-- further epoch, together as many as there are epochs.
+pub record IsRecords (files : Files) (call : Call) (before after text : List ℕ) : Type 0 where
+  pub old : List (List ℕ)
+  pub more : List (List ℕ)
+  pub entry : bodies_for files call before ≡ Some old
+  pub end : bodies_for files call after ≡ Some (old ++ more)
+  pub sums : AreFrom (IsSums files call.plan) (length old) more
+  pub all : length (old ++ more) ≡ epochs_for call
+  pub records : text ≡ kept_text call.plan (old ++ more)
+
+-- the text of a call, by what the journal's disk reads before it and after it
+abbrev pub IsText : Files → Call → Option (List ℕ) → Option (List ℕ) → List ℕ → Type 0
+IsText files call before after text = by call.order
+  where
+    by : Order → Type 0
+    by (Plain job vex) = text ≡ output call.plan files
+    by (Check job vex) = text ≡ check_text call.plan files
+    by (Status job vex) = WhereTold before (λ image. text ≡ kept_line (kept_for files call image) (epochs_for call))
+    by (Run job vex workers piece) = WhereTold before (λ old. WhereTold after (λ new. IsRecords files call old new text))
+    by (Dump file) = ⊥
+    by (Gen seed seconds workers piece) = ⊥
+
+-- a first part of the text of the call, where there is one
+pub record IsPart (outcomes : Outcomes Call) (files : Files) (before after old new : Option (List ℕ)) : Type 0 where
+  pub call : Call
+  pub outcome : outcomes (Ok call)
+  pub text : List ℕ
+  pub is : IsText files call before after text
+  pub part : PrefixMore old text new

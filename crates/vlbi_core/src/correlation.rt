@@ -1,0 +1,49 @@
+//! A job that is summed into its journal, and its records.
+ghost use Rattle.std.specs.Prelude.{◌≡◌, IfErr, IsSome, Ok};
+ghost use Rattle.dev_traits.specs.Told.{WhereTold};
+ghost use Rattle.run_words.specs.Orders.{AreTexts};
+ghost use Rattle.run_notes.specs.Counted.{CountsReads, CountsJournal, CountsWrites};
+ghost use Rattle.run_ready.specs.Outcome.{job_names};
+ghost use Rattle.vlbi_core.specs.Calls.{is_run};
+ghost use Rattle.vlbi_core.specs.Steps.{IsWork, IsRunOrder, IsBehindWords, Does, Leaves};
+
+use dev_traits::{Disk, Gate, Shelf, Sink};
+use run_journal::resume;
+use run_notes::Refusal;
+use run_ready::prepare;
+use run_records::emit;
+use run_records::laws::sums_make_the_output;
+use run_words::Order;
+use std::alloc::Global;
+use std::thread::Threads;
+
+/// Sums what the journal of an order's job does not keep yet, with `workers` threads and pieces of at most `piece` samples, and
+/// appends the record file of all that it keeps then. No record is appended before all is summed.
+pub fn correlate_job<R: Threads + Sync, F: Shelf, D: Disk, S: Sink, G: Gate + Sync>(
+    rt: &R,
+    alloc: Global,
+    order: &Order,
+    workers: u32,
+    piece: u64,
+    shelf: &mut F,
+    journal: &mut D,
+    out: &mut S,
+    gate: &G,
+) -> Result<(), Refusal>
+    requires job { IsSome (job_names order.now) }
+    requires texts { AreTexts order.now }
+    requires run { IsRunOrder order.now }
+    requires work { IsWork workers piece }
+    ensures same { F.told shelf.new ≡ F.told shelf.old }
+    ensures does { WhereTold (F.told shelf.old) (λ files. Does (Ok order.now) files D.seen D.moment D.may_leave journal.old journal.new (S.told out.old) (S.told out.new) result) }
+    ensures leaves { Leaves (Ok order.now) D.seen D.moment D.may_leave journal.old journal.new (S.told out.old) (S.told out.new) result }
+    ensures stage { IfErr result IsBehindWords }
+    ensures reads { CountsReads (F.faults shelf.old) (F.faults shelf.new) result }
+    ensures journal { CountsJournal (D.faults journal.old) (D.faults journal.new) result }
+    ensures writes { CountsWrites (S.faults out.old) (S.faults out.new) result }
+{
+    sums_make_the_output();
+    let ready = prepare(alloc, order, shelf)?;
+    let mut kept = resume(rt, alloc, &ready, shelf, journal, workers, piece, gate)?;
+    emit(alloc, &ready, &mut kept, journal, out)
+}

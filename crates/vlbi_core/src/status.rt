@@ -1,0 +1,67 @@
+//! How far the journal of a job is.
+ghost use Rattle.std.specs.Prelude.{◌≡◌, ◌≤◌, IfOk, IfErr, IsSome, Ok, length};
+ghost use Rattle.dev_traits.specs.Told.{WhereTold};
+ghost use Rattle.checkpoint_journal.specs.Image.{body_sizes};
+ghost use Rattle.checkpoint_journal.specs.Finding.{ReadsMany};
+ghost use Rattle.checkpoint_journal.specs.Runs.{Looks};
+ghost use Rattle.run_words.specs.Orders.{AreTexts};
+ghost use Rattle.run_notes.specs.Counted.{CountsReads, CountsJournal, CountsWrites};
+ghost use Rattle.run_ready.specs.Outcome.{job_names};
+ghost use Rattle.vlbi_core.specs.Steps.{IsStatusOrder, IsLookedFor, IsBehindWords, Does, Leaves, looked};
+
+use crate::check::written;
+use dev_traits::{Disk, Shelf, Sink};
+use run_journal::look;
+use run_notes::Refusal;
+use run_ready::{Survey, survey};
+use run_summary::write_kept;
+use run_words::Order;
+use std::alloc::Global;
+
+/// Appends how many epochs of the job of an order its journal keeps. It writes nothing to the journal.
+pub fn journal_status<F: Shelf, D: Disk, S: Sink>(
+    alloc: Global,
+    order: &Order,
+    shelf: &mut F,
+    journal: &mut D,
+    out: &mut S,
+) -> Result<(), Refusal>
+    requires job { IsSome (job_names order.now) }
+    requires texts { AreTexts order.now }
+    requires status { IsStatusOrder order.now }
+    ensures same { F.told shelf.new ≡ F.told shelf.old }
+    ensures does { WhereTold (F.told shelf.old) (λ files. Does (Ok order.now) files D.seen D.moment D.may_leave journal.old journal.new (S.told out.old) (S.told out.new) result) }
+    ensures leaves { Leaves (Ok order.now) D.seen D.moment D.may_leave journal.old journal.new (S.told out.old) (S.told out.new) result }
+    ensures stage { IfErr result IsBehindWords }
+    ensures reads { CountsReads (F.faults shelf.old) (F.faults shelf.new) result }
+    ensures journal { CountsJournal (D.faults journal.old) (D.faults journal.new) result }
+    ensures writes { CountsWrites (S.faults out.old) (S.faults out.new) result }
+{
+    let survey = survey(alloc, order, shelf)?;
+    let kept = kept_epochs(alloc, &survey, journal)?;
+    written(write_kept(kept, survey.epochs.epochs(), out))
+}
+
+// The number of epochs that the journal keeps.
+fn kept_epochs<D: Disk>(alloc: Global, survey: &Survey, journal: &mut D) -> Result<u64, Refusal>
+    ensures kept { IfOk result (λ kept. WhereTold (D.seen journal.old) (ReadsMany survey.now.identity (body_sizes survey.now.epochs) kept)) }
+    ensures refused { IfErr result (IsLookedFor survey.now.identity (body_sizes survey.now.epochs) (D.seen journal.old)) }
+    ensures looks { Looks D.seen D.moment D.may_leave journal.old journal.new }
+    ensures counts { CountsJournal (D.faults journal.old) (D.faults journal.new) result }
+{
+    match look(alloc, journal, &survey.identity, &survey.epochs) {
+        Ok(kept) => Ok(kept),
+        Err(refusal) => Err(looked(refusal)),
+    }
+}
+
+// The refusal of a look: it names no epochs, and reads no recording.
+fn looked(refusal: Refusal) -> Refusal
+    ensures { result ≡ looked refusal }
+{
+    match refusal {
+        Refusal::Due(due) => Refusal::Due(due),
+        Refusal::Journal(_) => Refusal::Journal(None),
+        _ => Refusal::Memory,
+    }
+}

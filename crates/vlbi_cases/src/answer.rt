@@ -20,6 +20,13 @@ impl Answer {
         self.status == status && self.note.as_slice() == note && whole.starts_with(&self.output)
     }
 
+    /// Whether it is that of a fault of the journal, with a first part of a whole output.
+    pub fn is_journal_fault(&self, whole: &[u8]) -> bool {
+        self.status == 8
+            && self.note.starts_with(b"vlbi: journal fault")
+            && whole.starts_with(&self.output)
+    }
+
     /// Prints the status, the note without its line's end, and the output.
     pub fn print(&self, rt: &impl Print, alloc: Global) -> Result<()> {
         print!(rt; " {}", self.status)?;
@@ -52,12 +59,19 @@ fn line_of(note: &[u8]) -> Option<&str> {
     }
 }
 
-// The length of an output, the cells of a record file, and the bytes or where they are many their digest.
+// The length of an output, the lines of a text, or the cells of a record file, and the bytes or where they are many their
+// digest.
 fn print_output(rt: &impl Print, alloc: Global, output: &[u8]) -> Result<()> {
     if output.is_empty() {
         return Ok(());
     }
     print!(rt; " {} bytes", output.len())?;
+    if let Some(text) = text_of(output) {
+        for line in text.lines() {
+            print!(rt; " | {line}")?;
+        }
+        return Ok(());
+    }
     print_cells(rt, alloc, output)?;
     if output.len() <= 200 {
         print!(rt; " hex {}", encode(alloc, output)?)?;
@@ -66,6 +80,16 @@ fn print_output(rt: &impl Print, alloc: Global, output: &[u8]) -> Result<()> {
         print!(rt; " md5 {}", encode(alloc, digest)?)?;
     }
     Ok(())
+}
+
+// A text of whole lines.
+fn text_of(output: &[u8]) -> Option<&str> {
+    let text = std::str::from_utf8(output).ok()?;
+    if text.ends_with('\n') && !text.contains('\0') {
+        Some(text)
+    } else {
+        None
+    }
 }
 
 // The cells of a record file that has few: `re`, `im` and `count` of each.
@@ -77,6 +101,18 @@ fn print_cells(rt: &impl Print, alloc: Global, output: &[u8]) -> Result<()> {
         for cell in vis.cells() {
             print!(rt; " {},{},{}", cell.re, cell.im, cell.count)?;
         }
+    }
+    Ok(())
+}
+
+/// Prints the length of a journal, and its bytes or where they are many their digest.
+pub fn print_journal(rt: &impl Print, alloc: Global, name: &str, journal: &[u8]) -> Result<()> {
+    print!(rt; "{name}, journal: {} bytes", journal.len())?;
+    if journal.len() <= 400 {
+        println!(rt; " hex {}", encode(alloc, journal)?)?;
+    } else {
+        let digest: [u8; 16] = Md5::digest(journal);
+        println!(rt; " md5 {}", encode(alloc, digest)?)?;
     }
     Ok(())
 }

@@ -1,18 +1,21 @@
-//! Calls of the program over files in memory.
+//! Calls of the program over files and a journal in memory.
 
 use crate::answer::Answer;
 use anyhow::Result;
-use mem_devices::{MemShelf, MemSink};
+use mem_devices::{CountingGate, MemDisk, MemShelf, MemSink};
 use std::alloc::Global;
+use std::thread::Threads;
 use vlbi_core::run;
 
-/// The calls of the devices that fail: those of the shelf, and the writes of the output, of which one takes so many
-/// bytes.
+/// The calls of the devices that fail: those of the shelf, of the journal's disk, and the writes of the output, of which one
+/// takes so many bytes; and after how many calls the disk stops, if it does.
 #[derive(Drop)]
 pub struct Faults {
     pub reads: Vec<u64>,
+    pub disk: Vec<u64>,
     pub writes: Vec<u64>,
     pub most: usize,
+    pub stop: Option<u64>,
 }
 
 impl Faults {
@@ -20,27 +23,47 @@ impl Faults {
     pub fn none(alloc: Global, most: usize) -> Faults {
         Faults {
             reads: Vec::new(alloc),
+            disk: Vec::new(alloc),
             writes: Vec::new(alloc),
             most,
+            stop: None,
         }
     }
 }
 
-/// What the call with these words answers.
-pub fn call<R>(
+/// What a call with these words answers, how many pieces passed the gate, and the journal's disk after it.
+#[derive(Drop)]
+pub struct Called {
+    pub answer: Answer,
+    pub pieces: u64,
+    pub disk: MemDisk,
+}
+
+/// Calls the program with these words, over these files and a journal that begins with these bytes.
+pub fn call<R: Threads + Sync>(
     rt: &R,
     alloc: Global,
     words: &[String],
     files: Vec<(String, Vec<u8>)>,
+    journal: &[u8],
     faults: Faults,
-) -> Result<Answer> {
+) -> Result<Called> {
+    let mut disk = MemDisk::new(alloc, journal.to_vec(alloc)?, faults.disk, faults.stop)?;
     let mut shelf = MemShelf::new(files, faults.reads);
     let mut out = MemSink::new(alloc, faults.most.max(1), faults.writes);
     let mut notes = MemSink::new(alloc, 4096, Vec::new(alloc));
-    let status = run(rt, alloc, words, &mut shelf, &mut out, &mut notes);
-    Ok(Answer {
+    let gate = CountingGate::new();
+    let status = run(
+        rt, alloc, words, &mut shelf, &mut disk, &mut out, &mut notes, &gate,
+    );
+    let answer = Answer {
         status,
         note: notes.bytes().to_vec(alloc)?,
         output: out.bytes().to_vec(alloc)?,
+    };
+    Ok(Called {
+        answer,
+        pieces: gate.calls(),
+        disk,
     })
 }

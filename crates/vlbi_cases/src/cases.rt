@@ -1,15 +1,16 @@
 //! What the lines ask.
 
-use crate::answer::Answer;
-use crate::calls::{Faults, call};
+use crate::answer::{Answer, print_journal};
+use crate::calls::{Called, Faults, call};
 use crate::frames::Frame;
 use crate::texts::{append_numbered, append_runs, bytes_of, replaced};
 use anyhow::{Context, Result, bail};
 use std::alloc::Global;
 use std::mem;
+use std::thread::Threads;
 
 /// The bytes that the lines have described since the last file or piece, the pieces, the files of all cases, and what the
-/// last case has besides: its name, its files and the bytes that the output takes in one write.
+/// last case has besides: its name, its files, its journal and the bytes that the output takes in one write.
 #[derive(Drop)]
 pub struct Cases {
     alloc: Global,
@@ -18,6 +19,7 @@ pub struct Cases {
     common: Vec<(String, Vec<u8>)>,
     name: String,
     files: Vec<(String, Vec<u8>)>,
+    journal: Vec<u8>,
     most: usize,
 }
 
@@ -30,19 +32,32 @@ impl Cases {
             common: Vec::new(alloc),
             name: String::new(alloc),
             files: Vec::new(alloc),
+            journal: Vec::new(alloc),
             most: 1_000_000,
         }
     }
 
     /// Reads a line, and prints the answer where it asks for a call.
-    pub fn read(&mut self, rt: &impl Print, word: &str, rest: &str) -> Result<()> {
+    pub fn read<R: Print + Threads + Sync>(
+        &mut self,
+        rt: &R,
+        word: &str,
+        rest: &str,
+    ) -> Result<()> {
         match word {
             "case" => self.begin(rest)?,
             "most" => self.most = rest.parse::<usize>()?,
             "call" => self.call_once(rt, rest)?,
+            "count" => self.call_counted(rt, rest)?,
+            "show" => print_journal(rt, self.alloc, &self.name, &self.journal)?,
+            "keep" => self.keep_journal(rest)?,
             "reads" => self.call_with_reads_failing(rt, rest)?,
             "writes" => self.call_with_writes_failing(rt, rest)?,
+            "disk" => self.call_with_disk_failing(rt, rest)?,
+            "stops" => self.call_stopped(rt, rest)?,
+            "runs" => self.call_as_plain(rt, rest)?,
             "stop" => self.call_with_one_failing(rt, rest)?,
+            "fail" => self.call_with_one_disk_call_failing(rt, rest)?,
             _ => self.describe(word, rest)?,
         }
         Ok(())
@@ -70,15 +85,17 @@ impl Cases {
                 let file = self.take_bytes(rest)?;
                 self.files.push(file)?;
             }
+            "journal" => self.journal = mem::replace(&mut self.bytes, Vec::new(self.alloc)),
             _ => bail!("no such line"),
         }
         Ok(())
     }
 
-    // Another case, which has only the files of all cases.
+    // Another case, which has only the files of all cases, and a journal of no bytes.
     fn begin(&mut self, name: &str) -> Result<()> {
         self.name = String::from_str(self.alloc, name)?;
         self.files = Vec::new(self.alloc);
+        self.journal = Vec::new(self.alloc);
         self.most = 1_000_000;
         Ok(())
     }
@@ -123,29 +140,67 @@ impl Cases {
         Ok((String::from_str(self.alloc, name)?, bytes))
     }
 
-    // The answer to the call with these words, and these calls of the devices failing.
-    fn answer(&self, rt: &impl Print, line: &str, faults: Faults) -> Result<Answer> {
+    // The journal's bytes are this piece.
+    fn keep_journal(&mut self, name: &str) -> Result<()> {
+        let name = String::from_str(self.alloc, name)?;
+        self.pieces.push((name, self.journal.clone()?))?;
+        Ok(())
+    }
+
+    // The call with these words over a journal, with these calls of the devices failing.
+    fn called_on<R: Print + Threads + Sync>(
+        &self,
+        rt: &R,
+        line: &str,
+        journal: &[u8],
+        faults: Faults,
+    ) -> Result<Called> {
         let mut words = Vec::new(self.alloc);
         for word in line.split('|').skip(1) {
             words.push(String::from_str(self.alloc, word)?)?;
         }
         let mut files = self.files.clone()?;
         files.extend_from_slice(&self.common)?;
-        call(rt, self.alloc, &words, files, faults)
+        call(rt, self.alloc, &words, files, journal, faults)
+    }
+
+    // The same over the case's journal, which stays as it is.
+    fn answer<R: Print + Threads + Sync>(
+        &self,
+        rt: &R,
+        line: &str,
+        faults: Faults,
+    ) -> Result<Answer> {
+        Ok(self.called_on(rt, line, &self.journal, faults)?.answer)
     }
 
     // The answer where no call fails.
-    fn whole(&self, rt: &impl Print, line: &str) -> Result<Answer> {
+    fn whole<R: Print + Threads + Sync>(&self, rt: &R, line: &str) -> Result<Answer> {
         self.answer(rt, line, Faults::none(self.alloc, self.most))
     }
 
-    fn call_once(&self, rt: &impl Print, line: &str) -> Result<()> {
+    // The call over the case's journal, which is what it leaves from then on.
+    fn called<R: Print + Threads + Sync>(&mut self, rt: &R, line: &str) -> Result<Called> {
+        let faults = Faults::none(self.alloc, self.most);
+        let called = self.called_on(rt, line, &self.journal, faults)?;
+        self.journal = called.disk.bytes().to_vec(self.alloc)?;
+        Ok(called)
+    }
+
+    fn call_once<R: Print + Threads + Sync>(&mut self, rt: &R, line: &str) -> Result<()> {
         print!(rt; "{}:", self.name)?;
-        self.whole(rt, line)?.print(rt, self.alloc)
+        self.called(rt, line)?.answer.print(rt, self.alloc)
+    }
+
+    // A call, and before its answer how many pieces were worked on.
+    fn call_counted<R: Print + Threads + Sync>(&mut self, rt: &R, line: &str) -> Result<()> {
+        let called = self.called(rt, line)?;
+        print!(rt; "{}, {} pieces:", self.name, called.pieces)?;
+        called.answer.print(rt, self.alloc)
     }
 
     // A call with one write failing, whose number stands before the words.
-    fn call_with_one_failing(&self, rt: &impl Print, rest: &str) -> Result<()> {
+    fn call_with_one_failing<R: Print + Threads + Sync>(&self, rt: &R, rest: &str) -> Result<()> {
         let (number, line) = rest.split_once(' ').context("a number and words")?;
         let mut faults = Faults::none(self.alloc, self.most);
         faults.writes.push(number.parse::<u64>()?)?;
@@ -153,9 +208,28 @@ impl Cases {
         self.answer(rt, line, faults)?.print(rt, self.alloc)
     }
 
-    // The call again and again, with one call of the shelf failing after the other, until the answer is that without.
-    fn call_with_reads_failing(&self, rt: &impl Print, line: &str) -> Result<()> {
+    // A call with one call of the disk failing, whose number stands before the words.
+    fn call_with_one_disk_call_failing<R: Print + Threads + Sync>(
+        &self,
+        rt: &R,
+        rest: &str,
+    ) -> Result<()> {
+        let (number, line) = rest.split_once(' ').context("a number and words")?;
+        let mut faults = Faults::none(self.alloc, self.most);
+        faults.disk.push(number.parse::<u64>()?)?;
+        print!(rt; "{}, disk call {number} failing:", self.name)?;
+        self.answer(rt, line, faults)?.print(rt, self.alloc)
+    }
+
+    // The call again and again, with one call of the shelf failing after the other, until the answer is that without. Of a call
+    // of `run` that fails so nothing is appended.
+    fn call_with_reads_failing<R: Print + Threads + Sync>(&self, rt: &R, line: &str) -> Result<()> {
         let whole = self.whole(rt, line)?;
+        let front = if line.starts_with("|run") {
+            &[]
+        } else {
+            whole.output.as_slice()
+        };
         for number in 0..MOST_CALLS {
             let mut faults = Faults::none(self.alloc, self.most);
             faults.reads.push(number)?;
@@ -163,7 +237,7 @@ impl Cases {
             if answer == whole {
                 return self.print_end(rt, "read", number, &whole);
             }
-            if !answer.is_fault(7, b"vlbi: read fault\n", &whole.output) {
+            if !answer.is_fault(7, b"vlbi: read fault\n", front) {
                 print!(rt; "{}, read {number} failing:", self.name)?;
                 answer.print(rt, self.alloc)?;
             }
@@ -172,7 +246,11 @@ impl Cases {
     }
 
     // The same for the writes of the output.
-    fn call_with_writes_failing(&self, rt: &impl Print, line: &str) -> Result<()> {
+    fn call_with_writes_failing<R: Print + Threads + Sync>(
+        &self,
+        rt: &R,
+        line: &str,
+    ) -> Result<()> {
         let whole = self.whole(rt, line)?;
         for number in 0..MOST_CALLS {
             let mut faults = Faults::none(self.alloc, self.most);
@@ -187,6 +265,112 @@ impl Cases {
             }
         }
         bail!("too many writes")
+    }
+
+    // The same for the calls of the journal's disk; behind each fault the call is made once more, over what it left.
+    fn call_with_disk_failing<R: Print + Threads + Sync>(&self, rt: &R, line: &str) -> Result<()> {
+        let whole = self.whole(rt, line)?;
+        for number in 0..MOST_CALLS {
+            let mut faults = Faults::none(self.alloc, self.most);
+            faults.disk.push(number)?;
+            let called = self.called_on(rt, line, &self.journal, faults)?;
+            if called.answer == whole {
+                return self.print_end(rt, "disk call", number, &whole);
+            }
+            let again = self.called_on(
+                rt,
+                line,
+                called.disk.bytes(),
+                Faults::none(self.alloc, self.most),
+            )?;
+            if !called.answer.is_journal_fault(&whole.output) || again.answer != whole {
+                print!(rt; "{}, disk call {number} failing:", self.name)?;
+                called.answer.print(rt, self.alloc)?;
+                print!(rt; "{}, and then:", self.name)?;
+                again.answer.print(rt, self.alloc)?;
+            }
+        }
+        bail!("too many calls of the disk")
+    }
+
+    // The first call with the disk stopped after each number of its calls until it is done, and for each what a crash may leave:
+    // the first command's epochs kept, and the second call over it.
+    fn call_stopped<R: Print + Threads + Sync>(&self, rt: &R, rest: &str) -> Result<()> {
+        let (first, then) = rest.split_once(" => ").context("two calls")?;
+        let whole = self.whole(rt, first)?;
+        for stop in 0..MOST_CALLS {
+            if self.stopped_at(rt, first, then, stop, &whole)? {
+                print!(rt; "{}, each stop: done again, then", self.name)?;
+                return whole.print(rt, self.alloc);
+            }
+        }
+        bail!("too many stops")
+    }
+
+    // The first call with the disk stopped, and whether it was done.
+    fn stopped_at<R: Print + Threads + Sync>(
+        &self,
+        rt: &R,
+        first: &str,
+        then: &str,
+        stop: u64,
+        whole: &Answer,
+    ) -> Result<bool> {
+        for fill in [0, 1, 7] {
+            for long in [false, true] {
+                let mut faults = Faults::none(self.alloc, self.most);
+                faults.stop = Some(stop);
+                let called = self.called_on(rt, first, &self.journal, faults)?;
+                if called.answer == *whole {
+                    return Ok(true);
+                }
+                let image = called.disk.crash(self.alloc, fill, long)?;
+                let again = self.called_on(
+                    rt,
+                    then,
+                    image.bytes(),
+                    Faults::none(self.alloc, self.most),
+                )?;
+                if !called.answer.is_journal_fault(&whole.output) || again.answer != *whole {
+                    print!(rt; "{}, stopped after {stop} calls, fill {fill}:", self.name)?;
+                    called.answer.print(rt, self.alloc)?;
+                    print!(rt; "{}, and then:", self.name)?;
+                    again.answer.print(rt, self.alloc)?;
+                }
+            }
+        }
+        Ok(false)
+    }
+
+    // The calls of `run` with these options, by 1, 3 and 64 workers and pieces of 64, 65, 127 and 4,194,304 samples, each over a
+    // journal of its own: where all answer as `plain` does that is said, and the answer.
+    fn call_as_plain<R: Print + Threads + Sync>(&self, rt: &R, options: &str) -> Result<()> {
+        let line = self.joined("|plain", options, "")?;
+        let whole = self.whole(rt, &line)?;
+        for workers in [1u32, 3, 64] {
+            for piece in [64u32, 65, 127, 4_194_304] {
+                let mut last = String::from_str(self.alloc, "|--workers|")?;
+                last.push_str(&format!(in self.alloc; "{workers}|--piece|{piece}")?)?;
+                let line = self.joined("|run", options, &last)?;
+                let answer = self
+                    .called_on(rt, &line, &[], Faults::none(self.alloc, self.most))?
+                    .answer;
+                if answer != whole {
+                    print!(rt; "{}, {line}:", self.name)?;
+                    answer.print(rt, self.alloc)?;
+                }
+            }
+        }
+        print!(rt; "{}, by each run:", self.name)?;
+        whole.print(rt, self.alloc)
+    }
+
+    // Three texts as one.
+    fn joined(&self, first: &str, second: &str, third: &str) -> Result<String> {
+        let mut text = String::from_str(self.alloc, first)?;
+        text.push_str(second)?;
+        text.push_str(third)?;
+        Ok(text)
     }
 
     // What came where the last call failed that there is, and the answer behind it.

@@ -9,3 +9,5 @@ pub mod ScanForms
 pub mod RecordReading
 pub mod RecordForms
 pub mod FileForms
+pub mod NumberedLines
+pub mod RecordLines

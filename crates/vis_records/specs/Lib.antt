@@ -4,3 +4,5 @@ pub mod Content
 pub mod Reading
 pub mod Laws
 pub mod KindName
+pub mod Dumped
+pub mod Dumping

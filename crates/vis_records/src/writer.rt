@@ -59,7 +59,7 @@ pub fn write_end<S: Sink>(count: u64, out: &mut S) -> Result<(), SinkFault>
 }
 
 // Hands over what is held.
-fn end<S: Sink>(stretch: Stretch, out: &mut S) -> Result<(), SinkFault>
+pub(crate) fn end<S: Sink>(stretch: Stretch, out: &mut S) -> Result<(), SinkFault>
     ensures { Ends stretch (S.told out.old) (S.told out.new) (S.faults out.old) (S.faults out.new) result }
 {
     match stretch.finish(out) {

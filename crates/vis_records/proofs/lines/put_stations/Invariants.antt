@@ -1,0 +1,10 @@
+use Rattle.vis_records.specs.Dumped.{station_line}
+use Rattle.sink_text.specs.Written.{Puts}
+use Rattle.vis_records.proofs.NumberedLines.{numbered_first}
+use Rattle.vis_records.proofs.lines.put_stations.Given as goal
+
+abbrev pub invariant-loop-i : goal.invariant-loop-i
+invariant-loop-i g l =
+    Puts (numbered_first station_line l.stations l.i) l.initial.lines l.lines
+    (g.S.Sink.told l.initial.out) (g.S.Sink.told l.out)
+    (g.S.Sink.faults l.initial.out) (g.S.Sink.faults l.out)

@@ -1,12 +1,13 @@
-//! Cases of the reader of record files. Each line of standard input makes a text, and is printed with what the text is
-//! read to, or the fault. The head of the file `stdin` says what the lines mean.
+//! Cases of the reader of record files, and of the lines that show one. Each line of standard input makes a text, and is
+//! printed with what the text is read to, or the fault. The head of the file `stdin` says what the lines mean.
 #![tactic(auto)]
 
 use anyhow::{Context, Result, bail};
-use hex::decode;
+use hex::{decode, encode};
+use mem_devices::MemSink;
 use std::alloc::Global;
 use std::io::{BufRead, BufReader};
-use vis_records::{Vis, read_all};
+use vis_records::{Vis, dump, read_all};
 
 fn main(rt: HostRuntime) -> Result<()> {
     let mut text = Vec::new(rt.alloc());
@@ -26,6 +27,7 @@ fn read_line(rt: &impl Print, alloc: Global, line: &str, text: &mut Vec<u8>) -> 
         "more" => text.extend_from_slice(&decode(alloc, rest)?)?,
         "whole" => print_answer(rt, alloc, line, text)?,
         "fronts" => print_fronts(rt, alloc, text)?,
+        "dump" => print_lines(rt, alloc, line, text)?,
         "byte" => print_changed(rt, alloc, line, rest, text)?,
         _ => bail!("no such line: {line}"),
     }
@@ -63,6 +65,25 @@ fn print_file(rt: &impl Print, vis: &Vis) -> Result<()> {
         print!(rt; " {} {} {}", cell.re, cell.im, cell.count)?;
     }
     println!(rt; "")?;
+    Ok(())
+}
+
+// The lines that show the text, or the fault; in hexadecimal digits where they are no UTF-8.
+fn print_lines(rt: &impl Print, alloc: Global, line: &str, text: &[u8]) -> Result<()> {
+    let vis = match read_all(alloc, text) {
+        Ok(vis) => vis,
+        Err(fault) => {
+            println!(rt; "{line}: {fault}")?;
+            return Ok(());
+        }
+    };
+    let mut sink = MemSink::new(alloc, 100, Vec::new(alloc));
+    dump(&vis, &mut sink)?;
+    println!(rt; "{line}:")?;
+    match str::from_utf8(sink.bytes()) {
+        Ok(lines) => print!(rt; "{lines}")?,
+        Err(_) => println!(rt; "{}", encode(alloc, sink.bytes())?)?,
+    }
     Ok(())
 }
 

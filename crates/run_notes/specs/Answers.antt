@@ -14,6 +14,8 @@ use Rattle.job_text.specs.KindName.{kind_name as job_fault_name}
 use Rattle.job_join.specs.declared.fault.JoinFault.{JoinFault}
 use Rattle.job_join.specs.declared.fault.Quantity.{Quantity}
 use Rattle.checkpoint_journal.specs.declared.fault.Differs.{Differs}
+use Rattle.vis_records.specs.declared.fault.VisFault.{VisFault}
+use Rattle.vis_records.specs.KindName.{kind_name as records_fault_name}
 use Rattle.job_join.specs.KindName.{fault_name as join_fault_name, quantity_name}
 
 pub record Answer : Type 0 where
@@ -55,6 +57,10 @@ join_answer fault name = answer 4 (codes "job: " ∷ join_fault_name fault ∷ c
 -- a station whose recording has slots none of which agrees, and the field in which the first one differs
 abbrev pub recording_answer : List ℕ → Field → Answer
 recording_answer key field = answer 5 (codes "recording: " ∷ key ∷ codes " " ∷ field_name field ∷ [])
+
+-- a text that is no record file
+abbrev pub records_answer : VisFault → Answer
+records_answer fault = answer 5 (codes "records: " ∷ records_fault_name fault.kind ∷ codes " at byte " ∷ decimal fault.at ∷ [])
 
 abbrev pub limit_answer : Quantity → ℕ → Answer
 limit_answer quantity value = answer 6 (codes "limit: " ∷ quantity_name quantity ∷ codes " " ∷ decimal value ∷ [])

@@ -10,6 +10,7 @@ use std::alloc::AllocError;
 use vdif_frame::Field;
 use vex_reader::VexFault;
 use vex_schedule::SchedFault;
+use vis_records::VisFault;
 
 /// A verdict on what a call was given: the first thing that is wrong with it.
 #[derive(Debug, Drop)]
@@ -31,6 +32,8 @@ pub enum Due {
     /// A station's recording has slots, and none of them agrees with its shape: the station's key, and the field in which
     /// the first one differs.
     Recording(Name, Field),
+    /// The file that is shown is no record file.
+    Records(VisFault),
     /// The journal is neither blank nor one of this job: where it differs.
     Other(Differs),
 }

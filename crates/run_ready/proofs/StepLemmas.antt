@@ -5,7 +5,7 @@ use Rattle.std.specs.Prelude.{IfOk, IfErr}
 use Rattle.dev_traits.specs.Told.{WhereTold}
 use Rattle.run_notes.specs.Answers.{Answer}
 use Rattle.run_notes.specs.Refusals.{Outcomes, IsCause, MatchRead, due_answer}
-use Rattle.run_notes.specs.declared.refusal.Due.TheVariants.{Words, Vex, Schedule, Job, Join, Limit, NoFile, Recording, Other}
+use Rattle.run_notes.specs.declared.refusal.Due.TheVariants.{Words, Vex, Schedule, Job, Join, Limit, NoFile, Recording, Records, Other}
 use Rattle.run_notes.specs.declared.refusal.Refusal.{Refusal}
 use Rattle.run_notes.specs.declared.refusal.Refusal.TheVariants.{Memory, Due as DueRefusal, Read, Journal, Write}
 use Rattle.run_ready.specs.Steps.{Is, Then, unless}
@@ -47,6 +47,7 @@ IsOfFiles-texts (DueRefusal (Join fault name)) stage = tt
 IsOfFiles-texts (DueRefusal (Limit quantity value)) stage = tt
 IsOfFiles-texts (DueRefusal (NoFile name)) stage = tt
 IsOfFiles-texts (DueRefusal (Recording key field)) stage = tt
+IsOfFiles-texts (DueRefusal (Records fault)) stage = tt
 IsOfFiles-texts (DueRefusal (Other d)) stage = absurd stage
 IsOfFiles-texts Read stage = absurd stage
 IsOfFiles-texts (Journal kept) stage = absurd stage

@@ -23,3 +23,6 @@ returns-in-NoFile g c = rw (c.in-NoFile.is, ← c.bytes-in-NoFile.ensures) c.app
 
 pub returns-in-Recording : goal.returns-in-Recording
 returns-in-Recording g c = rw (c.in-Recording.is, ← c.bytes-in-Recording.ensures, ← c.name-in-Recording.ensures) c.append_pieces-in-Recording.ensures
+
+pub returns-in-Records : goal.returns-in-Records
+returns-in-Records g c = rw (c.in-Records.is, ← c.name-in-Records.ensures) c.append_pieces-in-Records.ensures

@@ -28,8 +28,9 @@ pub Is-one : {A : Type 0} (given : Result A Answer) → AreOne (Is given)
 Is-one given a b p q = p ∙ sym q
 
 -- two steps with one outcome each have one
-pub Then-one : {A B : Type 0} (first : Outcomes A) (next : A → Outcomes B) → AreOne first → ((a : A) → AreOne (next a)) → AreOne (Then first next)
-Then-one {A} {B} first next one ones = by
+pub Then-one-behind : {A B : Type 0} (first : Outcomes A) (next : A → Outcomes B) → AreOne first → ((a : A) → first (Ok a) → AreOne (next a))
+    → AreOne (Then first next)
+Then-one-behind {A} {B} first next one ones = by
   where
     same : (a c : A) → first (Ok a) → first (Ok c) → a ≡ c
     same a c p q = let e : Ok a ≡ Ok c = one (Ok a) (Ok c) p q in cc
@@ -42,7 +43,7 @@ Then-one {A} {B} first next one ones = by
         cc
 
     both : (x y : Result B Answer) (a c : A) → first (Ok a) → first (Ok c) → next a x → next c y → x ≡ y
-    both x y a c p q s t = ones c x y (subst (λ (w : A). next w x) (same a c p q) s) t
+    both x y a c p q s t = ones c q x y (subst (λ (w : A). next w x) (same a c p q) s) t
 
     not : (a : A) (e : Answer) → first (Ok a) → first (Err e) → ⊥
     not a e p q = let h : Ok a ≡ Err e = one (Ok a) (Err e) p q in cc
@@ -57,6 +58,9 @@ Then-one {A} {B} first next one ones = by
     by (Err d) (Err e) (inl p) (inr q) = absurd (not q.0 d q.1 p)
     by (Err d) (Err e) (inr p) (inl q) = absurd (not p.0 e p.1 q)
     by (Err d) (Err e) (inr p) (inr q) = both (Err d) (Err e) p.0 q.0 p.1 q.1 p.2 q.2
+
+pub Then-one : {A B : Type 0} (first : Outcomes A) (next : A → Outcomes B) → AreOne first → ((a : A) → AreOne (next a)) → AreOne (Then first next)
+Then-one first next one ones = Then-one-behind first next one (λ a is. ones a)
 
 -- what a schedule comes to, by the laws of VEX texts
 ScansOf-one : (text : List ℕ) → HasOneFile text → HasOneFault text → DoesNotBoth text → AreOne (ScansOf text)

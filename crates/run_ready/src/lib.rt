@@ -21,6 +21,7 @@ pub use order::survey;
 pub use ready::{Ready, prepare};
 pub use recordings::StationFiles;
 pub use surveys::Survey;
+pub use texts::load_text;
 
 #[cfg(test)]
 mod tests;

@@ -1,11 +1,10 @@
 -- The slot that counts for a sample is the one that holds the frame in which the sample lies.
-use Rattle.std.specs.Prelude.{◌==◌, ◌&&◌, not, is_none, nat_lt, int_le, int_lt, option_map, if◌then◌else◌}
+use Rattle.std.specs.Prelude.{◌==◌, ◌&&◌, not, is_none, nat_lt, int_le, int_lt, if◌then◌else◌}
 use Rattle.std.specs.Bool.{Decides}
 use Rattle.std.specs.Ordering.{int_eq}
 use Rattle.std.specs.Int.{int_div_euclid, int_rem_euclid}
 use Rattle.std.specs.List.{find}
-use Rattle.std.proofs.Common.{◌≡◌, ◌∙◌, refl, sym, ap, ℕ, suc, ◌+◌, ◌-◌, ◌*◌, ◌/◌, ◌%◌, ◌≤◌, ◌<◌, ◌⊎◌, ⊎_elim, inl, inr, Bool, true, false, ℤ, pos, negsuc, neg_ℤ, ◌+ℤ◌, ◌-ℤ◌, ◌*ℤ◌, ◌≤ℤ◌, ◌<ℤ◌, unsigned_abs, List, [], ◌∷◌, map, Option, Some, None, arith}
-use Rattle.std.proofs.lemmas.Bool.{cases_eq, cases_lt}
+use Rattle.std.proofs.Common.{◌≡◌, ◌∙◌, refl, sym, ap, ℕ, ◌+◌, ◌-◌, ◌*◌, ◌/◌, ◌%◌, ◌≤◌, ◌<◌, ◌⊎◌, ⊎_elim, Bool, true, false, ℤ, pos, negsuc, ◌+ℤ◌, ◌-ℤ◌, ◌*ℤ◌, ◌≤ℤ◌, ◌<ℤ◌, unsigned_abs, List, [], ◌∷◌, Option, Some, None, arith}
 use Rattle.std.proofs.lemmas.Bool.Decides.{nat_tests, same_from_decides, Decides-eqb, Decides-int_eq}
 use Rattle.std.proofs.lemmas.Int.{ints}
 use Rattle.std.proofs.lemmas.Nat.{mul-le, div-add-mod', mod_below, div-mul-add}
@@ -14,10 +13,10 @@ use Rattle.vdif_frame.specs.Shape.{ShapeFields, samples_per_frame}
 use Rattle.vdif_frame.specs.Agreement.{first_field}
 use Rattle.vdif_frame.specs.declared.shape.Field.{Field}
 use Rattle.vdif_frame.specs.declared.shape.Field.TheVariants.{Legacy, Length, Channels, Complex, Bits, Station, FrameNumber}
-use Rattle.corr_model.specs.Slots.{Slot, station_slots, slots_of}
-use Rattle.corr_model.specs.Sample.{Timing, Recorded, agrees_with, slot_place, covers, counts_for, level_in, sample_of}
+use Rattle.corr_model.specs.Slots.{Slot}
+use Rattle.corr_model.specs.Sample.{Timing, agrees_with, covers, counts_for}
 use Rattle.corr_model.specs.Frames.{second_in, holds_frame, frame_slot, counted_slot}
-use Rattle.frame_index.specs.Placed.{second_of_place, place_in_second, number_of_place, sample_in_frame}
+use Rattle.frame_index.specs.Placed.{second_of_place, number_of_place}
 
 -- ---- whole seconds and what is left
 

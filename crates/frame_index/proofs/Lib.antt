@@ -1,5 +1,8 @@
 pub mod ToldLemmas
 pub mod HeadLemmas
+pub mod FirstPlaces
+pub mod ValidLemmas
+pub mod SlotOrderLemmas
 pub mod StepLemmas
 pub mod SecondLemmas
 pub mod PassedLemmas

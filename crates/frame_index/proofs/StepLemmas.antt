@@ -1,11 +1,10 @@
 -- What one more slot changes.
-use Rattle.std.specs.Prelude.{if◌then◌else◌, not, is_none, is_some, ◌&&◌, ◌||◌, ◌==◌, option_map, map, pos, ◌+ℤ◌}
-use Rattle.std.specs.Option.{option_or}
-use Rattle.std.specs.List.{list_any, find}
+use Rattle.std.specs.Prelude.{if◌then◌else◌, not, is_none, ◌&&◌, ◌||◌, ◌==◌, map, pos, ◌+ℤ◌}
+use Rattle.std.specs.List.{list_any}
 use Rattle.std.proofs.Common.{◌≡◌, ◌∙◌, refl, sym, ap, ℕ, suc, ◌+◌, Bool, true, false, List, [], ◌∷◌, ◌++◌, Option, Some, None, length, add-zero, arith}
 use Rattle.std.proofs.lemmas.Bool.Decides.{nat_tests}
 use Rattle.std.proofs.lemmas.List.{append-nil, append_assoc, length-append, length-map, map-append}
-use Rattle.std.proofs.lemmas.List.Folds.{find-append, list_any-append}
+use Rattle.std.proofs.lemmas.List.Folds.{list_any-append}
 use Rattle.num_time.specs.Numbers.{epoch_second_of}
 use Rattle.vdif_frame.specs.Header.{HeaderFields, fields_of}
 use Rattle.vdif_frame.specs.Shape.{ShapeFields}
@@ -13,19 +12,18 @@ use Rattle.vdif_frame.specs.Agreement.{first_field}
 use Rattle.vdif_frame.specs.declared.shape.Field.{Field}
 use Rattle.corr_model.specs.Slots.{Slot}
 use Rattle.corr_model.specs.Sample.{agrees_with}
-use Rattle.corr_model.specs.Frames.{holds_frame}
 use Rattle.frame_index.specs.declared.counts.Counts.{Counts}
 use Rattle.frame_index.specs.declared.frame.Frame.{Frame}
 use Rattle.frame_index.specs.declared.frame.SlotAt.{SlotAt}
 use Rattle.frame_index.specs.declared.builder.Builder.{Builder}
-use Rattle.frame_index.specs.declared.frames.FramePlaces.{FramePlaces}
+use Rattle.frame_index.specs.declared.valid.ValidFrames.{ValidFrames}
 use Rattle.frame_index.specs.declared.latest.LatestFrames.{LatestFrames}
-use Rattle.frame_index.specs.FrameOrder.{same_frame, is_earlier, frame_in, place_under}
+use Rattle.frame_index.specs.FrameOrder.{is_earlier, frame_in}
 use Rattle.frame_index.specs.Passed.{is_passed}
 use Rattle.frame_index.specs.Foreign.{slot_field, foreign_field}
 use Rattle.frame_index.specs.Counted.{count_after, count_where, is_foreign, is_invalid, is_doubled, is_late, counts_of}
-use Rattle.frame_index.specs.Indexed.{place_of_slot, frame_place}
-use Rattle.frame_index.specs.Building.{is_behind, Holds}
+use Rattle.frame_index.specs.Building.{is_behind, Holds, placed_frame, valid_frames}
+use Rattle.frame_index.proofs.ValidLemmas.{valid_frames-more}
 
 -- ---- counts
 
@@ -55,37 +53,6 @@ pub counts_of-more : (shape : ShapeFields) (done : List Slot) (slot : Slot) (dou
 counts_of-more shape done slot doubled invalid foreign late d i f l =
     let slots : length (done ++ slot ∷ []) ≡ length done + 1 = length-append done (slot ∷ []) in
     rw (slots, count_where-more (is_doubled shape) done slot doubled d, count_where-more (is_invalid shape) done slot invalid i, count_where-more (is_foreign shape) done slot foreign f, count_where-more (is_late shape) done slot late l) refl
-
--- ---- the place of a frame
-
-option_map-or : {A B : Type 0} (f : A → B) (o : Option A) (x : A) (b : Bool)
-    → option_map f (option_or o (if b then Some x else None)) ≡ option_or (option_map f o) (if b then Some (f x) else None)
-option_map-or f None x true = refl
-option_map-or f None x false = refl
-option_map-or f (Some a) x b = refl
-
-pub frame_place-more : (shape : ShapeFields) (done : List Slot) (slot : Slot) (frame : Frame) (b : Bool)
-    → holds_frame shape frame.thread frame.second frame.number slot.bytes ≡ b
-    → frame_place shape (done ++ slot ∷ []) frame.thread frame.second frame.number
-    ≡ option_or (frame_place shape done frame.thread frame.second frame.number) (if b then Some (place_of_slot slot) else None)
-frame_place-more shape done slot frame b e =
-    let p : Slot → Bool = λ (s : Slot). holds_frame shape frame.thread frame.second frame.number s.bytes in
-    ap (option_map place_of_slot) (find-append p done (slot ∷ []))
-    ∙ ap (λ (c : Bool). option_map place_of_slot (option_or (find p done) (if c then Some slot else None))) e
-    ∙ option_map-or place_of_slot (find p done) slot b
-
-option_or-none : {A : Type 0} (o : Option A) → option_or o None ≡ o
-option_or-none None = refl
-option_or-none (Some a) = refl
-
-is_some-choice : (b rest : Bool) (x : Slot) (found : Option Slot) → is_some (option_map place_of_slot found) ≡ rest
-    → is_some (option_map place_of_slot (if b then Some x else found)) ≡ (b || rest)
-is_some-choice true rest x found e = refl
-is_some-choice false rest x found e = e
-
-is_some-find : (p : Slot → Bool) (slots : List Slot) → is_some (option_map place_of_slot (find p slots)) ≡ list_any p slots
-is_some-find p [] = refl
-is_some-find p (x ∷ slots) = is_some-choice (p x) (list_any p slots) x (find p slots) (is_some-find p slots)
 
 -- ---- frames passed
 
@@ -139,12 +106,10 @@ foreign_field-foreign shape (x ∷ slots) slot field e =
 abbrev with_foreign : Counts → Counts
 with_foreign c = record c { slots = c.slots + 1; foreign = c.foreign + 1 }
 
-abbrev with_agreeing : Bool → Bool → Bool → Counts → Counts
-with_agreeing doubled invalid late c = record {
+abbrev with_agreeing : Bool → Bool → Counts → Counts
+with_agreeing invalid late c = record c {
   slots = c.slots + 1;
-  doubled = c.doubled + (if doubled then 1 else 0);
   invalid = c.invalid + (if invalid then 1 else 0);
-  foreign = c.foreign;
   late = c.late + (if late then 1 else 0);
 }
 
@@ -157,10 +122,13 @@ with_kinds doubled invalid foreign late c = record {
   late = c.late + (if late then 1 else 0);
 }
 
-no_more : (c : Counts) → with_foreign c ≡ with_kinds false false true false c
+abbrev none_doubled : Counts → Counts
+none_doubled c = record c { doubled = 0 }
+
+no_more : (c : Counts) → with_foreign (none_doubled c) ≡ none_doubled (with_kinds false false true false c)
 no_more c = simp add-zero
 
-none_foreign : (doubled invalid late : Bool) (c : Counts) → with_agreeing doubled invalid late c ≡ with_kinds doubled invalid false late c
+none_foreign : (doubled invalid late : Bool) (c : Counts) → with_agreeing invalid late (none_doubled c) ≡ none_doubled (with_kinds doubled invalid false late c)
 none_foreign doubled invalid late c = rw (add-zero c.foreign) refl
 
 -- one more slot that does not agree
@@ -173,11 +141,9 @@ pub Holds-foreign : (shape : ShapeFields) (done : List Slot) (old new : Builder)
 Holds-foreign shape done old new slot field holds differs frames latest counts none_agrees =
     let foreign : agrees_with shape slot.bytes ≡ false = ap is_none differs in
     record {
-      places = λ frame.
-          ap (λ (places : FramePlaces). place_under places.map frame) frames
-          ∙ holds.places frame
-          ∙ sym (option_or-none (frame_place shape done frame.thread frame.second frame.number))
-          ∙ sym (frame_place-more shape done slot frame false (rw foreign refl));
+      frames = ap (λ (met : ValidFrames). met.entries.items) frames
+          ∙ holds.frames
+          ∙ sym (valid_frames-more shape done slot false (rw foreign refl));
       passed = λ frame.
           ap (λ (latest : LatestFrames). is_passed latest.last.items frame) latest
           ∙ holds.passed frame
@@ -186,7 +152,7 @@ Holds-foreign shape done old new slot field holds differs frames latest counts n
       counts = counts
           ∙ ap with_foreign holds.counts
           ∙ no_more (counts_of shape done)
-          ∙ sym (counts_of-more shape done slot false false true false (rw foreign refl) (rw foreign refl) (rw foreign refl) (rw foreign refl));
+          ∙ ap none_doubled (sym (counts_of-more shape done slot false false true false (rw foreign refl) (rw foreign refl) (rw foreign refl) (rw foreign refl)));
       none_agrees = none_agrees
           ∙ ap (λ (c : Counts). if c.slots == 0 then Some field else old.none_agrees) holds.counts
           ∙ ap (λ (n : ℕ). if n == 0 then Some field else old.none_agrees) (sym (length-map done (λ (s : Slot). s.bytes)))
@@ -196,68 +162,63 @@ Holds-foreign shape done old new slot field holds differs frames latest counts n
     }
 
 -- one more slot that agrees
-pub Holds-agreeing : (shape : ShapeFields) (done : List Slot) (old new : Builder) (slot : Slot) (invalid doubled late : Bool) → Holds shape done old
+pub Holds-agreeing : (shape : ShapeFields) (done : List Slot) (old new : Builder) (slot : Slot) (invalid late : Bool) → Holds shape done old
     → first_field (fields_of slot.bytes) shape ≡ None
     → (fields_of slot.bytes).invalid ≡ invalid
-    → doubled ≡ (not invalid && is_some (place_under old.frames.map (frame_in slot.bytes)))
-    → ((frame : Frame) → place_under new.frames.map frame ≡ option_or (place_under old.frames.map frame) (if not invalid && same_frame (frame_in slot.bytes) frame then Some (place_of_slot slot) else None))
+    → new.frames.entries.items ≡ (if invalid then old.frames.entries.items else old.frames.entries.items ++ placed_frame slot ∷ [])
     → late ≡ is_passed old.latest.last.items (frame_in slot.bytes)
     → ((frame : Frame) → is_passed new.latest.last.items frame ≡ (is_passed old.latest.last.items frame || ((frame.thread == (fields_of slot.bytes).thread) && is_earlier frame (frame_in slot.bytes))))
-    → new.counts ≡ with_agreeing doubled invalid late old.counts
+    → new.counts ≡ with_agreeing invalid late old.counts
     → new.none_agrees ≡ None
     → Holds shape (done ++ slot ∷ []) new
-Holds-agreeing shape done old new slot invalid doubled late holds agrees marked there places behind passed counts none_agrees =
+Holds-agreeing shape done old new slot invalid late holds agrees marked frames behind passed counts none_agrees =
     let yes : agrees_with shape slot.bytes ≡ true = ap is_none agrees in
     let frame : Frame = frame_in slot.bytes in
-    let known : is_some (place_under old.frames.map frame) ≡ list_any (λ (s : Slot). holds_frame shape frame.thread frame.second frame.number s.bytes) done =
-    ap is_some (holds.places frame) ∙ is_some-find (λ (s : Slot). holds_frame shape frame.thread frame.second frame.number s.bytes) done in
     record {
-      places = λ other.
-          places other
-          ∙ ap (λ (o : Option SlotAt). option_or o (if not invalid && same_frame frame other then Some (place_of_slot slot) else None)) (holds.places other)
-          ∙ sym (frame_place-more shape done slot other (not invalid && same_frame frame other) (rw (yes, marked) refl));
+      frames = frames
+          ∙ ap (λ (entries : List (Frame × SlotAt)). if invalid then entries else entries ++ placed_frame slot ∷ []) holds.frames
+          ∙ flipped invalid (valid_frames shape done ++ placed_frame slot ∷ []) (valid_frames shape done)
+          ∙ sym (valid_frames-more shape done slot (not invalid) (rw (yes, marked) refl));
       passed = λ other.
           passed other
           ∙ ap (λ (b : Bool). b || ((other.thread == (fields_of slot.bytes).thread) && is_earlier other frame)) (holds.passed other)
           ∙ sym (is_behind-more shape done slot other ((other.thread == (fields_of slot.bytes).thread) && is_earlier other frame) (rw yes refl));
       counts = counts
-          ∙ ap (with_agreeing doubled invalid late) holds.counts
-          ∙ none_foreign doubled invalid late (counts_of shape done)
-          ∙ sym (counts_of-more shape done slot doubled invalid false late
-          (rw (yes, marked) (sym (there ∙ ap (λ (b : Bool). not invalid && b) known)))
-          (rw (yes, marked) refl)
-          (rw yes refl)
-          (rw yes (sym (behind ∙ holds.passed frame))));
+          ∙ ap (with_agreeing invalid late) holds.counts
+          ∙ none_foreign (is_doubled shape done slot) invalid late (counts_of shape done)
+          ∙ ap none_doubled (sym (counts_of-more shape done slot (is_doubled shape done slot) invalid false late refl (rw (yes, marked) refl) (rw yes refl) (rw yes (sym (behind ∙ holds.passed frame)))));
       none_agrees = none_agrees
           ∙ sym (foreign_field-agreeing shape (bytes_in done) slot.bytes yes)
           ∙ sym (ap (foreign_field shape) (map-append (λ (s : Slot). s.bytes) done (slot ∷ [])));
     }
+  where
+    flipped : (b : Bool) (xs ys : List (Frame × SlotAt)) → (if b then ys else xs) ≡ (if not b then xs else ys)
+    flipped true xs ys = refl
+    flipped false xs ys = refl
 
 abbrev place_in_file : ℕ → ℕ → SlotAt
 place_in_file file at = record { file = file; at = at }
 
 -- the same, where the header is read and the frame made of it
-pub agreeing-step : (shape : ShapeFields) (done : List Slot) (old new : Builder) (file at : ℕ) (bytes : List ℕ) (h : HeaderFields) (frame : Frame) (invalid doubled late : Bool)
+pub agreeing-step : (shape : ShapeFields) (done : List Slot) (old new : Builder) (file at : ℕ) (bytes : List ℕ) (h : HeaderFields) (frame : Frame) (invalid late : Bool)
     → Holds shape done old
     → first_field h shape ≡ None
     → fields_of bytes ≡ h
     → invalid ≡ h.invalid
-    → frame ≡ record { thread = h.thread; second = epoch_second_of h.epoch +ℤ pos h.seconds; number = h.frame }
-    → doubled ≡ (not invalid && is_some (place_under old.frames.map frame))
-    → ((other : Frame) → place_under new.frames.map other ≡ option_or (place_under old.frames.map other) (if not invalid && same_frame frame other then Some (place_in_file file at) else None))
+    → frame ≡ record { second = epoch_second_of h.epoch +ℤ pos h.seconds; number = h.frame; thread = h.thread }
+    → new.frames.entries.items ≡ (if invalid then old.frames.entries.items else old.frames.entries.items ++ (frame, place_in_file file at) ∷ [])
     → late ≡ is_passed old.latest.last.items frame
     → ((other : Frame) → is_passed new.latest.last.items other ≡ (is_passed old.latest.last.items other || ((other.thread == frame.thread) && is_earlier other frame)))
-    → new.counts ≡ with_agreeing doubled invalid late old.counts
+    → new.counts ≡ with_agreeing invalid late old.counts
     → new.none_agrees ≡ None
     → Holds shape (done ++ record { file = file; at = at; bytes = bytes } ∷ []) new
-agreeing-step shape done old new file at bytes h frame invalid doubled late holds agrees is marked made there places behind passed counts none_agrees =
+agreeing-step shape done old new file at bytes h frame invalid late holds agrees is marked made frames behind passed counts none_agrees =
     let in_slot : frame ≡ frame_in bytes =
-    made ∙ ap (λ (f : HeaderFields). let g : Frame = record { thread = f.thread; second = epoch_second_of f.epoch +ℤ pos f.seconds; number = f.frame } in g) (sym is) in
-    Holds-agreeing shape done old new (record { file = file; at = at; bytes = bytes }) invalid doubled late holds
+    made ∙ ap (λ (f : HeaderFields). let g : Frame = record { second = epoch_second_of f.epoch +ℤ pos f.seconds; number = f.frame; thread = f.thread } in g) (sym is) in
+    Holds-agreeing shape done old new (record { file = file; at = at; bytes = bytes }) invalid late holds
     (ap (λ (f : HeaderFields). first_field f shape) is ∙ agrees)
     (ap (λ (f : HeaderFields). f.invalid) is ∙ sym marked)
-    (there ∙ ap (λ (f : Frame). not invalid && is_some (place_under old.frames.map f)) in_slot)
-    (λ other. places other ∙ ap (λ (f : Frame). option_or (place_under old.frames.map other) (if not invalid && same_frame f other then Some (place_in_file file at) else None)) in_slot)
+    (frames ∙ ap (λ (f : Frame). if invalid then old.frames.entries.items else old.frames.entries.items ++ (f, place_in_file file at) ∷ []) in_slot)
     (behind ∙ ap (λ (f : Frame). is_passed old.latest.last.items f) in_slot)
     (λ other. passed other ∙ ap (λ (f : Frame). is_passed old.latest.last.items other || ((other.thread == f.thread) && is_earlier other f)) in_slot)
     counts none_agrees

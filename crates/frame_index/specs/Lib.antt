@@ -6,6 +6,7 @@ pub mod FrameOrder
 pub mod Passed
 pub mod Placed
 pub mod Indexed
+pub mod SlotOrder
 pub mod Layouts
 pub mod Recording
 pub mod Pieces

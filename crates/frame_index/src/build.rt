@@ -13,7 +13,7 @@ use crate::builder::Builder;
 use crate::fault::IndexFault;
 use crate::heads::meet_file;
 use crate::index::Index;
-use crate::recording::{FileRef, Layout, PIECE, exceed};
+use crate::recording::{FileRef, Layout, PIECE, count_slots};
 use dev_traits::Shelf;
 use std::alloc::Global;
 use vdif_frame::Shape;
@@ -84,10 +84,10 @@ impl Index {
         ensures counts { CountsReads (F.faults shelf.old) (F.faults shelf.new) result }
     {
         let layout = Layout::of(shape);
-        if exceed(files, layout.size as u64, MOST_SLOTS) {
+        let Some(slots) = count_slots(files, layout.size as u64, MOST_SLOTS) else {
             return Err(IndexFault::TooManySlots);
-        }
-        let mut builder = Builder::new(alloc)?;
+        };
+        let mut builder = Builder::new(alloc, slots)?;
         let mut buf = vec![in alloc; 0u8; PIECE]?;
         match meet_files(shelf, &mut builder, shape, &layout, files, &mut buf) {
             Ok(()) => Index::finish(builder),

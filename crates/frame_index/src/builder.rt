@@ -6,17 +6,17 @@ ghost use Rattle.frame_index.specs.Orderly.{IsOrderly};
 
 use crate::counts::Counts;
 use crate::frame::{Frame, SlotAt};
-use crate::frames::FramePlaces;
 use crate::latest::LatestFrames;
 use crate::slot::slot_header;
+use crate::valid::ValidFrames;
 use std::alloc::{AllocError, Global};
 use vdif_frame::{Field, Header, Shape};
 
-/// What is known of the slots met so far: the place of each frame, the latest frame of each thread, the counts,
-/// and the first slot's field where none agreed.
+/// What is known of the slots met so far: the frames of the valid ones, the latest frame of each thread, the
+/// counts but for the doubled ones, and the first slot's field where none agreed.
 #[derive(Drop)]
 pub struct Builder {
-    pub frames: FramePlaces,
+    pub frames: ValidFrames,
     pub latest: LatestFrames,
     pub counts: Counts,
     pub none_agrees: Option<Field>,
@@ -34,13 +34,13 @@ impl Builder {
     ghost use Rattle.vdif_frame.specs.Shape.{ShapeFields};
     ghost use Rattle.frame_index.specs.Building.{Holds, ExtendsByHead, ExtendsByHeader};
 
-    /// No slots met.
-    pub fn new(alloc: Global) -> Result<Self, AllocError>
+    /// No slots met, and room for so many.
+    pub fn new(alloc: Global, most: u64) -> Result<Self, AllocError>
         ensures holds { IfOk result (λ builder. (shape : ShapeFields) → Holds shape [] builder) }
         ensures slots { IfOk result (λ builder. builder.counts.slots ≡ 0) }
     {
         Ok(Builder {
-            frames: FramePlaces::new(alloc),
+            frames: ValidFrames::new(alloc, most)?,
             latest: LatestFrames::new(alloc)?,
             counts: Counts::none(),
             none_agrees: None,
@@ -83,9 +83,9 @@ impl Builder {
         ensures slots { OnOk result (self.new.counts.slots ≡ self.old.counts.slots + 1) }
     {
         let frame = Frame::of(h);
-        let doubled = self.frames.keep_valid(h.invalid, frame, place)?;
+        self.frames.keep_valid(h.invalid, frame, place)?;
         let late = self.latest.meet(frame);
-        self.counts = self.counts.with_agreeing(doubled, h.invalid, late);
+        self.counts = self.counts.with_agreeing(h.invalid, late);
         self.none_agrees = None;
         Ok(())
     }

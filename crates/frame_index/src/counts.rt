@@ -47,24 +47,29 @@ impl Counts {
     }
 
     // With one more slot, which agrees.
-    pub(crate) fn with_agreeing(self, doubled: bool, invalid: bool, late: bool) -> Counts
+    pub(crate) fn with_agreeing(self, invalid: bool, late: bool) -> Counts
         requires orderly { IsOrderly self }
         requires room { self.slots < 2 ^ 26 }
-        ensures value { result ≡ record {
+        ensures value { result ≡ record self {
           slots = self.slots + 1;
-          doubled = self.doubled + (if doubled then 1 else 0);
           invalid = self.invalid + (if invalid then 1 else 0);
-          foreign = self.foreign;
           late = self.late + (if late then 1 else 0);
         } }
         ensures orderly { IsOrderly result }
     {
         Counts {
             slots: self.slots + 1,
-            doubled: self.doubled + u64::from(doubled),
+            doubled: self.doubled,
             invalid: self.invalid + u64::from(invalid),
             foreign: self.foreign,
             late: self.late + u64::from(late),
         }
+    }
+
+    // With so many doubled ones.
+    pub(crate) fn with_doubled(self, doubled: u64) -> Counts
+        ensures { result ≡ record self { doubled = doubled } }
+    {
+        Counts { doubled, ..self }
     }
 }

@@ -9,18 +9,19 @@ use vdif_frame::Header;
 
 /// Where a slot stands: the number of its file among the station's, from 0, and the place of its first byte in
 /// that file.
-#[derive(Clone, Copy, Debug, PartialEq, Eq)]
+#[derive(Clone, Copy, Debug, PartialEq, Eq, PartialOrd, Ord)]
 pub struct SlotAt {
     pub file: u32,
     pub at: u64,
 }
 
-/// A frame: its thread, its second from 1970-01-01 00:00 on, and its number in that second.
+/// A frame: its second from 1970-01-01 00:00 on, its number in that second, and its thread. Frames are ordered by
+/// these, as they stand in most recordings.
 #[derive(Clone, Copy, Debug, PartialEq, Eq, PartialOrd, Ord)]
 pub struct Frame {
-    pub thread: u16,
     pub second: i64,
     pub number: u32,
+    pub thread: u16,
 }
 
 impl Frame {
@@ -28,15 +29,15 @@ impl Frame {
     pub fn of(h: &Header) -> Frame
         requires { AreInRange h.now }
         ensures { result ≡ record {
-          thread = h.now.thread;
           second = epoch_second_of h.now.epoch +ℤ pos h.now.seconds;
           number = h.now.frame;
+          thread = h.now.thread;
         } }
     {
         Frame {
-            thread: h.thread,
             second: epoch_second(h.epoch) + i64::from(h.seconds),
             number: h.frame,
+            thread: h.thread,
         }
     }
 

@@ -5,6 +5,7 @@ ghost use Rattle.corr_model.specs.Slots.{Slot};
 ghost use Rattle.frame_index.specs.Foreign.{foreign_field};
 ghost use Rattle.frame_index.specs.Indexed.{IsIndexOf, place_in};
 ghost use Rattle.frame_index.specs.Building.{Holds};
+ghost use Rattle.frame_index.specs.SlotOrder.{FollowOn};
 ghost use Rattle.frame_index.specs.Faults.{IsFieldFault};
 
 use crate::builder::Builder;
@@ -27,7 +28,7 @@ impl Model for Index {
     ghost Value = { IndexFields };
 
     ghost view = { λ index. record {
-      entries = index.frames.map.entries;
+      entries = index.frames.entries.items;
       counts = index.counts;
     } };
 }
@@ -35,17 +36,20 @@ impl Model for Index {
 impl Index {
     // The index of the slots that a builder has met.
     pub(crate) fn finish(builder: Builder) -> Result<Index, IndexFault>
-        ensures index { IfOk result (λ index. (shape : ShapeFields) (slots : List Slot) → Holds shape slots builder → IsIndexOf shape slots index) }
-        ensures slots { IfOk result (λ index. index.counts ≡ builder.counts) }
+        ensures index { IfOk result (λ index. (shape : ShapeFields) (slots : List Slot) → Holds shape slots builder → FollowOn slots → IsIndexOf shape slots index) }
+        ensures slots { IfOk result (λ index. index.counts.slots ≡ builder.counts.slots) }
         ensures agrees { IfOk result (λ _. builder.none_agrees ≡ None) }
         ensures foreign { IfErr result (IsFieldFault builder.none_agrees) }
     {
         match builder.none_agrees {
             Some(field) => Err(IndexFault::NoFrameAgrees(field)),
-            None => Ok(Index {
-                frames: builder.frames,
-                counts: builder.counts,
-            }),
+            None => {
+                let (frames, doubled) = builder.frames.first_places();
+                Ok(Index {
+                    frames,
+                    counts: builder.counts.with_doubled(doubled),
+                })
+            }
         }
     }
 

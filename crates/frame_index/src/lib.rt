@@ -19,6 +19,7 @@ mod index;
 mod latest;
 mod recording;
 mod slot;
+mod valid;
 
 pub use counts::Counts;
 pub use fault::IndexFault;

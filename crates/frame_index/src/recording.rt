@@ -1,5 +1,5 @@
 //! The files of a station, and how they are cut.
-ghost use Rattle.std.specs.Prelude.{◌≡◌, ◌≤◌, ◌<◌, ◌+◌, ◌-◌, ◌*◌, ◌/◌, ◌↔◌, ◌^◌, IsTrue, length};
+ghost use Rattle.std.specs.Prelude.{◌≡◌, ◌≤◌, ◌<◌, ◌+◌, ◌-◌, ◌*◌, ◌/◌, ◌^◌, MatchOption, length};
 ghost use Rattle.vdif_frame.specs.Shape.{IsShape};
 ghost use Rattle.frame_index.specs.Layouts.{IsLayoutOf};
 ghost use Rattle.frame_index.specs.Recording.{slots_by_size};
@@ -69,18 +69,19 @@ fn most_at_once(size: usize) -> u64
     }
 }
 
-/// Whether the files have more than `most` slots of a length.
-pub fn exceed(files: &[FileRef], size: u64, most: u64) -> bool
+/// How many slots of a length the files have; None where that is more than `most`.
+pub fn count_slots(files: &[FileRef], size: u64, most: u64) -> Option<u64>
     requires { 0 < size }
-    ensures { IsTrue result ↔ (most < slots_by_size size files.now) }
+    ensures { MatchOption result (most < slots_by_size size files.now)
+        (λ slots. (slots ≡ slots_by_size size files.now) × (slots ≤ most)) }
 {
-    let mut left = most;
+    let mut total = 0;
     for file in files {
         let slots = file.size / size;
-        if slots > left {
-            return true;
+        if slots > most - total {
+            return None;
         }
-        left -= slots;
+        total += slots;
     }
-    false
+    Some(total)
 }

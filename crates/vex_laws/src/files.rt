@@ -1,0 +1,19 @@
+//! What follows for every file of a schedule.
+ghost use Rattle.vex_reader.specs.declared.file.VexFile.{VexFile};
+ghost use Rattle.vex_laws.specs.Causes.{HasCause};
+ghost use Rattle.vex_laws.specs.Counting.{IsOfWhatCounts, HaveOneSchedule};
+
+/// A fault has its cause at its place: a scan, a def, or a statement of these; 0 where there is no `$SCHED`.
+pub fn cause_at_place()
+    ensures { (file : VexFile) → HasCause file }
+{}
+
+/// A file has the schedule, or the fault, of what counts in it.
+pub fn what_counts()
+    ensures { (file : VexFile) → IsOfWhatCounts file }
+{}
+
+/// What does not count can be taken out or put in.
+pub fn nothing_else_counts()
+    ensures { (file other : VexFile) → HaveOneSchedule file other }
+{}

@@ -10,15 +10,12 @@ use Rattle.vex_reader.specs.File.{named}
 use Rattle.vex_schedule.specs.declared.fault.SchedKind.{SchedKind}
 use Rattle.vex_schedule.specs.declared.fault.SchedKind.TheVariants.{NoSched, UnknownRef, BadValue}
 use Rattle.vex_schedule.specs.declared.fault.SchedFault.{SchedFault}
-use Rattle.vex_schedule.specs.declared.scan.Pass.{Pass}
-use Rattle.vex_schedule.specs.declared.scan.Scan.{Scan}
 use Rattle.vex_schedule.specs.Answers.{◌>>=◌, fault, given, in_turn, seen}
 use Rattle.vex_schedule.specs.Statements.{has_key, only, covers, is_some_text, is_setup}
-use Rattle.vex_schedule.specs.Covering.{is_to_freq}
 use Rattle.vex_schedule.specs.Values.{is_name, word_at, only_word, start_in, rate_in}
-use Rattle.vex_schedule.specs.Schedule.{defs_in, def_of, start_of, mode_of, stay_of, stays_of, setup_rate, chan_of, chans_of, Part, setup_in, setup_at, setup_of, pass_of, passes_of, scan_of, scans_of, schedule_of}
+use Rattle.vex_schedule.specs.Schedule.{def_of, start_of, mode_of, stay_of, stays_of, setup_rate, chan_of, chans_of, setup_in, setup_at, setup_of, pass_of, passes_of, scan_of, scans_of, schedule_of}
 use Rattle.vex_laws.proofs.Steps.{Stay, with_chans, mode_named, mode_said, setup_named, with_setup, with_passes, with_stays, with_mode, with_second}
-use Rattle.vex_laws.specs.Counting.{counts_in_scan, counts_in_mode, counts_in_setup, only_with, each_with, counted_defs, counted_scans, counted_block, counted, IsOfWhatCounts, HaveOneSchedule}
+use Rattle.vex_laws.specs.Counting.{counts_in_scan, counts_in_mode, counts_in_setup, only_with, counted_block, counted, IsOfWhatCounts, HaveOneSchedule}
 
 -- two steps that give the same, one after the other
 bind-same : {A B : Type 0} (r : Result A SchedFault) (f g : A → Result B SchedFault) → ((x : A) → f x ≡ g x) → (r >>= f) ≡ (r >>= g)

@@ -1,5 +1,7 @@
-pub mod Steps
+pub mod KindLemmas
 pub mod RowLemmas
-pub mod CountingLemmas
-pub mod CauseLemmas
 pub mod PlaceLemmas
+pub mod Steps
+pub mod CauseLemmas
+pub mod StandLemmas
+pub mod CountingLemmas

@@ -1,5 +1,5 @@
 -- The places of the faults of a text.
-use Rattle.std.proofs.Common.{◌≡◌, ◌≢◌, ◌⊎◌, inl, inr, ⊎_elim, ℕ, ◌+◌, ◌<◌, ◌≤◌, Bool, true, false, cond, List, [], ◌∷◌, ◌++◌, length, get_or, None, Some, Option, is_some, IfSome, Ok, Err, Result, IfErr, arith, refl, sym, ap, ◌∙◌, subst, append_assoc}
+use Rattle.std.proofs.Common.{◌≡◌, ◌≢◌, ◌⊎◌, inl, inr, ℕ, ◌+◌, ◌<◌, ◌≤◌, Bool, true, false, cond, List, [], ◌∷◌, ◌++◌, length, get_or, None, Some, Option, is_some, IfSome, Result, IfErr, arith, refl, sym, ap, ◌∙◌, subst, append_assoc}
 use Rattle.std.specs.List.{slice_split, onto_first}
 use Rattle.std.proofs.Math.Seq.{get_or-append_seam}
 use Rattle.std.proofs.lemmas.List.{length-append}
@@ -13,7 +13,6 @@ use Rattle.vex_lex.specs.Bytes.{HasByte}
 use Rattle.vex_lex.specs.Grammar.{BreaksFrom, Lexes}
 use Rattle.vex_lex.proofs.GrammarLaws.{cover_text}
 use Rattle.vex_reader.specs.declared.file.Block.{Block}
-use Rattle.vex_reader.specs.declared.file.Item.{Item}
 use Rattle.vex_reader.specs.declared.file.VexFile.{VexFile}
 use Rattle.vex_reader.specs.declared.fault.VexKind.{VexKind}
 use Rattle.vex_reader.specs.declared.fault.VexKind.TheVariants.{Revision, OpenDef}
@@ -24,8 +23,7 @@ use Rattle.vex_reader.specs.declared.shape.Shape.{Shape}
 use Rattle.vex_reader.specs.declared.shape.Shape.TheVariants.{Blank, Block as BlockShape, Begin, End, Entry, Other, Bad}
 use Rattle.vex_reader.specs.File.{named}
 use Rattle.vex_reader.specs.Shapes.{is_sign}
-use Rattle.vex_reader.specs.Reading.{Place, Before, Outside, InBlock, InItem, State, start, is_revision, is_kind, block_at, items_of, double, fault_at, fault_of, after, closed, ended, place_of, shape_at, unless, if_last, reading_from, reading}
-use Rattle.vex_reader.specs.Grammar.{IsLexFaultOf, IsReadingFaultOf}
+use Rattle.vex_reader.specs.Reading.{Place, Before, Outside, InBlock, InItem, State, start, is_revision, is_kind, block_at, items_of, double, fault_at, fault_of, after, closed, ended, place_of, shape_at, unless, reading_from, reading}
 use Rattle.vex_laws.specs.Places.{EndWithSemicolon, BeginsStatement, IsLexPlace, IsPlace, HasPlacedFault}
 
 abbrev is_end : Token → Bool

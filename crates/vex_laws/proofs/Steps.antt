@@ -1,7 +1,7 @@
 -- Steps one after the other: what is behind each, what it gave, and the faults that it can have.
-use Rattle.std.proofs.Common.{◌≡◌, ◌⊎◌, inl, inr, ⊎_elim, ℕ, zero, suc, ℤ, Bool, true, List, [], ◌∷◌, ◌++◌, length, None, Some, Option, Ok, Err, Result, IfErr, Contains, bytes_eq, arith, codes, refl, sym, ap, ◌∙◌, subst}
+use Rattle.std.proofs.Common.{◌≡◌, ◌⊎◌, inl, inr, ⊎_elim, ℕ, zero, suc, ℤ, true, List, [], ◌∷◌, ◌++◌, None, Some, Option, Ok, Err, Result, IfErr, Contains, bytes_eq, arith, codes, refl, sym, ap, ◌∙◌, subst}
 use Rattle.std.specs.List.{list_any}
-use Rattle.std.proofs.lemmas.List.Elements.{Contains-append_left, Contains-append_right, Contains-append_cases}
+use Rattle.std.proofs.lemmas.List.Elements.{Contains-append_right, Contains-append_cases}
 use Rattle.std.proofs.lemmas.List.Folds.{Any-from_list_any}
 use Rattle.std.proofs.lemmas.Slice.Eq.{bytes_eq-Decides}
 use Rattle.vex_reader.specs.declared.file.Item.{Item}
@@ -15,7 +15,7 @@ use Rattle.vex_schedule.specs.declared.scan.Pass.{Pass}
 use Rattle.vex_schedule.specs.declared.scan.Scan.{Scan}
 use Rattle.vex_schedule.specs.Answers.{◌>>=◌, fault, given, in_turn}
 use Rattle.vex_schedule.specs.Statements.{only}
-use Rattle.vex_schedule.specs.Values.{word_at, only_word, stay_in}
+use Rattle.vex_schedule.specs.Values.{only_word, stay_in}
 use Rattle.vex_schedule.specs.Schedule.{def_of, mode_of, stays_of, chans_of, Part, setup_in, passes_of}
 use Rattle.vex_laws.specs.Causes.{SaysAgain}
 
@@ -61,13 +61,13 @@ with_second file name scan second = mode_of file scan >>= with_mode file name sc
 pub Contains-middle : {A : Type 0} (front : List A) (x : A) (behind : List A) → Contains (front ++ x ∷ behind) x
 Contains-middle front x behind = Contains-append_right front (x ∷ behind) x (0, omega arith, refl)
 
-Contains-behind : {A : Type 0} (x : A) (xs : List A) (y : A) → Contains xs y → Contains (x ∷ xs) y
+pub Contains-behind : {A : Type 0} (x : A) (xs : List A) (y : A) → Contains xs y → Contains (x ∷ xs) y
 Contains-behind x xs y there = Contains-append_right (x ∷ []) xs y there
 
-Contains-first : {A : Type 0} (x : A) (xs : List A) → Contains (x ∷ xs) x
+pub Contains-first : {A : Type 0} (x : A) (xs : List A) → Contains (x ∷ xs) x
 Contains-first x xs = Contains-middle [] x xs
 
-Contains-one : {A : Type 0} (x y : A) → Contains (x ∷ []) y → x ≡ y
+pub Contains-one : {A : Type 0} (x y : A) → Contains (x ∷ []) y → x ≡ y
 Contains-one x y (zero, less, is) = is
 Contains-one x y (suc k, less, is) = absurd (omega (arith, less))
 

@@ -1,7 +1,6 @@
 -- What is wrong at the place of a schedule's fault.
 use Rattle.std.specs.Prelude.{◌≡◌, ◌⊎◌, ℕ, Bool, false, List, [], ◌∷◌, ◌++◌, filter, codes, Option, None, Some, is_some, option_map, Contains, Any, Ok, Err, IsOkAnd}
 use Rattle.vex_reader.specs.declared.file.Item.{Item}
-use Rattle.vex_reader.specs.declared.file.Block.{Block}
 use Rattle.vex_reader.specs.declared.file.Statement.{Statement}
 use Rattle.vex_reader.specs.declared.file.VexFile.{VexFile}
 use Rattle.vex_reader.specs.File.{named}
@@ -12,12 +11,7 @@ use Rattle.vex_schedule.specs.Statements.{has_key, is_setup}
 use Rattle.vex_schedule.specs.Values.{is_name, word_at, only_word, start_in, rate_in, stay_in, chan_in}
 use Rattle.vex_schedule.specs.Schedule.{def_of, is_in_order, mode_of, stays_of, schedule_of}
 use Rattle.vex_schedule.specs.Laws.{IsTheOne}
-
--- a scan of the file under its name: one of the block `$SCHED`
-pub record HasScan (file : VexFile) (name : List ℕ) (scan : Item) : Type 0 where
-  pub block : Block
-  pub there : named file.blocks (codes "$SCHED") ≡ Some block
-  pub among : Contains block.scans (name, scan)
+use Rattle.vex_laws.specs.Stands.{HasScan}
 
 -- a station of the key takes part in a scan of the mode
 pub record Observes (file : VexFile) (mode : Item) (key : List ℕ) : Type 0 where

@@ -1,4 +1,6 @@
+pub mod Kinds
 pub mod Rows
 pub mod Places
+pub mod Stands
 pub mod Causes
 pub mod Counting

@@ -1,9 +1,15 @@
 //! What follows for every file of a schedule.
 ghost use Rattle.vex_reader.specs.declared.file.VexFile.{VexFile};
+ghost use Rattle.vex_laws.specs.Stands.{HasPlace};
 ghost use Rattle.vex_laws.specs.Causes.{HasCause};
 ghost use Rattle.vex_laws.specs.Counting.{IsOfWhatCounts, HaveOneSchedule};
 
-/// A fault has its cause at its place: a scan, a def, or a statement of these; 0 where there is no `$SCHED`.
+/// A fault is at 0 where there is no `$SCHED`, and else where a scan, a def or a statement of one begins.
+pub fn placed_fault()
+    ensures { (file : VexFile) → HasPlace file }
+{}
+
+/// What a fault says is wrong is so at its place.
 pub fn cause_at_place()
     ensures { (file : VexFile) → HasCause file }
 {}

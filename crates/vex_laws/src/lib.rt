@@ -6,7 +6,6 @@
 #![tactic(auto)]
 
 pub mod files;
-pub mod texts;
-
 #[cfg(test)]
 mod tests;
+pub mod texts;

@@ -2,8 +2,14 @@
 ghost use Rattle.std.specs.Prelude.{ℕ, List};
 ghost use Rattle.vex_reader.specs.declared.shape.Shape.{Shape};
 ghost use Rattle.vex_reader.specs.Shapes.{Mark};
+ghost use Rattle.vex_laws.specs.Kinds.{TellsWords};
 ghost use Rattle.vex_laws.specs.Rows.{HasShapeOfRow, FitsOneRow};
 ghost use Rattle.vex_laws.specs.Places.{HasPlacedFault};
+
+/// A word's bytes begin with no quotation mark and those of a quoted text with one, by which a schedule tells them.
+pub fn tells_words()
+    ensures { (text : List ℕ) → TellsWords text }
+{}
 
 /// A statement has a shape exactly where the shape's row of the table fits.
 pub fn shape_of_row()

@@ -15,7 +15,7 @@ use Rattle.vex_schedule.specs.Statements.{has_key, only, covers, is_some_text, i
 use Rattle.vex_schedule.specs.Values.{is_name, word_at, only_word, start_in, rate_in}
 use Rattle.vex_schedule.specs.Schedule.{def_of, start_of, mode_of, stay_of, stays_of, setup_rate, chan_of, chans_of, setup_in, setup_at, setup_of, pass_of, passes_of, scan_of, scans_of, schedule_of}
 use Rattle.vex_laws.proofs.Steps.{Stay, with_chans, mode_named, mode_said, setup_named, with_setup, with_passes, with_stays, with_mode, with_second}
-use Rattle.vex_laws.specs.Counting.{counts_in_scan, counts_in_mode, counts_in_setup, only_with, counted_block, counted, IsOfWhatCounts, HaveOneSchedule}
+use Rattle.vex_laws.specs.Counting.{counts_in_scan, counts_in_mode, counts_in_setup, only_with, counted_block, counted, HaveSameItems, IsOfWhatCounts, HaveOneSchedule}
 
 -- two steps that give the same, one after the other
 bind-same : {A B : Type 0} (r : Result A SchedFault) (f g : A → Result B SchedFault) → ((x : A) → f x ≡ g x) → (r >>= f) ≡ (r >>= g)
@@ -208,5 +208,52 @@ module _ (file : VexFile) where
           (λ before (scan : List ℕ × Item). scan_of (counted file) scan.0 scan.1) (λ before (scan : List ℕ × Item). scan_of file scan.0 scan.1)
           (λ before scan. scan-same scan.0 scan.1) [] block.scans
 
+-- files that have the same scans and defs
+module _ (file other : VexFile) (same : HaveSameItems file other) where
+  mode-alike : (scan : Item) → mode_of file scan ≡ mode_of other scan
+  unfolding mode_of
+  mode-alike scan =
+      bind-same (only scan.at (filter (has_key (codes "mode")) scan.statements)) (mode_said file) (mode_said other)
+      (λ s. bind-same (given (only_word s.values) BadValue s.at) (mode_named file s) (mode_named other s) (λ name. ap (λ def. given def UnknownRef s.at) (same.modes name)))
+
+  ref-alike : (ref : Statement) → setup_at file ref ≡ setup_at other ref
+  unfolding setup_at
+  ref-alike ref =
+      bind-same (given (word_at ref.values 0) BadValue ref.at) (setup_named file ref) (setup_named other ref) (λ name. ap (λ def. given def UnknownRef ref.at >>= setup_in) (same.setups name))
+
+  pass-alike : (mode : Item) (stay : Stay) → pass_of file mode stay ≡ pass_of other mode stay
+  unfolding pass_of setup_of
+  pass-alike mode stay = ap (λ r. r >>= with_setup stay) (bind-same (only mode.at (filter (is_setup stay.key) mode.statements)) (setup_at file) (setup_at other) ref-alike)
+
+  passes-alike : (mode : Item) (stays : List Stay) → passes_of file mode stays ≡ passes_of other mode stays
+  unfolding passes_of
+  passes-alike mode stays = in_turn-read (λ before stay. pass_of file mode stay) (λ before stay. pass_of other mode stay) (λ before. pass-alike mode) [] stays
+
+  second-alike : (name : List ℕ) (scan : Item) (second : ℤ) → with_second file name scan second ≡ with_second other name scan second
+  second-alike name scan second =
+      ap (λ r. r >>= with_mode file name scan second) (mode-alike scan)
+      ∙ bind-same (mode_of other scan) (with_mode file name scan second) (with_mode other name scan second)
+      (λ mode. bind-same (stays_of scan) (with_stays file name second mode) (with_stays other name second mode) (λ stays. ap (λ r. r >>= with_passes name second) (passes-alike mode stays)))
+
+  scan-alike : (name : List ℕ) (scan : Item) → scan_of file name scan ≡ scan_of other name scan
+  unfolding scan_of
+  scan-alike name scan = bind-same (cond (is_name name) (start_of scan) (Err (fault BadValue scan.at))) (with_second file name scan) (with_second other name scan) (second-alike name scan)
+
+  schedule-alike : schedule_of file ≡ schedule_of other
+  unfolding schedule_of scans_of
+  schedule-alike = by (named file.blocks (codes "$SCHED")) (named other.blocks (codes "$SCHED")) same.scans
+    where
+      by : (one two : Option Block) → option_map (λ (block : Block). block.scans) one ≡ option_map (λ (block : Block). block.scans) two
+          → (given one NoSched 0 >>= λ (block : Block). in_turn (λ before (scan : List ℕ × Item). scan_of file scan.0 scan.1) [] block.scans)
+          ≡ (given two NoSched 0 >>= λ (block : Block). in_turn (λ before (scan : List ℕ × Item). scan_of other scan.0 scan.1) [] block.scans)
+      by None None e = refl
+      by None (Some b) e = absurd cc
+      by (Some a) None e = absurd cc
+      by (Some a) (Some b) e =
+          let scans : a.scans ≡ b.scans = cc in
+          ap (in_turn (λ before (scan : List ℕ × Item). scan_of file scan.0 scan.1) []) scans
+          ∙ in_turn-read (λ before (scan : List ℕ × Item). scan_of file scan.0 scan.1) (λ before (scan : List ℕ × Item). scan_of other scan.0 scan.1)
+          (λ before scan. scan-alike scan.0 scan.1) [] b.scans
+
 pub nothing_else_counts : (file other : VexFile) → HaveOneSchedule file other
-nothing_else_counts file other same = sym (what_counts file) ∙ ap schedule_of same ∙ what_counts other
+nothing_else_counts file other same = sym (what_counts file) ∙ schedule-alike (counted file) (counted other) same ∙ what_counts other

@@ -1,12 +1,13 @@
 -- What of a file counts for its schedule.
-use Rattle.std.specs.Prelude.{◌≡◌, ℕ, Bool, ◌||◌, if◌then◌else◌, List, [], map, filter, codes, bytes_eq}
+use Rattle.std.specs.Prelude.{◌≡◌, ℕ, Bool, ◌||◌, if◌then◌else◌, List, [], map, filter, codes, bytes_eq, option_map}
 use Rattle.vex_reader.specs.declared.file.Item.{Item}
 use Rattle.vex_reader.specs.declared.file.Block.{Block}
 use Rattle.vex_reader.specs.declared.file.Statement.{Statement}
 use Rattle.vex_reader.specs.declared.file.VexFile.{VexFile}
+use Rattle.vex_reader.specs.File.{named}
 use Rattle.vex_schedule.specs.Statements.{has_key}
 use Rattle.vex_schedule.specs.Covering.{is_to_freq}
-use Rattle.vex_schedule.specs.Schedule.{schedule_of}
+use Rattle.vex_schedule.specs.Schedule.{def_of, schedule_of}
 
 -- the statements that count in a scan
 abbrev pub counts_in_scan : Statement → Bool
@@ -51,6 +52,12 @@ counted file = record { blocks = map (λ block. (block.0, counted_block block.0 
 abbrev pub IsOfWhatCounts : VexFile → Type 0
 IsOfWhatCounts file = schedule_of (counted file) ≡ schedule_of file
 
--- files that differ in nothing that counts have one schedule, or one fault
+-- two files have the same scans, and under each name the same defs of `$MODE` and of `$FREQ`
+pub record HaveSameItems (file other : VexFile) : Type 0 where
+  pub scans : option_map (λ block. block.scans) (named file.blocks (codes "$SCHED")) ≡ option_map (λ block. block.scans) (named other.blocks (codes "$SCHED"))
+  pub modes : (name : List ℕ) → def_of file (codes "$MODE") name ≡ def_of other (codes "$MODE") name
+  pub setups : (name : List ℕ) → def_of file (codes "$FREQ") name ≡ def_of other (codes "$FREQ") name
+
+-- files that have the same of what counts have one schedule, or one fault
 abbrev pub HaveOneSchedule : VexFile → VexFile → Type 0
-HaveOneSchedule file other = counted file ≡ counted other → schedule_of file ≡ schedule_of other
+HaveOneSchedule file other = HaveSameItems (counted file) (counted other) → schedule_of file ≡ schedule_of other

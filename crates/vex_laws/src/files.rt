@@ -19,7 +19,7 @@ pub fn what_counts()
     ensures { (file : VexFile) → IsOfWhatCounts file }
 {}
 
-/// What does not count can be taken out or put in.
+/// What does not count can be taken out or put in, and blocks and defs can stand in any order.
 pub fn nothing_else_counts()
     ensures { (file other : VexFile) → HaveOneSchedule file other }
 {}

@@ -1,0 +1,7 @@
+use Rattle.std.proofs.Common.{All}
+use Rattle.piece_plan.specs.Epochs.{IsScan}
+use Rattle.journal_cases.proofs.plan.plan_of.Given as goal
+
+-- each scan so far has the size of one
+abbrev pub invariant-loop-word : goal.invariant-loop-word
+invariant-loop-word l = All (IsScan l.lags) l.scans.items

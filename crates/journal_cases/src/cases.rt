@@ -1,0 +1,131 @@
+//! What the lines ask.
+
+use crate::answer::{print_brought, print_fault, print_file, print_kept, print_look};
+use crate::epoch::Epoch;
+use crate::job::Job;
+use crate::table::{print_fails, print_stops};
+use crate::texts::{append_line, append_runs, numbers_of, set_byte};
+use anyhow::{Context, Result, bail};
+use mem_devices::MemDisk;
+use std::alloc::Global;
+use std::mem;
+
+/// The texts and the recordings that the lines have described since the last job, that job, and the file.
+#[derive(Drop)]
+pub struct Cases {
+    alloc: Global,
+    schedule: Vec<u8>,
+    text: Vec<u8>,
+    recordings: Vec<u64>,
+    job: Option<Job>,
+    file: Vec<u8>,
+}
+
+impl Cases {
+    pub fn new(alloc: Global) -> Cases {
+        Cases {
+            alloc,
+            schedule: Vec::new(alloc),
+            text: Vec::new(alloc),
+            recordings: Vec::new(alloc),
+            job: None,
+            file: Vec::new(alloc),
+        }
+    }
+
+    /// Reads a line, and prints the answer where it asks.
+    pub fn read(&mut self, rt: &impl Print, word: &str, rest: &str) -> Result<()> {
+        match word {
+            "case" => self.begin(rt, rest)?,
+            "show" => print_file(rt, self.alloc, &self.file)?,
+            "look" => self.look(rt)?,
+            "open" => self.open(rt)?,
+            "run" => self.run(rt)?,
+            "stops" => print_stops(rt, self.alloc, self.job()?, &self.file)?,
+            "fails" => print_fails(rt, self.alloc, self.job()?, &self.file)?,
+            _ => self.describe(word, rest)?,
+        }
+        Ok(())
+    }
+
+    // A line of a job or a file.
+    fn describe(&mut self, word: &str, rest: &str) -> Result<()> {
+        match word {
+            "schedule" => append_line(&mut self.schedule, rest)?,
+            "line" => append_line(&mut self.text, rest)?,
+            "text" => self.text.extend_from_slice(rest.as_bytes())?,
+            "recordings" => self.recordings = numbers_of(self.alloc, rest)?,
+            "job" => self.end_job(rest)?,
+            "epoch" => self.add_epoch(rest)?,
+            "bytes" => append_runs(&mut self.file, rest)?,
+            "byte" => set_byte(&mut self.file, rest)?,
+            "cut" => self.file.truncate(rest.parse::<usize>()?),
+            _ => bail!("no such line"),
+        }
+        Ok(())
+    }
+
+    // Another case.
+    fn begin(&mut self, rt: &impl Print, name: &str) -> Result<()> {
+        *self = Cases::new(self.alloc);
+        println!(rt; "{name}")?;
+        Ok(())
+    }
+
+    // The texts and the recordings are those of a job.
+    fn end_job(&mut self, rest: &str) -> Result<()> {
+        let schedule = mem::replace(&mut self.schedule, Vec::new(self.alloc));
+        let text = mem::replace(&mut self.text, Vec::new(self.alloc));
+        let recordings = mem::replace(&mut self.recordings, Vec::new(self.alloc));
+        self.job = Some(Job::new(self.alloc, &schedule, &text, &recordings, rest)?);
+        Ok(())
+    }
+
+    // One more epoch of the job.
+    fn add_epoch(&mut self, rest: &str) -> Result<()> {
+        let epoch = Epoch::read(self.alloc, rest)?;
+        self.job.as_mut().context("no job")?.add(epoch)
+    }
+
+    fn job(&self) -> Result<&Job> {
+        Ok(self.job.as_ref().context("no job")?)
+    }
+
+    // The disk with the file.
+    fn disk(&self) -> Result<MemDisk> {
+        let file = self.file.to_vec(self.alloc)?;
+        Ok(MemDisk::new(self.alloc, file, Vec::new(self.alloc), None)?)
+    }
+
+    // The file is what a disk holds.
+    fn keep(&mut self, disk: &MemDisk) -> Result<()> {
+        self.file = disk.bytes().to_vec(self.alloc)?;
+        Ok(())
+    }
+
+    fn look(&mut self, rt: &impl Print) -> Result<()> {
+        let mut disk = self.disk()?;
+        print_look(rt, self.job()?.look(self.alloc, &mut disk))?;
+        println!(rt; "")?;
+        self.keep(&disk)
+    }
+
+    fn open(&mut self, rt: &impl Print) -> Result<()> {
+        let mut disk = self.disk()?;
+        let job = self.job()?;
+        match job.open(self.alloc, &mut disk) {
+            Ok(mut journal) => print_kept(rt, self.alloc, job, &mut disk, &mut journal)?,
+            Err(fault) => print_fault(rt, fault)?,
+        }
+        println!(rt; "")?;
+        self.keep(&disk)
+    }
+
+    fn run(&mut self, rt: &impl Print) -> Result<()> {
+        let mut disk = self.disk()?;
+        let brought = self.job()?.bring(self.alloc, &mut disk)?;
+        print_brought(rt, brought)?;
+        println!(rt; "")?;
+        self.keep(&disk)
+    }
+}

@@ -1,10 +1,28 @@
 # make demo    build the proved program and correlate the recordings of demo/ by its two jobs
 # make test    prove everything, try the edits that must fail, run the tests and the programs
+# make fringe  simulate two stations, correlate them, draw the fringe in fringe/ and compare it with theory
+# make install PREFIX=/usr/local DESTDIR=    install the program, its manual pages, the Python tools and modules, and the documents
+# make deb     make a Debian package of what is installed, bin/vlbi_VERSION_ARCH.deb
+#
+# With CPU=x86-64-v3 the program that is installed or packed is built for processors with AVX2, from the same proved source.
+
+PREFIX = /usr/local
+DESTDIR =
+CPU =
+PYTHON = /usr/bin/python3
+VERSION := 0.1$(shell git log -1 --date=format:%Y%m%d --format=+%cd.%h 2> /dev/null)
+ARCH = $(shell dpkg --print-architecture)
 
 PROGRAM = crates/vlbi_main/out/vlbi_main
 SOURCES = crates.txt $(shell find crates -path '*/out' -prune -o \( -name '*.rt' -o -name '*.antt' \) -print)
+BUILT = bin/vlbi$(CPU:%=-%)
 
-.PHONY: demo test
+TO = $(DESTDIR)$(PREFIX)
+# Debian's python3 looks for modules in one folder below /usr, and below /usr/local in one for each version.
+LIB = lib/$(if $(filter /usr/local,$(PREFIX)),$(shell $(PYTHON) -c 'import sys; print("python%d.%d" % sys.version_info[:2])'),python3)/dist-packages
+PACKAGE = bin/vlbi_$(VERSION)_$(ARCH).deb
+
+.PHONY: demo test fringe install deb
 
 demo: bin/vlbi
 	@cd demo && ../bin/vlbi journal plain --job job.txt > records.vis
@@ -19,6 +37,35 @@ demo: bin/vlbi
 test:
 	bash .ci/run
 
+fringe: bin/vlbi
+	@$(PYTHON) tools/tests/fringe.py bin/vlbi fringe
+
+# The tools are kept in one folder, where they find each other; the commands and Python's folder of modules have links to them.
+install: $(BUILT)
+	@install -d $(TO)/bin $(TO)/share/vlbi $(TO)/$(LIB) $(TO)/share/man/man1 $(TO)/share/doc/vlbi/docs/pictures $(TO)/share/doc/vlbi/demo
+	@install -m 755 $(BUILT) $(TO)/bin/vlbi
+	@install -m 644 tools/vlbi_*.py $(TO)/share/vlbi
+	@chmod 755 $(TO)/share/vlbi/vlbi_plot.py $(TO)/share/vlbi/vlbi_simulate.py
+	@ln -sf ../share/vlbi/vlbi_plot.py $(TO)/bin/vlbi-plot
+	@ln -sf ../share/vlbi/vlbi_simulate.py $(TO)/bin/vlbi-simulate
+	@for file in tools/vlbi_*.py; do ln -sf ../../../share/vlbi/$${file##*/} $(TO)/$(LIB); done
+	@for page in man/*.1; do gzip -9nc $$page > $(TO)/share/man/man1/$${page##*/}.gz; done
+	@install -m 644 README.md $(TO)/share/doc/vlbi
+	@install -m 644 docs/*.md $(TO)/share/doc/vlbi/docs
+	@install -m 644 docs/pictures/* $(TO)/share/doc/vlbi/docs/pictures
+	@install -m 644 demo/*.vdif demo/*.txt demo/*.vex $(TO)/share/doc/vlbi/demo
+	@echo "installed in $(TO)"
+
+deb: $(BUILT)
+	@rm -rf bin/deb
+	@$(MAKE) -s install PREFIX=/usr DESTDIR=bin/deb > /dev/null
+	@install -d bin/deb/DEBIAN
+	@sed -e 's/@VERSION@/$(VERSION)/; s/@ARCH@/$(ARCH)/' -e "s/@SIZE@/$$(du -sk bin/deb/usr | cut -f 1)/" \
+	    -e "s/@LIBC@/$$(grep -ao 'GLIBC_[0-9.]*' $(BUILT) | sed 's/GLIBC_//' | sort -V | tail -1)/" packaging/control > bin/deb/DEBIAN/control
+	@dpkg-deb --root-owner-group --build bin/deb $(PACKAGE) > /dev/null
+	@rm -r bin/deb
+	@echo $(PACKAGE)
+
 bin/vlbi: $(PROGRAM)
 	@mkdir -p bin
 	@cp $(PROGRAM) bin/vlbi
@@ -27,4 +74,11 @@ bin/vlbi: $(PROGRAM)
 $(PROGRAM): $(SOURCES)
 	@rm -f $(PROGRAM)
 	@cd crates/vlbi_main && rt run -- journal > build.log 2>&1; test -x out/vlbi_main || { cat build.log; exit 1; }
+	@rm -f crates/vlbi_main/build.log
+
+# The same for one kind of processor. What it builds takes the place of the program for all, which is put back.
+bin/vlbi-%: bin/vlbi
+	@cd crates/vlbi_main && rm -f out/vlbi_main && rt run --cpu=$* -- journal > build.log 2>&1; test -x out/vlbi_main || { cat build.log; exit 1; }
+	@mv $(PROGRAM) $@
+	@cp -p bin/vlbi $(PROGRAM)
 	@rm -f crates/vlbi_main/build.log

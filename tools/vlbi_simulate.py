@@ -23,6 +23,7 @@ import vlbi_job
 THRESHOLD = 0.9957  # the greatest signal to noise of levels -3, -1, +1, +3, in standard deviations of the samples
 BLOCK = 1 << 16     # samples that are made at once
 FINER = 4           # places between two samples at which the common noise is computed, before it is read between them
+KNOTS = (32768, 4096, 512, 64)
 HEAD_BYTES = 32
 MOST_DATA = 8000    # bytes of data in a frame, at most
 
@@ -97,6 +98,27 @@ class Sky:
     @property
     def frame_bytes(self):
         return HEAD_BYTES + self.frame_samples * self.bits * self.in_frame // 8
+
+    def model_lines(self, station):
+        """The `clock` and the `poly` line of a station, for the job's knot."""
+        drift = station.clock[1] if len(station.clock) > 1 else 0
+        return [
+            vlbi_job.clock_line(station.key, self.start, station.clock[0] * 1e6, drift, self.rate),
+            vlbi_job.poly_line(station.key, self.start, station.delay, self.rate, self.knot),
+        ]
+
+    @property
+    def knot(self):
+        """The job's knot: the largest of these with which a job can hold the delays of all stations, over the whole scan."""
+        for knot in KNOTS:
+            try:
+                for station in self.stations:
+                    vlbi_job.poly_line(station.key, self.start, station.delay, self.rate, knot)
+            except vlbi_job.JobFault:
+                continue
+            if knot * 2 ** 24 > self.rate * self.seconds:
+                return knot
+        raise vlbi_job.JobFault("no job can hold these delays")
 
 
 class CommonNoise:
@@ -278,7 +300,7 @@ scan No0001;
 
 def job_text(sky, lags, integration, model=True, auto=False):
     """The job's text; with `model` it has the delays and clocks of the stations, with `auto` the stations with themselves too."""
-    lines = [f"lags {lags}", f"integration {integration}", f"epoch {min(integration, 1 << 20)}", *["auto"] * auto]
+    lines = [f"lags {lags}", f"integration {integration}", f"epoch {min(integration, 1 << 20)}", f"knot {sky.knot}", *["auto"] * auto]
     for number, station in enumerate(sky.stations, 1):
         key = station.key
         lines.append(f"station {key} {number} {sky.bits} {sky.in_frame} {sky.frame_bytes}")
@@ -286,9 +308,7 @@ def job_text(sky, lags, integration, model=True, auto=False):
         for channel, name in enumerate(sky.names):
             lines.append(f"chan {key} {name} {channel} 0" if sky.apart else f"chan {key} {name} 0 {channel}")
         if model:
-            drift = station.clock[1] if len(station.clock) > 1 else 0
-            lines.append(vlbi_job.clock_line(key, sky.start, station.clock[0] * 1e6, drift, sky.rate))
-            lines.append(vlbi_job.poly_line(key, sky.start, station.delay, sky.rate))
+            lines += sky.model_lines(station)
     lines += [f"product {name} {name}" for name in sky.names]
     return "\n".join(lines) + "\n"
 

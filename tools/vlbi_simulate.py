@@ -10,11 +10,13 @@ and the job blind.txt, which knows nothing of them. Then, in FOLDER,
     vlbi-plot sky.vis
 """
 import argparse
+import calendar
 import dataclasses
 import functools
 import os
 import struct
 import sys
+import time
 
 import numpy
 
@@ -239,17 +241,11 @@ class Recording:
 
 def reference_epoch(second):
     """The number of the VDIF reference epoch in which a second since 1970-01-01 lies, and the second with which it begins."""
-    def begins(epoch):
-        return vlbi_job.second_of(f"{2000 + epoch // 2}y001d00h00m00s") if epoch % 2 == 0 else july(2000 + epoch // 2)
-
-    epoch = max(epoch for epoch in range(64) if begins(epoch) <= second)
-    return epoch, begins(epoch)
-
-
-def july(year):
-    """The second since 1970-01-01 of 1 July of a year, 00:00."""
-    leap = year % 4 == 0 and (year % 100 != 0 or year % 400 == 0)
-    return vlbi_job.second_of(f"{year}y{183 if leap else 182}d00h00m00s")
+    year, month = time.gmtime(second)[:2]
+    half = int(month > 6)
+    if not 2000 <= year < 2032:
+        raise ValueError(f"no VDIF reference epoch in the year {year}")
+    return 2 * (year - 2000) + half, calendar.timegm((year, 7 if half else 1, 1, 0, 0, 0))
 
 
 def write_recordings(sky, folder):

@@ -97,7 +97,8 @@ def draw_phases(axes, places, means, colour):
     there = amplitudes > 0
     strength = numpy.clip(amplitudes[there] / amplitudes[there].max(initial=1e-300), 0.1, 1)
     size = 9 if len(places) <= 400 else 3
-    axes.scatter(places[there], numpy.angle(means[there], deg=True), s=size, color=colour, alpha=strength, linewidths=0)
+    if there.any():
+        axes.scatter(places[there], numpy.angle(means[there], deg=True), s=size, color=colour, alpha=strength, linewidths=0)
     axes.set_ylim(-190, 190)
     axes.set_yticks((-180, -90, 0, 90, 180))
     axes.grid(axis="y", color="#dddddd", linewidth=0.6)
@@ -303,6 +304,9 @@ def main(words=None):
     except (OSError, LookupError, vlbi_records.RecordFault) as error:
         print(f"vlbi-plot: {error.args[0] if isinstance(error, LookupError) else error}", file=sys.stderr)
         return 1
+    if scan.samples == 0:
+        print(f"vlbi-plot: scan {scan.name} has no samples", file=sys.stderr)
+        return 1
     pairs = pairs_of(scan, given.baseline, given.product, given.auto)
     if not pairs:
         print(f"vlbi-plot: scan {scan.name} has no such baseline and product: baselines {', '.join('-'.join(it) for it in scan.baseline_keys)};"
@@ -310,8 +314,7 @@ def main(words=None):
         return 1
     begins = time.strftime("%Y-%m-%d %H:%M:%S", time.gmtime(scan.start))
     title = f"{os.path.basename(given.records)}   scan {scan.name}   {begins} UTC   {scan.samples / records.head.rate:g} s"
-    draw(pairs, given, title)
-    return 0
+    return draw(pairs, given, title)
 
 
 def chosen_scan(records, name):
@@ -325,11 +328,14 @@ def chosen_scan(records, name):
 
 
 def draw(pairs, given, title):
-    """Draws the Pairs as the command asks, into a window or into files, whose names are printed."""
+    """Draws the Pairs as the command asks, into a window or into files, whose names are printed; the exit status."""
     if given.picture:
         matplotlib.use("Agg")
     from matplotlib import pyplot  # once it is known whether there are windows
 
+    if not given.picture and matplotlib.get_backend().lower() == "agg":
+        print("vlbi-plot: there are no windows here: name a picture", file=sys.stderr)
+        return 1
     for number, figure in enumerate(figures(pyplot, pairs, given.what, title)):
         if given.picture:
             path = numbered(given.picture, number)
@@ -337,6 +343,7 @@ def draw(pairs, given, title):
             print(path)
     if not given.picture:
         pyplot.show()
+    return 0
 
 
 if __name__ == "__main__":

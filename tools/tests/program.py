@@ -5,6 +5,7 @@ import unittest
 
 PROGRAM = os.environ.get("VLBI")
 COMMANDS = os.environ.get("VLBI_COMMANDS", "").split()
+WORDS = {"dump": ("file",), "gen": ("--seed", "7", "--seconds", "1", "--workers", "1", "--piece", "64")}
 
 
 def call(*words, folder=None):
@@ -18,6 +19,6 @@ def needs(test, command):
     if not PROGRAM:
         raise unittest.SkipTest("VLBI names no program")
     if command not in COMMANDS:
-        answer = call("journal", command)
+        answer = call("journal", command, *WORDS[command])
         test.assertEqual(answer, (2, b"", b"vlbi: words: UnknownCommand\n"), f"the program has {command} now: name it in .ci/tools")
         raise unittest.SkipTest(f"the program has no command {command}")

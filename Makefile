@@ -10,7 +10,7 @@ PREFIX = /usr/local
 DESTDIR =
 CPU =
 PYTHON = /usr/bin/python3
-VERSION := 0.1$(shell git log -1 --date=format:%Y%m%d --format=+%cd.%h 2> /dev/null)
+VERSION := 0.1$(shell git rev-parse 2> /dev/null && echo .$$(git rev-list --count HEAD)+$$(git rev-parse --short HEAD))
 ARCH = $(shell dpkg --print-architecture)
 
 PROGRAM = crates/vlbi_main/out/vlbi_main
@@ -57,7 +57,7 @@ install: $(BUILT)
 	@echo "installed in $(TO)"
 
 deb: $(BUILT)
-	@rm -rf bin/deb
+	@rm -rf bin/deb bin/vlbi_*.deb
 	@$(MAKE) -s install PREFIX=/usr DESTDIR=bin/deb > /dev/null
 	@install -d bin/deb/DEBIAN
 	@sed -e 's/@VERSION@/$(VERSION)/; s/@ARCH@/$(ARCH)/' -e "s/@SIZE@/$$(du -sk bin/deb/usr | cut -f 1)/" \

@@ -73,6 +73,12 @@ class Sky:
     invalid: float = 0.0
     seed: int = 1
 
+    def __post_init__(self):
+        if not self.stations or min(self.rate, self.seconds, self.channels) < 1:
+            raise ValueError("there are no stations, samples, seconds or channels")
+        if not all(0 <= part <= 1 for part in (self.common, self.missing, self.invalid)):
+            raise ValueError("a part lies between 0 and 1")
+
     @property
     def names(self):
         """The channels' names."""
@@ -91,9 +97,11 @@ class Sky:
     @property
     def frame_samples(self):
         """The complete samples in a frame: the most that fill whole words, go evenly into a second and are few enough bytes."""
-        word = 64 // (self.bits * self.in_frame)
+        if self.in_frame not in (1, 2, 4, 8, 16, 32, 64):
+            raise ValueError(f"{self.in_frame} channels cannot stand in one frame: their number is a power of two up to 64, or they stand apart")
+        word = max(1, 64 // (self.bits * self.in_frame))
         fits = [many for many in range(word, MOST_DATA * 8 // (self.bits * self.in_frame) + 1, word) if self.rate % many == 0]
-        if word == 0 or not fits:
+        if not fits:
             raise ValueError(f"no frame goes evenly into a second of {self.rate} samples")
         return fits[-1]
 
@@ -367,7 +375,7 @@ def main(words=None):
     parser.add_argument("--auto", action="store_true", help="the jobs correlate each station with itself too")
     given = parser.parse_args(words)
     stations = given.station or [Station("Ef"), station_of("Wb,delay=4.95:0.01,clock=2.5")]
-    apart = given.apart or given.channels & given.channels - 1 != 0
+    apart = given.apart or given.channels > 64 or given.channels & given.channels - 1 != 0
     try:
         sky = Sky(tuple(stations), given.rate, given.seconds, vlbi_job.second_of(given.start), given.channels, given.frequency, given.sideband,
                   given.common, given.bits, apart, given.missing, given.invalid, given.seed)

@@ -110,8 +110,14 @@ class Recordings(unittest.TestCase):
                 vlbi_simulate.station_of(words)
 
     def test_no_frame_fits(self):
-        with self.assertRaises(ValueError):
-            dataclasses.replace(SMALL, rate=1_000_003).frame_samples
+        for changes in ({"rate": 1_000_003}, {"channels": 3}, {"channels": 128}):
+            with self.assertRaises(ValueError):
+                dataclasses.replace(SMALL, **changes).frame_samples
+        for changes in ({"stations": ()}, {"seconds": 0}, {"common": 1.5}, {"missing": -0.1}):
+            with self.assertRaises(ValueError):
+                dataclasses.replace(SMALL, **changes)
+        # 64 channels of two bits are two words
+        self.assertEqual(dataclasses.replace(SMALL, channels=64).frame_samples, 500)
 
 
 def standing(scan, product, baseline):

@@ -380,7 +380,7 @@ def main(words=None):
         sky = Sky(tuple(stations), given.rate, given.seconds, vlbi_job.second_of(given.start), given.channels, given.frequency, given.sideband,
                   given.common, given.bits, apart, given.missing, given.invalid, given.seed)
         simulate(sky, given.folder, given.lags, given.integration, given.blind_integration, given.auto)
-    except ValueError as error:
+    except (OSError, ValueError) as error:
         parser.error(str(error))
     return 0
 

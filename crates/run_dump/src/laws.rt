@@ -6,6 +6,6 @@ ghost use Rattle.vis_records.specs.Content.{Content};
 ghost use Rattle.run_dump.specs.Shown.{RecordsOf};
 
 /// The file under a name comes to one content, or to one answer, and never to two.
-pub fn one_outcome()
+pub fn one_shown()
     ensures { (files : Files) (name : List ℕ) (a b : Result Content Answer) → RecordsOf files name a → RecordsOf files name b → a ≡ b }
 {}

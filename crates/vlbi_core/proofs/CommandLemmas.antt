@@ -1,59 +1,91 @@
 -- What each command did.
-use Rattle.std.specs.Prelude.{OnOk, IfErr, IsSome, slice_get}
-use Rattle.std.proofs.Common.{◌≡◌, ◌∙◌, ◌⊎◌, inl, inr, ⊎_elim, ℕ, ◌+◌, ◌≤◌, ◌<◌, Bool, true, false, List, [], ◌++◌, length, Option, Some, None, Result, Ok, Err, refl, sym, ap, subst, arith}
+use Rattle.std.specs.Prelude.{IfErr, IsSome}
+use Rattle.std.proofs.Common.{◌≡◌, ◌∙◌, inl, inr, ℕ, Bool, true, false, List, Option, Some, None, Result, Ok, Err, refl, sym, ap, subst}
 use Rattle.dev_traits.specs.Told.{more, PrefixMore, WhereTold}
-use Rattle.dev_traits.specs.Moments.{Runs}
 use Rattle.sink_text.specs.Appends.{Appends}
 use Rattle.corr_model.specs.Files.{Files}
-use Rattle.piece_plan.specs.Epochs.{JobSizes, epochs_of}
 use Rattle.job_plan.specs.declared.plan.Plan.{Plan}
 use Rattle.job_plan.specs.Output.{output}
-use Rattle.job_epochs.specs.Sizes.{sizes_of}
-use Rattle.job_epochs.specs.Sums.{sums_of}
-use Rattle.checkpoint_journal.specs.Cells.{body_text}
-use Rattle.checkpoint_journal.specs.declared.fault.Differs.{Differs}
-use Rattle.checkpoint_journal.specs.Image.{reading, kept_in, body_sizes}
-use Rattle.checkpoint_journal.specs.Finding.{ReadsMany, IsOther}
-use Rattle.checkpoint_journal.specs.Standing.{JournalState, Keeps, Stands}
-use Rattle.checkpoint_journal.specs.Runs.{Looks, Changes, StepTold, KeepsBodies}
-use Rattle.checkpoint_journal.proofs.RunLemmas.{looks_none, changes_looks, changes_both, durable_looks, told_value}
+use Rattle.checkpoint_journal.specs.Runs.{Looks}
+use Rattle.checkpoint_journal.proofs.RunLemmas.{looks_none}
 use Rattle.run_words.specs.declared.fault.WordsFault.{WordsFault}
 use Rattle.run_words.specs.declared.order.Order.{Order}
 use Rattle.run_words.specs.declared.order.Order.TheVariants.{Run, Plain, Check, Status, Dump, Gen}
-use Rattle.run_notes.specs.declared.refusal.Due.{Due}
-use Rattle.run_notes.specs.declared.refusal.Due.TheVariants.{Words, Vex, Schedule, Job, Join, Limit, NoFile, Recording, Other}
+use Rattle.run_notes.specs.declared.refusal.Due.TheVariants.{Words, Vex, Schedule, Job, Join, Limit, NoFile, Recording, Records, Other}
 use Rattle.run_notes.specs.declared.refusal.Refusal.{Refusal}
 use Rattle.run_notes.specs.declared.refusal.Refusal.TheVariants.{Memory, Due as DueRefusal, Read, Journal, Write}
 use Rattle.run_notes.specs.Answers.{Answer, words_answer}
 use Rattle.run_notes.specs.Refusals.{Outcomes, IsCause}
 use Rattle.run_ready.specs.Steps.{answered}
-use Rattle.run_ready.specs.Outcome.{job_names, SurveyOf, PlanOf}
+use Rattle.run_ready.specs.Outcome.{SurveyOf, PlanOf}
 use Rattle.run_ready.specs.Stage.{IsOfFiles}
-use Rattle.run_ready.specs.Identities.{identity_under}
 use Rattle.station_stream.specs.declared.recording.Recording.{Recording as StationRecording}
 use Rattle.station_stream.specs.Recorded.{AreRecorded}
-use Rattle.run_journal.specs.Extended.{IsSummed, AreFrom, Extends}
-use Rattle.run_journal.specs.Refused.{IsRefusedFor, KeepsNamed}
-use Rattle.run_records.specs.Kept.{WritesKept, kept_text}
-use Rattle.run_records.specs.Refused.{IsOfRecords}
-use Rattle.run_summary.specs.Summaries.{check_text, kept_line}
-use Rattle.vis_writer.specs.Writes.{Appended}
-use Rattle.vis_writer.proofs.WritesLemmas.{where_then, where_both}
-use Rattle.vlbi_core.specs.Calls.{Call, PlanFor, identity_for, sizes_for, bodies_for, kept_for, is_run, uses_journal}
-use Rattle.vlbi_core.specs.Texts.{IsSums, IsText, IsPart, epochs_for}
-use Rattle.vlbi_core.specs.Restart.{IsHonest, IsRunOf, IsNoRun}
+use Rattle.run_summary.specs.Summaries.{check_text}
+use Rattle.vis_records.specs.Content.{Content}
+use Rattle.vis_records.specs.Dumped.{dump_text}
+use Rattle.run_dump.specs.Shown.{RecordsOf, Shows, IsOfFilesOrOutput as ShowsStage}
+use Rattle.vlbi_core.specs.Sample.{SampleOf, sample_text}
+use Rattle.vlbi_core.specs.Calls.{Call, Task, OfJob, OfRecords, PlanFor, JobFor, TaskFor, is_run, uses_journal}
+use Rattle.vlbi_core.specs.Texts.{IsText, IsPart}
 use Rattle.vlbi_core.specs.Faults.{written_with}
-use Rattle.vlbi_core.specs.Steps.{OutcomeFrom, IsOfWords, IsBehindWords, IsPartOf, IsPartlyOf, Tells, IsOfFilesOrOutput, MatchDue, MatchEarly, IsCheckOrder, IsPlainOrder, IsLookedFor, IsOpened, IsCauseOf, IsPartly, IsDone, Does, MatchVerdict, Leaves, IsRunOrder, IsStatusOrder}
-use Rattle.vlbi_core.proofs.ExtendLemmas.{some_bodies, AreFrom-append, AreFrom-at, Extends-stays, Extends-joins, Extends-split, kept-of}
+use Rattle.vlbi_core.specs.Steps.{OutcomeFrom, IsOfWords, IsBehindWords, IsPartOf, IsPartlyOf, Tells, IsOfFilesOrOutput, MatchDue, MatchEarly, IsCheckOrder, IsPlainOrder, IsOpened, IsCauseOf, IsPartly, Does, MatchVerdict, Leaves, IsRunOrder, IsStatusOrder}
 
 abbrev pub call_of : Order → Plan → Call
 call_of order plan = record { order = order; plan = plan }
 
-pub planned : (files : Files) (order : Order) (plan : Plan) → PlanFor files order (Ok plan) → OutcomeFrom (Ok order) files (Ok (call_of order plan))
-planned files order plan there = (order, refl, (refl, there))
+-- an order of a job
+abbrev pub IsJobOf : Files → Order → Type 0
+IsJobOf files order = (o : Result Task Answer) → JobFor files order o → TaskFor files order o
+
+pub planned : (files : Files) (order : Order) (plan : Plan) → IsJobOf files order → PlanFor files order (Ok plan) → OutcomeFrom (Ok order) files (Ok (OfJob (call_of order plan)))
+planned files order plan of_job there = (order, refl, of_job (Ok (OfJob (call_of order plan))) (refl, there))
 
 pub not_both : (b : Bool) → b ≡ true → b ≡ false → ⊥
 not_both b first second = cc
+
+pub one-job : (a b : Call) → OfJob a ≡ OfJob b → a ≡ b
+one-job a b same = cc
+
+-- a task that leaves the journal alone
+abbrev pub IsAlone : Task → Type 0
+IsAlone (OfJob call) = (uses_journal call.order ≡ false) × (is_run call.order ≡ false)
+IsAlone (OfRecords content) = Unit {0}
+
+opened-alone : (files : Files) (task : Task) (before : Option (List ℕ)) → IsAlone task → IsOpened files task before
+opened-alone files (OfJob call) before alone = λ uses. absurd (not_both (uses_journal call.order) uses alone.0)
+opened-alone files (OfRecords content) before alone = tt
+
+alone-not : (task : Task) (call : Call) → IsAlone task → task ≡ OfJob call → is_run call.order ≡ true → ⊥
+alone-not task call alone same run = not_both (is_run call.order) run (subst IsAlone same alone).1
+
+-- ---- what showing a record file did
+
+shows-stage : (result : Result (Unit {0}) Refusal) → IfErr result ShowsStage → IfErr result IsOfFilesOrOutput
+shows-stage (Ok x) stage = tt
+shows-stage (Err Memory) stage = tt
+shows-stage (Err (DueRefusal (Words fault))) stage = absurd stage
+shows-stage (Err (DueRefusal (Vex fault))) stage = tt
+shows-stage (Err (DueRefusal (Schedule fault))) stage = tt
+shows-stage (Err (DueRefusal (Job fault))) stage = tt
+shows-stage (Err (DueRefusal (Join fault name))) stage = tt
+shows-stage (Err (DueRefusal (Limit quantity value))) stage = tt
+shows-stage (Err (DueRefusal (NoFile name))) stage = tt
+shows-stage (Err (DueRefusal (Recording key field))) stage = tt
+shows-stage (Err (DueRefusal (Records fault))) stage = tt
+shows-stage (Err (DueRefusal (Other d))) stage = absurd stage
+shows-stage (Err Read) stage = tt
+shows-stage (Err (Journal kept)) stage = absurd stage
+shows-stage (Err Write) stage = tt
+
+shows-tells : (outcomes : Outcomes Content) (old new : Option (List ℕ)) (result : Result (Unit {0}) Refusal) → IfErr result ShowsStage → Shows outcomes old new result
+    → Tells outcomes dump_text old new result
+shows-tells outcomes old new (Ok x) stage shows = record { done = shows.done; cause = tt; part = tt }
+shows-tells outcomes old new (Err Memory) stage shows = record { done = tt; cause = tt; part = inl shows.part }
+shows-tells outcomes old new (Err (DueRefusal due)) stage shows = record { done = tt; cause = shows.cause; part = shows.part }
+shows-tells outcomes old new (Err Read) stage shows = record { done = tt; cause = tt; part = inl shows.part }
+shows-tells outcomes old new (Err (Journal kept)) stage shows = absurd stage
+shows-tells outcomes old new (Err Write) stage shows = record { done = tt; cause = shows.cause; part = shows.part }
 
 pub is_some_at : (o : Option (List (List ℕ))) (bodies : List (List ℕ)) → o ≡ Some bodies → IsSome o
 is_some_at o bodies e = subst (λ (q : Option (List (List ℕ))). IsSome q) (sym e) refl
@@ -71,33 +103,35 @@ words-cause wanted files images before after old new (DueRefusal (Join fault nam
 words-cause wanted files images before after old new (DueRefusal (Limit quantity value)) of = absurd of
 words-cause wanted files images before after old new (DueRefusal (NoFile name)) of = absurd of
 words-cause wanted files images before after old new (DueRefusal (Recording key field)) of = absurd of
+words-cause wanted files images before after old new (DueRefusal (Records fault)) of = absurd of
 words-cause wanted files images before after old new (DueRefusal (Other d)) of = absurd of
 words-cause wanted files images before after old new Read of = absurd of
 words-cause wanted files images before after old new (Journal kept) of = absurd of
 words-cause wanted files images before after old new Write of = absurd of
 
-files-cause : (files : Files) (order : Order) (images : List ℕ → Type 0) (before after old new : Option (List ℕ)) (r : Refusal)
+files-cause : (files : Files) (order : Order) → IsJobOf files order → (images : List ℕ → Type 0) (before after old new : Option (List ℕ)) (r : Refusal)
     → IsOfFiles r → IsCause r (PlanFor files order) → IsCauseOf r (OutcomeFrom (Ok order) files) files images before after old new
-files-cause files order images before after old new Memory stage cause = tt
-files-cause files order images before after old new (DueRefusal (Words fault)) stage cause = absurd stage
-files-cause files order images before after old new (DueRefusal (Vex fault)) stage cause = inr (order, refl, cause)
-files-cause files order images before after old new (DueRefusal (Schedule fault)) stage cause = inr (order, refl, cause)
-files-cause files order images before after old new (DueRefusal (Job fault)) stage cause = inr (order, refl, cause)
-files-cause files order images before after old new (DueRefusal (Join fault name)) stage cause = inr (order, refl, cause)
-files-cause files order images before after old new (DueRefusal (Limit quantity value)) stage cause = inr (order, refl, cause)
-files-cause files order images before after old new (DueRefusal (NoFile name)) stage cause = inr (order, refl, cause)
-files-cause files order images before after old new (DueRefusal (Recording key field)) stage cause = inr (order, refl, cause)
-files-cause files order images before after old new (DueRefusal (Other d)) stage cause = absurd stage
-files-cause files order images before after old new Read stage cause = tt
-files-cause files order images before after old new (Journal kept) stage cause = absurd stage
-files-cause files order images before after old new Write stage cause = absurd stage
+files-cause files order of_job images before after old new Memory stage cause = tt
+files-cause files order of_job images before after old new (DueRefusal (Words fault)) stage cause = absurd stage
+files-cause files order of_job images before after old new (DueRefusal (Vex fault)) stage cause = inr (order, refl, of_job _ cause)
+files-cause files order of_job images before after old new (DueRefusal (Schedule fault)) stage cause = inr (order, refl, of_job _ cause)
+files-cause files order of_job images before after old new (DueRefusal (Job fault)) stage cause = inr (order, refl, of_job _ cause)
+files-cause files order of_job images before after old new (DueRefusal (Join fault name)) stage cause = inr (order, refl, of_job _ cause)
+files-cause files order of_job images before after old new (DueRefusal (Limit quantity value)) stage cause = inr (order, refl, of_job _ cause)
+files-cause files order of_job images before after old new (DueRefusal (NoFile name)) stage cause = inr (order, refl, of_job _ cause)
+files-cause files order of_job images before after old new (DueRefusal (Recording key field)) stage cause = inr (order, refl, of_job _ cause)
+files-cause files order of_job images before after old new (DueRefusal (Records fault)) stage cause = inr (order, refl, of_job _ cause)
+files-cause files order of_job images before after old new (DueRefusal (Other d)) stage cause = absurd stage
+files-cause files order of_job images before after old new Read stage cause = tt
+files-cause files order of_job images before after old new (Journal kept) stage cause = absurd stage
+files-cause files order of_job images before after old new Write stage cause = absurd stage
 
 -- a call that was refused before its output
 abbrev pub NoWrite : Refusal → Type 0
 NoWrite Write = ⊥
 NoWrite _ = Unit {0}
 
-nothing-partly : (outcomes : Outcomes Call) (files : Files) (before after old : Option (List ℕ)) (r : Refusal) → NoWrite r
+nothing-partly : (outcomes : Outcomes Task) (files : Files) (before after old : Option (List ℕ)) (r : Refusal) → NoWrite r
     → IsPartly r outcomes files before after old old
 nothing-partly outcomes files before after old Memory no_write = inl refl
 nothing-partly outcomes files before after old (DueRefusal due) no_write = refl
@@ -129,6 +163,7 @@ files-behind (DueRefusal (Join fault name)) stage = tt
 files-behind (DueRefusal (Limit quantity value)) stage = tt
 files-behind (DueRefusal (NoFile name)) stage = tt
 files-behind (DueRefusal (Recording key field)) stage = tt
+files-behind (DueRefusal (Records fault)) stage = tt
 files-behind (DueRefusal (Other d)) stage = absurd stage
 files-behind Read stage = tt
 files-behind (Journal kept) stage = absurd stage
@@ -160,6 +195,7 @@ module _ {D : Type 0} (seen : D → Option (List ℕ)) (moment : D → ℕ) (may
   verdict-none d (DueRefusal (Limit quantity value)) = looks_none seen moment may_leave d
   verdict-none d (DueRefusal (NoFile name)) = looks_none seen moment may_leave d
   verdict-none d (DueRefusal (Recording key field)) = looks_none seen moment may_leave d
+  verdict-none d (DueRefusal (Records fault)) = looks_none seen moment may_leave d
   verdict-none d (DueRefusal (Other x)) = refl
   verdict-none d Read = tt
   verdict-none d (Journal kept) = tt
@@ -182,18 +218,18 @@ module _ {D : Type 0} (seen : D → Option (List ℕ)) (moment : D → ℕ) (may
     part = nothing-partly (OutcomeFrom wanted files) files (seen d) (seen d) old r (words-NoWrite wanted r of);
   }
 
-  does-files : (files : Files) (order : Order) (d : D) (old : Option (List ℕ)) (r : Refusal) → IsOfFiles r → IsCause r (PlanFor files order)
+  does-files : (files : Files) (order : Order) → IsJobOf files order → (d : D) (old : Option (List ℕ)) (r : Refusal) → IsOfFiles r → IsCause r (PlanFor files order)
       → Does (Ok order) files seen moment may_leave d d old old (Err r)
-  does-files files order d old r stage cause = record {
+  does-files files order of_job d old r stage cause = record {
     goes = inl (looks_none seen moment may_leave d);
     done = tt;
-    cause = files-cause files order (may_leave d (moment d)) (seen d) (seen d) old old r stage cause;
+    cause = files-cause files order of_job (may_leave d (moment d)) (seen d) (seen d) old old r stage cause;
     part = nothing-partly (OutcomeFrom (Ok order) files) files (seen d) (seen d) old r (files-NoWrite r stage);
   }
 
   pub run-files : (files : Files) (order : Order) (d : D) (old : Option (List ℕ)) (r : Refusal) → IsRunOrder order → IsOfFiles r → IsCause r (PlanOf files order)
       → Does (Ok order) files seen moment may_leave d d old old (Err r)
-  run-files files (Run job vex workers piece) d old r is stage cause = does-files files (Run job vex workers piece) d old r stage cause
+  run-files files (Run job vex workers piece) d old r is stage cause = does-files files (Run job vex workers piece) (λ o p. p) d old r stage cause
   run-files files (Plain job vex) d old r is stage cause = absurd is
   run-files files (Check job vex) d old r is stage cause = absurd is
   run-files files (Status job vex) d old r is stage cause = absurd is
@@ -202,7 +238,7 @@ module _ {D : Type 0} (seen : D → Option (List ℕ)) (moment : D → ℕ) (may
 
   pub status-files : (files : Files) (order : Order) (d : D) (old : Option (List ℕ)) (r : Refusal) → IsStatusOrder order → IsOfFiles r → IsCause r (SurveyOf files order)
       → Does (Ok order) files seen moment may_leave d d old old (Err r)
-  status-files files (Status job vex) d old r is stage cause = does-files files (Status job vex) d old r stage cause
+  status-files files (Status job vex) d old r is stage cause = does-files files (Status job vex) (λ o p. p) d old r stage cause
   status-files files (Run job vex workers piece) d old r is stage cause = absurd is
   status-files files (Plain job vex) d old r is stage cause = absurd is
   status-files files (Check job vex) d old r is stage cause = absurd is
@@ -211,43 +247,40 @@ module _ {D : Type 0} (seen : D → Option (List ℕ)) (moment : D → ℕ) (may
 
   -- ---- commands that leave the journal alone
 
-  module _ (files : Files) (order : Order) (text : Plan → List ℕ) (d : D)
-      (plan_for : (o : Result Plan Answer) → PlanOf files order o → PlanFor files order o)
-      (alone : uses_journal order ≡ false) (no_run : is_run order ≡ false)
-      (is : (plan : Plan) → IsText files (call_of order plan) (seen d) (seen d) (text plan)) where
-    part-tells : (old new : Option (List ℕ)) → IsPartOf (PlanOf files order) text old new → IsPart (OutcomeFrom (Ok order) files) files (seen d) (seen d) old new
-    part-tells old new p = record {
-      call = call_of order p.0;
-      outcome = planned files order p.0 (plan_for (Ok p.0) p.1);
-      text = text p.0;
-      is = is p.0;
-      part = p.2;
-    }
+  module _ {A : Type 0} (files : Files) (order : Order) (outcomes : Outcomes A) (text : A → List ℕ) (task : A → Task) (d : D)
+      (ok_for : (x : A) → outcomes (Ok x) → TaskFor files order (Ok (task x))) (err_for : (a : Answer) → outcomes (Err a) → TaskFor files order (Err a))
+      (alone : (x : A) → IsAlone (task x)) (is : (x : A) → IsText files (task x) (seen d) (seen d) (text x)) where
+    there : (x : A) → outcomes (Ok x) → OutcomeFrom (Ok order) files (Ok (task x))
+    there x of = (order, refl, ok_for x of)
 
-    opened-tells : (plan : Plan) → IsOpened files (call_of order plan) (seen d)
-    opened-tells plan uses = absurd (not_both (uses_journal order) uses alone)
+    refuses : (a : Answer) → outcomes (Err a) → OutcomeFrom (Ok order) files (Err a)
+    refuses a of = inr (order, refl, err_for a of)
 
-    tells-cause : (old new : Option (List ℕ)) (r : Refusal) → IsOfFilesOrOutput r → IsCause r (PlanOf files order)
+    part-tells : (old new : Option (List ℕ)) → IsPartOf outcomes text old new → IsPart (OutcomeFrom (Ok order) files) files (seen d) (seen d) old new
+    part-tells old new p = record { task = task p.0; outcome = there p.0 p.1; text = text p.0; is = is p.0; part = p.2 }
+
+    tells-cause : (old new : Option (List ℕ)) (r : Refusal) → IsOfFilesOrOutput r → IsCause r outcomes
         → IsCauseOf r (OutcomeFrom (Ok order) files) files (may_leave d (moment d)) (seen d) (seen d) old new
     tells-cause old new Memory stage cause = tt
     tells-cause old new (DueRefusal (Words fault)) stage cause = absurd stage
-    tells-cause old new (DueRefusal (Vex fault)) stage cause = inr (order, refl, plan_for _ cause)
-    tells-cause old new (DueRefusal (Schedule fault)) stage cause = inr (order, refl, plan_for _ cause)
-    tells-cause old new (DueRefusal (Job fault)) stage cause = inr (order, refl, plan_for _ cause)
-    tells-cause old new (DueRefusal (Join fault name)) stage cause = inr (order, refl, plan_for _ cause)
-    tells-cause old new (DueRefusal (Limit quantity value)) stage cause = inr (order, refl, plan_for _ cause)
-    tells-cause old new (DueRefusal (NoFile name)) stage cause = inr (order, refl, plan_for _ cause)
-    tells-cause old new (DueRefusal (Recording key field)) stage cause = inr (order, refl, plan_for _ cause)
+    tells-cause old new (DueRefusal (Vex fault)) stage cause = refuses _ cause
+    tells-cause old new (DueRefusal (Schedule fault)) stage cause = refuses _ cause
+    tells-cause old new (DueRefusal (Job fault)) stage cause = refuses _ cause
+    tells-cause old new (DueRefusal (Join fault name)) stage cause = refuses _ cause
+    tells-cause old new (DueRefusal (Limit quantity value)) stage cause = refuses _ cause
+    tells-cause old new (DueRefusal (NoFile name)) stage cause = refuses _ cause
+    tells-cause old new (DueRefusal (Recording key field)) stage cause = refuses _ cause
+    tells-cause old new (DueRefusal (Records fault)) stage cause = refuses _ cause
     tells-cause old new (DueRefusal (Other x)) stage cause = absurd stage
     tells-cause old new Read stage cause = tt
     tells-cause old new (Journal kept) stage cause = absurd stage
     tells-cause old new Write stage cause = record {
-      call = call_of order cause.0;
-      outcome = planned files order cause.0 (plan_for (Ok cause.0) cause.1);
-      opened = opened-tells cause.0;
+      task = task cause.0;
+      outcome = there cause.0 cause.1;
+      opened = opened-alone files (task cause.0) (seen d) (alone cause.0);
     }
 
-    tells-part : (old new : Option (List ℕ)) (r : Refusal) → IsPartlyOf r (PlanOf files order) text old new
+    tells-part : (old new : Option (List ℕ)) (r : Refusal) → IsPartlyOf r outcomes text old new
         → IsPartly r (OutcomeFrom (Ok order) files) files (seen d) (seen d) old new
     tells-part old new Memory (inl same) = inl same
     tells-part old new Memory (inr p) = inr (part-tells old new p)
@@ -257,19 +290,19 @@ module _ {D : Type 0} (seen : D → Option (List ℕ)) (moment : D → ℕ) (may
     tells-part old new (Journal kept) part = absurd part
     tells-part old new Write p = part-tells old new p
 
-    does-tells : (old new : Option (List ℕ)) (result : Result (Unit {0}) Refusal) → IfErr result IsOfFilesOrOutput → Tells files order text old new result
+    does-tells : (old new : Option (List ℕ)) (result : Result (Unit {0}) Refusal) → IfErr result IsOfFilesOrOutput → Tells outcomes text old new result
         → Does (Ok order) files seen moment may_leave d d old new result
     does-tells old new (Ok x) stage tells = record {
       goes = inl (looks_none seen moment may_leave d);
       done = record {
-        call = call_of order tells.done.0;
-        outcome = planned files order tells.done.0 (plan_for (Ok tells.done.0) tells.done.1);
-        opened = opened-tells tells.done.0;
+        task = task tells.done.0;
+        outcome = there tells.done.0 tells.done.1;
+        opened = opened-alone files (task tells.done.0) (seen d) (alone tells.done.0);
         text = text tells.done.0;
         is = is tells.done.0;
         told = tells.done.2;
-        all = λ run. absurd (not_both (is_run order) run no_run);
-        sums = λ run. absurd (not_both (is_run order) run no_run);
+        all = λ call same run. absurd (alone-not (task tells.done.0) call (alone tells.done.0) same run);
+        sums = λ call same run. absurd (alone-not (task tells.done.0) call (alone tells.done.0) same run);
       };
       cause = tt;
       part = tt;
@@ -282,9 +315,10 @@ module _ {D : Type 0} (seen : D → Option (List ℕ)) (moment : D → ℕ) (may
     }
 
   pub does-check : (files : Files) (order : Order) (d : D) (old new : Option (List ℕ)) (result : Result (Unit {0}) Refusal) → IsCheckOrder order
-      → IfErr result IsOfFilesOrOutput → Tells files order (λ plan. check_text plan files) old new result → Does (Ok order) files seen moment may_leave d d old new result
+      → IfErr result IsOfFilesOrOutput → Tells (PlanOf files order) (λ plan. check_text plan files) old new result → Does (Ok order) files seen moment may_leave d d old new result
   does-check files (Check job vex) d old new result is stage tells =
-      does-tells files (Check job vex) (λ plan. check_text plan files) d (λ o p. p) refl refl (λ plan. refl) old new result stage tells
+      does-tells files (Check job vex) (PlanOf files (Check job vex)) (λ plan. check_text plan files) (λ plan. OfJob (call_of (Check job vex) plan)) d
+      (λ plan of. (refl, of)) (λ a of. of) (λ plan. (refl, refl)) (λ plan. refl) old new result stage tells
   does-check files (Run job vex workers piece) d old new result is stage tells = absurd is
   does-check files (Plain job vex) d old new result is stage tells = absurd is
   does-check files (Status job vex) d old new result is stage tells = absurd is
@@ -292,14 +326,27 @@ module _ {D : Type 0} (seen : D → Option (List ℕ)) (moment : D → ℕ) (may
   does-check files (Gen seed seconds workers piece) d old new result is stage tells = absurd is
 
   pub does-plain : (files : Files) (order : Order) (d : D) (old new : Option (List ℕ)) (result : Result (Unit {0}) Refusal) → IsPlainOrder order
-      → IfErr result IsOfFilesOrOutput → Tells files order (λ plan. output plan files) old new result → Does (Ok order) files seen moment may_leave d d old new result
+      → IfErr result IsOfFilesOrOutput → Tells (PlanOf files order) (λ plan. output plan files) old new result → Does (Ok order) files seen moment may_leave d d old new result
   does-plain files (Plain job vex) d old new result is stage tells =
-      does-tells files (Plain job vex) (λ plan. output plan files) d (λ o p. p) refl refl (λ plan. refl) old new result stage tells
+      does-tells files (Plain job vex) (PlanOf files (Plain job vex)) (λ plan. output plan files) (λ plan. OfJob (call_of (Plain job vex) plan)) d
+      (λ plan of. (refl, of)) (λ a of. of) (λ plan. (refl, refl)) (λ plan. refl) old new result stage tells
   does-plain files (Run job vex workers piece) d old new result is stage tells = absurd is
   does-plain files (Check job vex) d old new result is stage tells = absurd is
   does-plain files (Status job vex) d old new result is stage tells = absurd is
   does-plain files (Dump file) d old new result is stage tells = absurd is
   does-plain files (Gen seed seconds workers piece) d old new result is stage tells = absurd is
+
+  pub does-dump : (files : Files) (file : List ℕ) (d : D) (old new : Option (List ℕ)) (result : Result (Unit {0}) Refusal) → IfErr result ShowsStage
+      → Shows (RecordsOf files file) old new result → Does (Ok (Dump file)) files seen moment may_leave d d old new result
+  does-dump files file d old new result stage shows =
+      does-tells files (Dump file) (RecordsOf files file) dump_text OfRecords d (λ content of. of) (λ a of. of) (λ content. tt) (λ content. refl)
+      old new result (shows-stage result stage) (shows-tells (RecordsOf files file) old new result stage shows)
+
+  pub does-gen : (files : Files) (seed seconds workers piece : ℕ) (d : D) (old new : Option (List ℕ)) (result : Result (Unit {0}) Refusal) → IfErr result IsOfFilesOrOutput
+      → Tells (SampleOf seed seconds workers piece) (sample_text seed seconds) old new result → Does (Ok (Gen seed seconds workers piece)) files seen moment may_leave d d old new result
+  does-gen files seed seconds workers piece d old new result stage tells =
+      does-tells files (Gen seed seconds workers piece) (SampleOf seed seconds workers piece) (sample_text seed seconds)
+      (λ plan. OfJob (call_of (Gen seed seconds workers piece) plan)) d (λ plan of. (refl, of)) (λ a of. of) (λ plan. (refl, refl)) (λ plan. refl) old new result stage tells
 
   pub leaves-tells : (order : Order) (d : D) (old new : Option (List ℕ)) (result : Result (Unit {0}) Refusal) → is_run order ≡ false
       → IfErr result (λ r. MatchDue r (new ≡ old)) → Leaves (Ok order) seen moment may_leave d d old new result
@@ -314,27 +361,16 @@ module _ {D : Type 0} (seen : D → Option (List ℕ)) (moment : D → ℕ) (may
       by (Ok x) = tt
       by (Err r) = verdict-none d r
 
--- an order of a job that is none of the others
-pub plain-order : (order : Order) → IsSome (job_names order)
-    → ((job : List ℕ) (vex : Option (List ℕ)) (workers piece : ℕ) → order ≡ Run job vex workers piece → ⊥)
-    → ((job : List ℕ) (vex : Option (List ℕ)) → order ≡ Check job vex → ⊥) → ((job : List ℕ) (vex : Option (List ℕ)) → order ≡ Status job vex → ⊥) → IsPlainOrder order
-plain-order (Run job vex workers piece) named not_run not_check not_status = absurd (not_run job vex workers piece refl)
-plain-order (Plain job vex) named not_run not_check not_status = tt
-plain-order (Check job vex) named not_run not_check not_status = absurd (not_check job vex refl)
-plain-order (Status job vex) named not_run not_check not_status = absurd (not_status job vex refl)
-plain-order (Dump file) named not_run not_check not_status = absurd cc
-plain-order (Gen seed seconds workers piece) named not_run not_check not_status = absurd cc
-
 -- ---- summaries
 
 pub check-tells : {E : Type 0} (told : Option Files) (order : Order) (plan : Plan) (recordings : List StationRecording) (old new : Option (List ℕ)) (before now : ℕ) (text : List ℕ) (r : Result (Unit {0}) E)
     → WhereTold told (λ files. PlanOf files order (Ok plan)) → WhereTold told (λ files. AreRecorded files plan.stations recordings)
     → Appends old new text before now r → ((files : Files) → AreRecorded files plan.stations recordings → text ≡ check_text plan files)
-    → WhereTold told (λ files. Tells files order (λ plan. check_text plan files) old new (written_with r))
+    → WhereTold told (λ files. Tells (PlanOf files order) (λ plan. check_text plan files) old new (written_with r))
 check-tells None order plan recordings old new before now text r there recorded appends is = tt
 check-tells {E} (Some files) order plan recordings old new before now text r there recorded appends is = by r appends
   where
-    by : (q : Result (Unit {0}) E) → Appends old new text before now q → Tells files order (λ plan. check_text plan files) old new (written_with q)
+    by : (q : Result (Unit {0}) E) → Appends old new text before now q → Tells (PlanOf files order) (λ plan. check_text plan files) old new (written_with q)
     by (Ok x) appends = record { done = (plan, there, appends.ok ∙ ap (more old) (is files recorded)); cause = tt; part = tt }
     by (Err e) appends = record {
       done = tt;

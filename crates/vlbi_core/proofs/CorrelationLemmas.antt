@@ -1,8 +1,7 @@
 -- What a call of `run` did.
-use Rattle.std.specs.Prelude.{OnOk, IfErr, IfOk, IsSome, slice_get}
-use Rattle.std.proofs.Common.{◌≡◌, ◌∙◌, ◌⊎◌, inl, inr, ⊎_elim, ℕ, ◌+◌, ◌≤◌, ◌<◌, Bool, true, false, List, [], ◌++◌, length, Option, Some, None, Result, Ok, Err, refl, sym, ap, subst, arith}
-use Rattle.dev_traits.specs.Told.{more, PrefixMore, WhereTold}
-use Rattle.sink_text.specs.Appends.{Appends}
+use Rattle.std.specs.Prelude.{OnOk, IfErr, IsSome, slice_get}
+use Rattle.std.proofs.Common.{◌≡◌, ◌∙◌, inl, inr, ℕ, ◌+◌, ◌≤◌, ◌<◌, true, List, ◌++◌, length, Option, Some, None, Result, Ok, Err, refl, sym, ap, subst, arith}
+use Rattle.dev_traits.specs.Told.{more, WhereTold}
 use Rattle.corr_model.specs.Files.{Files}
 use Rattle.piece_plan.specs.Epochs.{JobSizes, epochs_of}
 use Rattle.job_plan.specs.declared.plan.Plan.{Plan}
@@ -11,34 +10,29 @@ use Rattle.job_plan.specs.Output.{output}
 use Rattle.job_epochs.specs.Sizes.{sizes_of}
 use Rattle.job_epochs.specs.Sums.{sums_of}
 use Rattle.checkpoint_journal.specs.Cells.{body_text}
-use Rattle.checkpoint_journal.specs.Image.{reading, kept_in, body_sizes}
-use Rattle.checkpoint_journal.specs.Finding.{ReadsMany, IsOther}
+use Rattle.checkpoint_journal.specs.Image.{kept_in, body_sizes}
 use Rattle.checkpoint_journal.specs.Standing.{JournalState, Keeps, Stands}
-use Rattle.checkpoint_journal.specs.Runs.{Looks, Changes, StepTold, KeepsBodies}
-use Rattle.checkpoint_journal.proofs.RunLemmas.{looks_none, changes_looks, changes_both, durable_looks, told_value}
+use Rattle.checkpoint_journal.specs.Runs.{Looks, Changes, StepTold}
+use Rattle.checkpoint_journal.proofs.RunLemmas.{changes_looks, changes_both, durable_looks, told_value}
 use Rattle.run_words.specs.declared.order.Order.{Order}
 use Rattle.run_words.specs.declared.order.Order.TheVariants.{Run, Plain, Check, Status, Dump, Gen}
-use Rattle.run_notes.specs.declared.refusal.Due.{Due}
-use Rattle.run_notes.specs.declared.refusal.Due.TheVariants.{Words, Vex, Schedule, Job, Join, Limit, NoFile, Recording, Other}
+use Rattle.run_notes.specs.declared.refusal.Due.TheVariants.{Words, Vex, Schedule, Job, Join, Limit, NoFile, Recording, Records, Other}
 use Rattle.run_notes.specs.declared.refusal.Refusal.{Refusal}
 use Rattle.run_notes.specs.declared.refusal.Refusal.TheVariants.{Memory, Due as DueRefusal, Read, Journal, Write}
 use Rattle.run_notes.specs.Refusals.{Outcomes}
-use Rattle.run_ready.specs.Outcome.{SurveyOf, PlanOf}
+use Rattle.run_ready.specs.Outcome.{PlanOf}
 use Rattle.run_ready.specs.Identities.{identity_under}
 use Rattle.run_journal.specs.Extended.{IsSummed, AreFrom, Extends}
 use Rattle.run_journal.specs.Refused.{IsRefusedFor, KeepsNamed}
 use Rattle.run_records.specs.Kept.{WritesKept, kept_text}
 use Rattle.run_records.specs.Refused.{IsOfRecords}
-use Rattle.run_summary.specs.Summaries.{kept_line}
 use Rattle.vis_writer.specs.Writes.{Appended}
-use Rattle.vlbi_core.specs.Calls.{Call, identity_for, sizes_for, bodies_for, kept_for, is_run, uses_journal}
-use Rattle.vlbi_core.specs.Texts.{IsSums, IsText, IsPart, IsRecords, epochs_for}
+use Rattle.vlbi_core.specs.Calls.{Call, Task, OfJob, identity_for, sizes_for, bodies_for, kept_for}
+use Rattle.vlbi_core.specs.Texts.{IsSums, IsPart, IsRecords, epochs_for}
 use Rattle.vlbi_core.specs.Restart.{IsHonest}
-use Rattle.vlbi_core.specs.Faults.{written_with}
-use Rattle.vlbi_core.specs.Steps.{OutcomeFrom, IsBehindWords, IsLookedFor, IsOpened, IsCauseOf, IsPartly, IsDone, Does, MatchDue, MatchEarly, MatchVerdict, Leaves, IsRunOrder, IsStatusOrder, SaysFor, looked}
+use Rattle.vlbi_core.specs.Steps.{OutcomeFrom, IsBehindWords, IsCauseOf, IsPartly, Does, MatchDue, MatchEarly, MatchVerdict, Leaves, IsRunOrder, SaysFor}
 use Rattle.vlbi_core.proofs.ExtendLemmas.{some_bodies, AreFrom-append, AreFrom-at, Extends-stays, Extends-joins, Extends-split, kept-of}
-use Rattle.dev_traits.proofs.Appended.{PrefixMore-none}
-use Rattle.vlbi_core.proofs.CommandLemmas.{call_of, planned, not_both, is_some_at, due-same, early-same}
+use Rattle.vlbi_core.proofs.CommandLemmas.{call_of, planned, one-job, not_both, is_some_at, due-same, early-same}
 
 -- the law of record files from sums
 abbrev pub SumsMakeOutput : Type 0
@@ -73,30 +67,31 @@ module _ {D : Type 0} (seen : D → Option (List ℕ)) (moment : D → ℕ) (may
     resumed-cause before after old (DueRefusal (Limit quantity value)) of named = absurd of
     resumed-cause before after old (DueRefusal (NoFile name)) of named = absurd of
     resumed-cause before after old (DueRefusal (Recording key field)) of named = absurd of
+    resumed-cause before after old (DueRefusal (Records fault)) of named = absurd of
     resumed-cause before after old (DueRefusal (Other d)) of named = record {
       call = call_of (Run job vex workers piece) plan;
-      outcome = planned files (Run job vex workers piece) plan there;
+      outcome = planned files (Run job vex workers piece) plan (λ o p. p) there;
       uses = refl;
       other = of.0;
     }
     resumed-cause before after old Read of named = tt
     resumed-cause before after old (Journal None) of named = record {
       call = call_of (Run job vex workers piece) plan;
-      outcome = planned files (Run job vex workers piece) plan there;
+      outcome = planned files (Run job vex workers piece) plan (λ o p. p) there;
       uses = refl;
       says = λ _. (refl, of);
       unnamed = λ other. absurd (not_both true refl other);
     }
     resumed-cause before after old (Journal (Some k)) of named = record {
       call = call_of (Run job vex workers piece) plan;
-      outcome = planned files (Run job vex workers piece) plan there;
+      outcome = planned files (Run job vex workers piece) plan (λ o p. p) there;
       uses = refl;
       says = λ _. named;
       unnamed = λ other. absurd (not_both true refl other);
     }
     resumed-cause before after old Write of named = absurd of
 
-    resumed-part : (outcomes : Outcomes Call) (before before' after after' old : Option (List ℕ)) (id sizes : List ℕ) (r : Refusal)
+    resumed-part : (outcomes : Outcomes Task) (before before' after after' old : Option (List ℕ)) (id sizes : List ℕ) (r : Refusal)
         → IsRefusedFor id sizes before after r → IsPartly r outcomes files before' after' old old
     resumed-part outcomes before before' after after' old id sizes Memory of = inl refl
     resumed-part outcomes before before' after after' old id sizes (DueRefusal due) of = refl
@@ -108,7 +103,7 @@ module _ {D : Type 0} (seen : D → Option (List ℕ)) (moment : D → ℕ) (may
         → Resumed (Some files) plan (identity_under files (Run job vex workers piece) plan) (sizes_of plan) before after r
         → Does (Ok (Run job vex workers piece)) files seen moment may_leave before after old old (Err r)
     does-resumed-at before after old r h = record {
-      goes = inr (record { call = call_of (Run job vex workers piece) plan; outcome = planned files (Run job vex workers piece) plan there; changes = h.changes });
+      goes = inr (record { call = call_of (Run job vex workers piece) plan; outcome = planned files (Run job vex workers piece) plan (λ o p. p) there; changes = h.changes });
       done = tt;
       cause = resumed-cause before after old r h.refused h.named;
       part = resumed-part (OutcomeFrom (Ok (Run job vex workers piece)) files) (seen before) (seen before) (seen after) (seen after) old _ _ r h.refused;
@@ -140,6 +135,7 @@ module _ {D : Type 0} (seen : D → Option (List ℕ)) (moment : D → ℕ) (may
   resumed-verdict id sizes before after (DueRefusal (Limit quantity value)) of = absurd of
   resumed-verdict id sizes before after (DueRefusal (NoFile name)) of = absurd of
   resumed-verdict id sizes before after (DueRefusal (Recording key field)) of = absurd of
+  resumed-verdict id sizes before after (DueRefusal (Records fault)) of = absurd of
   resumed-verdict id sizes before after (DueRefusal (Other d)) of = of.1
   resumed-verdict id sizes before after Read of = tt
   resumed-verdict id sizes before after (Journal kept) of = tt
@@ -155,6 +151,7 @@ module _ {D : Type 0} (seen : D → Option (List ℕ)) (moment : D → ℕ) (may
   resumed-behind id sizes before after (DueRefusal (Limit quantity value)) of = tt
   resumed-behind id sizes before after (DueRefusal (NoFile name)) of = tt
   resumed-behind id sizes before after (DueRefusal (Recording key field)) of = tt
+  resumed-behind id sizes before after (DueRefusal (Records fault)) of = tt
   resumed-behind id sizes before after (DueRefusal (Other d)) of = tt
   resumed-behind id sizes before after Read of = tt
   resumed-behind id sizes before after (Journal kept) of = tt
@@ -287,23 +284,23 @@ module _ {D : Type 0} (seen : D → Option (List ℕ)) (moment : D → ℕ) (may
     emitted-cause Read h = tt
     emitted-cause (Journal kept) h = record {
       call = call_of (Run job vex workers piece) plan;
-      outcome = planned files (Run job vex workers piece) plan there;
+      outcome = planned files (Run job vex workers piece) plan (λ o p. p) there;
       uses = refl;
       says = λ _. subst (λ (k : Option ℕ). SaysFor k files (call_of (Run job vex workers piece) plan) (may_leave after (moment after)) (seen before) (seen after) old new) (sym h.refused)
           (λ image now. inl (emitted-images (Err (Journal kept)) h image now));
       unnamed = λ other. absurd (not_both true refl other);
     }
     emitted-cause Write h = record {
-      call = call_of (Run job vex workers piece) plan;
-      outcome = planned files (Run job vex workers piece) plan there;
+      task = OfJob (call_of (Run job vex workers piece) plan);
+      outcome = planned files (Run job vex workers piece) plan (λ o p. p) there;
       opened = λ _. (emitted-text (Err Write) h).opened;
     }
 
     text-part : (r : Refusal) → RunText files (call_of (Run job vex workers piece) plan) (seen before) (seen after) old new (Err r)
         → IsPart (OutcomeFrom (Ok (Run job vex workers piece)) files) files (seen before) (seen after) old new
     text-part r t = record {
-      call = call_of (Run job vex workers piece) plan;
-      outcome = planned files (Run job vex workers piece) plan there;
+      task = OfJob (call_of (Run job vex workers piece) plan);
+      outcome = planned files (Run job vex workers piece) plan (λ o p. p) there;
       text = t.text;
       is = t.is;
       part = t.appended.part;
@@ -320,22 +317,24 @@ module _ {D : Type 0} (seen : D → Option (List ℕ)) (moment : D → ℕ) (may
     does-emitted : (result : Result (Unit {0}) Refusal) → Emitted (Some files) plan (identity_under files (Run job vex workers piece) plan) (sizes_of plan) journal before mid after old new result
         → Does (Ok (Run job vex workers piece)) files seen moment may_leave before after old new result
     does-emitted (Ok x) h = record {
-      goes = inr (record { call = call_of (Run job vex workers piece) plan; outcome = planned files (Run job vex workers piece) plan there; changes = emitted-goes (Ok x) h });
+      goes = inr (record { call = call_of (Run job vex workers piece) plan; outcome = planned files (Run job vex workers piece) plan (λ o p. p) there; changes = emitted-goes (Ok x) h });
       done = record {
-        call = call_of (Run job vex workers piece) plan;
-        outcome = planned files (Run job vex workers piece) plan there;
+        task = OfJob (call_of (Run job vex workers piece) plan);
+        outcome = planned files (Run job vex workers piece) plan (λ o p. p) there;
         opened = λ _. (emitted-text (Ok x) h).opened;
         text = (emitted-text (Ok x) h).text;
         is = (emitted-text (Ok x) h).is;
         told = (emitted-text (Ok x) h).appended.all;
-        all = λ _ image now. emitted-images (Ok x) h image now ∙ h.kept;
-        sums = λ _. (emitted-text (Ok x) h).sums;
+        all = λ call same _ image now. subst (λ (c : Call). kept_for files c image ≡ epochs_for c) (one-job (call_of (Run job vex workers piece) plan) call same)
+            (emitted-images (Ok x) h image now ∙ h.kept);
+        sums = λ call same _. subst (λ (c : Call). WhereTold (seen before) (λ image. IsHonest files c image → new ≡ more old (output c.plan files)))
+            (one-job (call_of (Run job vex workers piece) plan) call same) (emitted-text (Ok x) h).sums;
       };
       cause = tt;
       part = tt;
     }
     does-emitted (Err r) h = record {
-      goes = inr (record { call = call_of (Run job vex workers piece) plan; outcome = planned files (Run job vex workers piece) plan there; changes = emitted-goes (Err r) h });
+      goes = inr (record { call = call_of (Run job vex workers piece) plan; outcome = planned files (Run job vex workers piece) plan (λ o p. p) there; changes = emitted-goes (Err r) h });
       done = tt;
       cause = emitted-cause r h;
       part = emitted-part r h;

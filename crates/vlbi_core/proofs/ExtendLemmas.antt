@@ -1,9 +1,8 @@
 -- Journals that go on with sums of the epochs, and images that are honest.
 use Rattle.std.specs.Prelude.{slice_get, unwrap_or}
-use Rattle.std.proofs.Common.{◌≡◌, ◌∙◌, ◌⊎◌, inl, inr, ℕ, zero, suc, ◌+◌, ◌≤◌, ◌<◌, List, [], ◌∷◌, ◌++◌, length, Option, Some, None, refl, sym, ap, subst, arith, length-append, append_assoc, append-nil}
-use Rattle.corr_model.specs.Files.{Files}
+use Rattle.std.proofs.Common.{◌≡◌, ◌∙◌, inl, inr, ℕ, zero, suc, ◌+◌, ◌≤◌, ◌<◌, List, [], ◌∷◌, ◌++◌, length, Option, Some, refl, sym, ap, subst, arith, length-append, append_assoc, append-nil}
 use Rattle.checkpoint_journal.specs.Image.{reading, kept_in}
-use Rattle.run_journal.specs.Extended.{BodyOf, AreFrom, GoesOn, Extends}
+use Rattle.run_journal.specs.Extended.{BodyOf, AreFrom, Extends}
 
 pub some_bodies : (a b : List (List ℕ)) → Some a ≡ Some b → a ≡ b
 some_bodies a b e = cc

@@ -1,43 +1,31 @@
 -- What the commands did that use the journal.
-use Rattle.std.specs.Prelude.{OnOk, IfErr, IfOk, IsSome, slice_get}
-use Rattle.std.proofs.Common.{◌≡◌, ◌∙◌, ◌⊎◌, inl, inr, ⊎_elim, ℕ, ◌+◌, ◌≤◌, ◌<◌, Bool, true, false, List, [], ◌++◌, length, Option, Some, None, Result, Ok, Err, refl, sym, ap, subst, arith}
-use Rattle.dev_traits.specs.Told.{more, PrefixMore, WhereTold}
+use Rattle.std.specs.Prelude.{IfErr, IsSome}
+use Rattle.std.proofs.Common.{◌≡◌, ◌∙◌, inl, ℕ, true, false, List, length, Option, Some, None, Result, Ok, Err, refl, sym, ap, subst}
+use Rattle.dev_traits.specs.Told.{WhereTold}
 use Rattle.sink_text.specs.Appends.{Appends}
 use Rattle.corr_model.specs.Files.{Files}
 use Rattle.piece_plan.specs.Epochs.{JobSizes, epochs_of}
 use Rattle.job_plan.specs.declared.plan.Plan.{Plan}
-use Rattle.job_plan.specs.Ranges.{IsPlan}
-use Rattle.job_plan.specs.Output.{output}
 use Rattle.job_epochs.specs.Sizes.{sizes_of}
-use Rattle.job_epochs.specs.Sums.{sums_of}
-use Rattle.checkpoint_journal.specs.Cells.{body_text}
-use Rattle.checkpoint_journal.specs.Image.{reading, kept_in, body_sizes}
-use Rattle.checkpoint_journal.specs.Finding.{ReadsMany, IsOther}
-use Rattle.checkpoint_journal.specs.Standing.{JournalState, Keeps, Stands}
-use Rattle.checkpoint_journal.specs.Runs.{Looks, Changes, StepTold, KeepsBodies}
-use Rattle.checkpoint_journal.proofs.RunLemmas.{looks_none, changes_looks, changes_both, durable_looks, told_value}
+use Rattle.checkpoint_journal.specs.Image.{body_sizes}
+use Rattle.checkpoint_journal.specs.Finding.{ReadsMany}
+use Rattle.checkpoint_journal.specs.Runs.{Looks}
 use Rattle.run_words.specs.declared.order.Order.{Order}
 use Rattle.run_words.specs.declared.order.Order.TheVariants.{Run, Plain, Check, Status, Dump, Gen}
-use Rattle.run_notes.specs.declared.refusal.Due.{Due}
-use Rattle.run_notes.specs.declared.refusal.Due.TheVariants.{Words, Vex, Schedule, Job, Join, Limit, NoFile, Recording, Other}
+use Rattle.run_notes.specs.declared.refusal.Due.TheVariants.{Words, Vex, Schedule, Job, Join, Limit, NoFile, Recording, Records, Other}
 use Rattle.run_notes.specs.declared.refusal.Refusal.{Refusal}
 use Rattle.run_notes.specs.declared.refusal.Refusal.TheVariants.{Memory, Due as DueRefusal, Read, Journal, Write}
 use Rattle.run_notes.specs.Refusals.{Outcomes}
-use Rattle.run_ready.specs.Outcome.{SurveyOf, PlanOf}
+use Rattle.run_ready.specs.Outcome.{SurveyOf}
 use Rattle.run_ready.specs.Identities.{identity_under}
-use Rattle.run_journal.specs.Extended.{IsSummed, AreFrom, Extends}
-use Rattle.run_journal.specs.Refused.{IsRefusedFor, KeepsNamed}
-use Rattle.run_records.specs.Kept.{WritesKept, kept_text}
-use Rattle.run_records.specs.Refused.{IsOfRecords}
+use Rattle.run_journal.specs.Refused.{IsRefusedFor}
 use Rattle.run_summary.specs.Summaries.{kept_line}
-use Rattle.vis_writer.specs.Writes.{Appended}
-use Rattle.vlbi_core.specs.Calls.{Call, identity_for, sizes_for, bodies_for, kept_for, is_run, uses_journal}
-use Rattle.vlbi_core.specs.Texts.{IsSums, IsText, IsPart, epochs_for}
-use Rattle.vlbi_core.specs.Restart.{IsHonest}
+use Rattle.vlbi_core.specs.Calls.{Call, Task, OfJob, bodies_for, kept_for, is_run}
+use Rattle.vlbi_core.specs.Texts.{epochs_for}
 use Rattle.vlbi_core.specs.Faults.{written_with}
-use Rattle.vlbi_core.specs.Steps.{OutcomeFrom, IsBehindWords, IsLookedFor, IsOpened, IsCauseOf, IsPartly, IsDone, Does, MatchDue, MatchVerdict, Leaves, IsRunOrder, IsStatusOrder, SaysFor, looked}
-use Rattle.vlbi_core.proofs.ExtendLemmas.{some_bodies, AreFrom-append, AreFrom-at, Extends-stays, Extends-joins, Extends-split, kept-of}
-use Rattle.vlbi_core.proofs.CommandLemmas.{call_of, planned, not_both, is_some_at}
+use Rattle.vlbi_core.specs.Steps.{OutcomeFrom, IsBehindWords, IsLookedFor, IsCauseOf, IsPartly, Does, MatchDue, MatchVerdict, Leaves, IsStatusOrder, looked}
+use Rattle.vlbi_core.proofs.ExtendLemmas.{kept-of}
+use Rattle.vlbi_core.proofs.CommandLemmas.{call_of, planned, one-job, not_both, is_some_at}
 
 -- ---- looks at the journal
 
@@ -51,6 +39,7 @@ looked-for id sizes before after (DueRefusal (Join fault name)) of = absurd of
 looked-for id sizes before after (DueRefusal (Limit quantity value)) of = absurd of
 looked-for id sizes before after (DueRefusal (NoFile name)) of = absurd of
 looked-for id sizes before after (DueRefusal (Recording key field)) of = absurd of
+looked-for id sizes before after (DueRefusal (Records fault)) of = absurd of
 looked-for id sizes before after (DueRefusal (Other d)) of = of.0
 looked-for id sizes before after Read of = tt
 looked-for id sizes before after (Journal kept) of = tt
@@ -66,6 +55,7 @@ looked-behind id sizes before (DueRefusal (Join fault name)) of = tt
 looked-behind id sizes before (DueRefusal (Limit quantity value)) of = tt
 looked-behind id sizes before (DueRefusal (NoFile name)) of = tt
 looked-behind id sizes before (DueRefusal (Recording key field)) of = tt
+looked-behind id sizes before (DueRefusal (Records fault)) of = tt
 looked-behind id sizes before (DueRefusal (Other d)) of = tt
 looked-behind id sizes before Read of = tt
 looked-behind id sizes before (Journal kept) of = tt
@@ -85,16 +75,17 @@ module _ {D : Type 0} (seen : D → Option (List ℕ)) (moment : D → ℕ) (may
   looked-cause files job vex plan images before after old (DueRefusal (Limit quantity value)) there of = absurd of
   looked-cause files job vex plan images before after old (DueRefusal (NoFile name)) there of = absurd of
   looked-cause files job vex plan images before after old (DueRefusal (Recording key field)) there of = absurd of
+  looked-cause files job vex plan images before after old (DueRefusal (Records fault)) there of = absurd of
   looked-cause files job vex plan images before after old (DueRefusal (Other d)) there of = record {
     call = call_of (Status job vex) plan;
-    outcome = planned files (Status job vex) plan there;
+    outcome = planned files (Status job vex) plan (λ o p. p) there;
     uses = refl;
     other = of;
   }
   looked-cause files job vex plan images before after old Read there of = absurd of
   looked-cause files job vex plan images before after old (Journal None) there of = record {
     call = call_of (Status job vex) plan;
-    outcome = planned files (Status job vex) plan there;
+    outcome = planned files (Status job vex) plan (λ o p. p) there;
     uses = refl;
     says = λ run. absurd (not_both false run refl);
     unnamed = λ _. refl;
@@ -102,7 +93,7 @@ module _ {D : Type 0} (seen : D → Option (List ℕ)) (moment : D → ℕ) (may
   looked-cause files job vex plan images before after old (Journal (Some k)) there of = absurd of
   looked-cause files job vex plan images before after old Write there of = absurd of
 
-  looked-part : (outcomes : Outcomes Call) (files : Files) (id sizes : List ℕ) (before before' after old : Option (List ℕ)) (r : Refusal)
+  looked-part : (outcomes : Outcomes Task) (files : Files) (id sizes : List ℕ) (before before' after old : Option (List ℕ)) (r : Refusal)
       → IsLookedFor id sizes before r → IsPartly r outcomes files before' after old old
   looked-part outcomes files id sizes before before' after old Memory of = inl refl
   looked-part outcomes files id sizes before before' after old (DueRefusal due) of = refl
@@ -143,6 +134,9 @@ module _ {D : Type 0} (seen : D → Option (List ℕ)) (moment : D → ℕ) (may
     kept-opened None reads = tt
     kept-opened (Some image) reads = is_some_at _ reads.0 reads.1
 
+    no-run : (call : Call) → OfJob (call_of (Status job vex) plan) ≡ OfJob call → is_run call.order ≡ true → ⊥
+    no-run call same run = not_both false (subst (λ (c : Call). is_run c.order ≡ true) (sym (one-job (call_of (Status job vex) plan) call same)) run) refl
+
     does-kept-at : {E : Type 0} (before after : D) (old new : Option (List ℕ)) (count now : ℕ) (r : Result (Unit {0}) E) → Looks seen moment may_leave before after
         → WhereTold (seen before) (ReadsMany (identity_under files (Status job vex) plan) (body_sizes (sizes_of plan)) kept)
         → Appends old new (kept_line kept epochs) count now r
@@ -150,14 +144,14 @@ module _ {D : Type 0} (seen : D → Option (List ℕ)) (moment : D → ℕ) (may
     does-kept-at before after old new count now (Ok x) looks reads appends = record {
       goes = inl looks;
       done = record {
-        call = call_of (Status job vex) plan;
-        outcome = planned files (Status job vex) plan there;
+        task = OfJob (call_of (Status job vex) plan);
+        outcome = planned files (Status job vex) plan (λ o p. p) there;
         opened = λ _. kept-opened (seen before) reads;
         text = kept_line kept epochs;
         is = kept-text (seen before) reads;
         told = appends.ok;
-        all = λ run. absurd (not_both false run refl);
-        sums = λ run. absurd (not_both false run refl);
+        all = λ call same run. absurd (no-run call same run);
+        sums = λ call same run. absurd (no-run call same run);
       };
       cause = tt;
       part = tt;
@@ -166,13 +160,13 @@ module _ {D : Type 0} (seen : D → Option (List ℕ)) (moment : D → ℕ) (may
       goes = inl looks;
       done = tt;
       cause = record {
-        call = call_of (Status job vex) plan;
-        outcome = planned files (Status job vex) plan there;
+        task = OfJob (call_of (Status job vex) plan);
+        outcome = planned files (Status job vex) plan (λ o p. p) there;
         opened = λ _. kept-opened (seen before) reads;
       };
       part = record {
-        call = call_of (Status job vex) plan;
-        outcome = planned files (Status job vex) plan there;
+        task = OfJob (call_of (Status job vex) plan);
+        outcome = planned files (Status job vex) plan (λ o p. p) there;
         text = kept_line kept epochs;
         is = kept-text (seen before) reads;
         part = appends.prefix;
@@ -224,6 +218,7 @@ module _ {D : Type 0} (seen : D → Option (List ℕ)) (moment : D → ℕ) (may
   verdict-looks before after (DueRefusal (Limit quantity value)) looks = looks
   verdict-looks before after (DueRefusal (NoFile name)) looks = looks
   verdict-looks before after (DueRefusal (Recording key field)) looks = looks
+  verdict-looks before after (DueRefusal (Records fault)) looks = looks
   verdict-looks before after (DueRefusal (Other x)) looks = looks.same
   verdict-looks before after Read looks = tt
   verdict-looks before after (Journal kept) looks = tt

@@ -2,8 +2,10 @@ pub mod ScanLemmas
 pub mod PlainLemmas
 pub mod OrderLemmas
 pub mod ExtendLemmas
+pub mod RecordFileLemmas
 pub mod CommandLemmas
 pub mod JournalLemmas
 pub mod CorrelationLemmas
 pub mod TopLemmas
 pub mod NoteLemmas
+pub mod SampleLemmas

@@ -1,26 +1,22 @@
 -- The lines of the journal's faults, which no other line is.
-use Rattle.std.specs.Prelude.{IfErr, codes, decimal, drop, slice_index, nat_lt, if◌then◌else◌, ◌==◌, ◌-◌}
+use Rattle.std.specs.Prelude.{codes, decimal, drop, if◌then◌else◌, ◌==◌}
 use Rattle.std.specs.Fmt.{digits, digits_onto, digit_glyph}
-use Rattle.std.proofs.Common.{◌≡◌, ◌∙◌, ◌⊎◌, ⊎_elim, inl, inr, ℕ, zero, suc, ◌+◌, ◌*◌, ◌/◌, ◌%◌, ◌^◌, ◌≤◌, ◌<◌, Bool, true, false, List, [], ◌∷◌, ◌++◌, length, take, get_or, Option, Some, None, Result, Ok, Err, refl, sym, ap, subst, arith, length-append, eqb-true}
+use Rattle.std.proofs.Common.{◌≡◌, ◌∙◌, ◌⊎◌, ⊎_elim, ℕ, zero, suc, ◌+◌, ◌*◌, ◌/◌, ◌%◌, ◌^◌, ◌≤◌, ◌<◌, Bool, true, false, List, [], ◌∷◌, ◌++◌, length, take, get_or, Option, Some, None, Ok, refl, sym, ap, subst, arith, length-append, eqb-true}
 use Rattle.std.proofs.lemmas.Fmt.{decimal_is_IsNumeral_wide, length-decimal-le_wide}
 use Rattle.std.specs.Str.Parse.{digits_value}
 use Rattle.std.proofs.lemmas.List.{take-append-le}
 use Rattle.std.proofs.Math.Seq.{take-length}
-use Rattle.dev_traits.specs.Told.{WhereTold}
 use Rattle.corr_model.specs.Files.{Files}
 use Rattle.checkpoint_journal.specs.declared.fault.Differs.{Differs}
-use Rattle.checkpoint_journal.specs.Runs.{StepTold, KeepsBodies}
-use Rattle.run_notes.specs.declared.refusal.Due.{Due}
-use Rattle.run_notes.specs.declared.refusal.Due.TheVariants.{Words, Vex, Schedule, Job, Join, Limit, NoFile, Recording, Other}
+use Rattle.run_notes.specs.declared.refusal.Due.TheVariants.{Words, Vex, Schedule, Job, Join, Limit, NoFile, Recording, Records, Other}
 use Rattle.run_notes.specs.declared.refusal.Refusal.{Refusal}
 use Rattle.run_notes.specs.declared.refusal.Refusal.TheVariants.{Memory, Due as DueRefusal, Read, Journal, Write}
 use Rattle.run_notes.specs.Answers.{memory_answer, read_answer, journal_answer, write_answer, other_answer}
-use Rattle.run_notes.specs.Refusals.{Outcomes, answer_of, due_answer}
-use Rattle.vlbi_core.specs.Calls.{Call, kept_for, is_run, identity_for, sizes_for}
+use Rattle.run_notes.specs.Refusals.{Outcomes, answer_of}
+use Rattle.vlbi_core.specs.Calls.{Call, Task, OfJob, kept_for, is_run}
 use Rattle.vlbi_core.specs.Restart.{SaysKept}
 use Rattle.vlbi_core.specs.Steps.{IsCauseOf, IsShort, SaysFor}
-use Rattle.vlbi_core.proofs.CommandLemmas.{not_both}
-use Rattle.vlbi_core.proofs.TopLemmas.{AreOne, call-not, calls-same}
+use Rattle.vlbi_core.proofs.TopLemmas.{AreOne, task-not, calls-same}
 
 -- ---- numbers as texts
 
@@ -137,17 +133,18 @@ module _ (files : Files) (images : List ℕ → Type 0) (before after old new : 
       gone : Some m ≡ None → ⊥
       gone e = cc
 
-  pub refused-says : (outcomes : Outcomes Call) (one : AreOne outcomes) (r : Refusal) → IsShort r → IsCauseOf r outcomes files images before after old new
-      → (call : Call) → outcomes (Ok call) → SaysKept files call (answer_of r).note images before after old new
+  pub refused-says : (outcomes : Outcomes Task) (one : AreOne outcomes) (r : Refusal) → IsShort r → IsCauseOf r outcomes files images before after old new
+      → (call : Call) → outcomes (Ok (OfJob call)) → SaysKept files call (answer_of r).note images before after old new
   refused-says outcomes one Memory short cause call there = other-says call memory_answer.note memory-other
-  refused-says outcomes one (DueRefusal (Words fault)) short cause call there = absurd (call-not outcomes one call _ there cause)
-  refused-says outcomes one (DueRefusal (Vex fault)) short cause call there = absurd (call-not outcomes one call _ there cause)
-  refused-says outcomes one (DueRefusal (Schedule fault)) short cause call there = absurd (call-not outcomes one call _ there cause)
-  refused-says outcomes one (DueRefusal (Job fault)) short cause call there = absurd (call-not outcomes one call _ there cause)
-  refused-says outcomes one (DueRefusal (Join fault name)) short cause call there = absurd (call-not outcomes one call _ there cause)
-  refused-says outcomes one (DueRefusal (Limit quantity value)) short cause call there = absurd (call-not outcomes one call _ there cause)
-  refused-says outcomes one (DueRefusal (NoFile name)) short cause call there = absurd (call-not outcomes one call _ there cause)
-  refused-says outcomes one (DueRefusal (Recording key field)) short cause call there = absurd (call-not outcomes one call _ there cause)
+  refused-says outcomes one (DueRefusal (Words fault)) short cause call there = absurd (task-not outcomes one (OfJob call) _ there cause)
+  refused-says outcomes one (DueRefusal (Vex fault)) short cause call there = absurd (task-not outcomes one (OfJob call) _ there cause)
+  refused-says outcomes one (DueRefusal (Schedule fault)) short cause call there = absurd (task-not outcomes one (OfJob call) _ there cause)
+  refused-says outcomes one (DueRefusal (Job fault)) short cause call there = absurd (task-not outcomes one (OfJob call) _ there cause)
+  refused-says outcomes one (DueRefusal (Join fault name)) short cause call there = absurd (task-not outcomes one (OfJob call) _ there cause)
+  refused-says outcomes one (DueRefusal (Limit quantity value)) short cause call there = absurd (task-not outcomes one (OfJob call) _ there cause)
+  refused-says outcomes one (DueRefusal (NoFile name)) short cause call there = absurd (task-not outcomes one (OfJob call) _ there cause)
+  refused-says outcomes one (DueRefusal (Recording key field)) short cause call there = absurd (task-not outcomes one (OfJob call) _ there cause)
+  refused-says outcomes one (DueRefusal (Records fault)) short cause call there = absurd (task-not outcomes one (OfJob call) _ there cause)
   refused-says outcomes one (DueRefusal (Other d)) short cause call there = other-says call (other_answer d).note (journal-other d)
   refused-says outcomes one Read short cause call there = other-says call read_answer.note read-other
   refused-says outcomes one (Journal kept) short cause call there =

@@ -1,18 +1,17 @@
 -- The numbers of an order, which stand in their ranges.
-use Rattle.std.specs.Prelude.{IfOk, nat_le, ◌&&◌, if◌then◌else◌, codes, bytes_eq, length}
+use Rattle.std.specs.Prelude.{IfOk, nat_le, ◌&&◌, if◌then◌else◌, codes, bytes_eq}
 use Rattle.std.specs.Option.{option_map_or}
 use Rattle.std.specs.Str.Parse.{digits_value}
-use Rattle.std.proofs.Common.{◌≡◌, ℕ, ◌≤◌, Bool, true, false, List, [], ◌∷◌, Option, Some, None, Result, Ok, Err, refl, sym, subst, arith}
+use Rattle.std.proofs.Common.{◌≡◌, ℕ, ◌≤◌, Bool, true, false, List, [], ◌∷◌, Option, Some, None, Result, Ok, Err, refl, subst}
 use Rattle.std.proofs.lemmas.Bool.{and_parts, leb-true}
-use Rattle.clap.specs.Words.{Row, Text, App, first_of}
+use Rattle.clap.specs.Words.{Row, Text, App}
 use Rattle.run_words.specs.declared.fault.WordsFault.{WordsFault}
-use Rattle.run_words.specs.declared.fault.WordsFault.TheVariants.{NoCommand, UnknownCommand, Option as OptionFault, Value}
+use Rattle.run_words.specs.declared.fault.WordsFault.TheVariants.{Option as OptionFault, Value}
 use Rattle.run_words.specs.declared.order.Order.{Order}
-use Rattle.run_words.specs.declared.order.Order.TheVariants.{Run, Plain, Check, Status, Dump, Gen}
 use Rattle.run_words.specs.Numbers.{is_count, within, number_in}
 use Rattle.run_words.specs.Options.{job_app, run_app, gen_app, dump_app, rows_in}
-use Rattle.run_words.specs.Orders.{◌>>=◌, needed, workers_in, piece_in, run_of, dump_of, gen_of, taken_by, job_order, order_after, order_of, job_names_of}
-use Rattle.vlbi_core.specs.Steps.{IsNumbered, IsWork}
+use Rattle.run_words.specs.Orders.{◌>>=◌, needed, workers_in, piece_in, run_of, dump_of, gen_of, taken_by, order_after, order_of, job_names_of}
+use Rattle.vlbi_core.specs.Steps.{IsNumbered, IsWork, IsSample}
 
 abbrev chosen : Bool → Result ℕ WordsFault → Result ℕ WordsFault → Result ℕ WordsFault
 chosen b x y = if b then x else y
@@ -51,6 +50,15 @@ taken-holds P app read words holds = by (rows_in app words)
     by None = tt
     by (Some rows) = holds rows
 
+in-work : (workers_text piece_text : List ℕ) (workers piece : ℕ) → workers_in workers_text ≡ Ok workers → piece_in piece_text ≡ Ok piece → IsWork workers piece
+in-work workers_text piece_text workers piece w p =
+    let few = number-range 1 64 workers_text workers w in
+    let long = number-range 64 4194304 piece_text piece p in
+    record { some = few.0; few = few.1; least = long.0; most = long.1 }
+
+in-sample : (text : List ℕ) (seconds : ℕ) → number_in 1 60 text ≡ Ok seconds → IsSample seconds
+in-sample text seconds s = let range = number-range 1 60 text seconds s in record { some = range.0; few = range.1 }
+
 run-numbered : (rows : List Row) → IfOk (run_of rows) IsNumbered
 unfolding run_of
 run-numbered rows =
@@ -59,9 +67,7 @@ run-numbered rows =
     bind-holds IsNumbered (needed (codes "piece") rows) _ (λ piece_text _.
     bind-holds IsNumbered (workers_in workers_text) _ (λ workers w.
     bind-holds IsNumbered (piece_in piece_text) _ (λ piece p.
-    let few = number-range 1 64 workers_text workers w in
-    let long = number-range 64 4194304 piece_text piece p in
-    record { some = few.0; few = few.1; least = long.0; most = long.1 })))))
+    in-work workers_text piece_text workers piece w p)))))
 
 dump-numbered : (rows : List Row) → IfOk (dump_of rows) IsNumbered
 unfolding dump_of
@@ -75,9 +81,10 @@ gen-numbered rows =
     bind-holds IsNumbered (needed (codes "workers") rows) _ (λ workers_text _.
     bind-holds IsNumbered (needed (codes "piece") rows) _ (λ piece_text _.
     bind-holds IsNumbered (number_in 0 _ seed_text) _ (λ seed _.
-    bind-holds IsNumbered (number_in 1 60 seconds_text) _ (λ seconds _.
-    bind-holds IsNumbered (workers_in workers_text) _ (λ workers _.
-    bind-holds IsNumbered (piece_in piece_text) _ (λ piece _. tt))))))))
+    bind-holds IsNumbered (number_in 1 60 seconds_text) _ (λ seconds s.
+    bind-holds IsNumbered (workers_in workers_text) _ (λ workers w.
+    bind-holds IsNumbered (piece_in piece_text) _ (λ piece p.
+    (in-sample seconds_text seconds s, in-work workers_text piece_text workers piece w p)))))))))
 
 after-numbered : (command : Text) (words : List Text) → IfOk (order_after command words) IsNumbered
 unfolding order_after
@@ -95,7 +102,3 @@ order-numbered (command ∷ words) = after-numbered command words
 
 pub numbered : (texts : List Text) (order : Order) → order_of texts ≡ Ok order → IsNumbered order
 numbered texts order is = subst (λ (r : Result Order WordsFault). IfOk r IsNumbered) is (order-numbered texts)
-
-pub kept-numbered : {E : Type 0} (order : Order) (r : Result Order E) → IfOk r (λ same. same ≡ order) → IsNumbered order → IfOk r IsNumbered
-kept-numbered order (Ok same) is holds = subst IsNumbered (sym is) holds
-kept-numbered order (Err fault) is holds = tt

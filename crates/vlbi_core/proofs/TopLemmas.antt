@@ -1,10 +1,9 @@
 -- The status of a call, what it appended, what it left in the journal and its note.
-use Rattle.std.specs.Prelude.{IsErr, IsOk, IfErr, OnOk, IsSome, codes, decimal, drop}
-use Rattle.std.proofs.Common.{◌≡◌, ◌∙◌, ◌⊎◌, ⊎_elim, inl, inr, ℕ, ◌+◌, ◌≤◌, ◌<◌, Bool, true, false, List, [], ◌++◌, length, Option, Some, None, Result, Ok, Err, refl, sym, ap, subst, arith}
+use Rattle.std.specs.Prelude.{IsErr, IsOk, IsSome}
+use Rattle.std.proofs.Common.{◌≡◌, ◌∙◌, ◌⊎◌, inl, inr, ℕ, ◌+◌, true, List, [], ◌++◌, length, Option, Some, None, Result, Ok, Err, refl, sym, ap, subst, arith}
 use Rattle.std.proofs.lemmas.List.{append-nil}
 use Rattle.dev_traits.specs.Fault.{HasRisen}
-use Rattle.dev_traits.specs.Told.{more, PrefixMore, WhereTold}
-use Rattle.dev_traits.specs.Moments.{Runs, NeverFalls}
+use Rattle.dev_traits.specs.Told.{more, WhereTold}
 use Rattle.dev_traits.proofs.Moments.{always, never_falls}
 use Rattle.sink_text.specs.Appends.{Appends}
 use Rattle.sink_text.proofs.AppendedText.{Appends-part}
@@ -13,28 +12,31 @@ use Rattle.job_plan.specs.declared.plan.Plan.{Plan}
 use Rattle.job_plan.specs.Output.{output}
 use Rattle.checkpoint_journal.specs.declared.fault.Differs.{Differs}
 use Rattle.checkpoint_journal.specs.Finding.{IsOther}
-use Rattle.checkpoint_journal.specs.Runs.{Looks, Changes, StepTold, KeepsBodies}
+use Rattle.checkpoint_journal.specs.Runs.{Looks, Changes}
 use Rattle.checkpoint_journal.proofs.RunLemmas.{changes_looks, told_value}
 use Rattle.run_words.specs.declared.fault.WordsFault.{WordsFault}
 use Rattle.run_words.specs.declared.order.Order.{Order}
 use Rattle.run_words.specs.declared.order.Order.TheVariants.{Run, Plain, Check, Status, Dump, Gen}
 use Rattle.run_notes.specs.declared.refusal.Due.{Due}
-use Rattle.run_notes.specs.declared.refusal.Due.TheVariants.{Words, Vex, Schedule, Job, Join, Limit, NoFile, Recording, Other}
+use Rattle.run_notes.specs.declared.refusal.Due.TheVariants.{Words, Vex, Schedule, Job, Join, Limit, NoFile, Recording, Records, Other}
 use Rattle.run_notes.specs.declared.refusal.Refusal.{Refusal}
 use Rattle.run_notes.specs.declared.refusal.Refusal.TheVariants.{Memory, Due as DueRefusal, Read, Journal, Write}
-use Rattle.run_notes.specs.Answers.{Answer, words_answer, memory_answer, read_answer, journal_answer, write_answer, other_answer}
+use Rattle.run_notes.specs.Answers.{Answer, words_answer, journal_answer}
 use Rattle.run_notes.specs.Refusals.{Outcomes, MatchRead, MatchJournal, MatchWrite, answer_of, due_answer}
 use Rattle.run_ready.specs.Steps.{Is, Then, answered}
 use Rattle.run_ready.specs.Recordings.{files_answer, recordings_answer}
-use Rattle.run_ready.specs.Outcome.{Wrong, PlanBy, SurveyOf, PlanOf}
+use Rattle.run_ready.specs.Outcome.{Wrong, PlanBy}
 use Rattle.run_journal.specs.Extended.{AreFrom, Extends}
-use Rattle.vlbi_core.specs.Calls.{Call, PlanFor, CallFor, identity_for, sizes_for, bodies_for, kept_for, is_run, uses_journal}
-use Rattle.vlbi_core.specs.Texts.{IsSums, IsPart, epochs_for}
-use Rattle.vlbi_core.specs.Run.{IsVerdictStatus, IsDueStatus, IsStatus, IsUsable, IsForeign, IsVerdict, IsAppended, IsJournalLine, IsLineOf, IsNoted}
-use Rattle.vlbi_core.specs.Restart.{IsHonest, Continues, StaysHonest, SaysKept, IsRunOf, IsNoRun}
-use Rattle.vlbi_core.specs.Steps.{OutcomeFrom, IsWordedBy, IsOpened, IsCauseOf, IsDueCause, IsPartly, IsDone, IsRunning, Does, MatchDue, MatchEarly, MatchOther, MatchVerdict, Leaves, SaysFor}
+use Rattle.vis_records.specs.Content.{Content}
+use Rattle.run_dump.specs.Shown.{RecordsOf}
+use Rattle.vlbi_core.specs.Sample.{sample_shelf, sample_order}
+use Rattle.vlbi_core.specs.Calls.{Call, Task, OfJob, OfRecords, PlanFor, JobFor, ShowFor, TaskFor, identity_for, sizes_for, bodies_for, kept_for, is_run}
+use Rattle.vlbi_core.specs.Texts.{IsSums, epochs_for}
+use Rattle.vlbi_core.specs.Run.{IsVerdictStatus, IsDueStatus, IsStatus, IsUsable, IsForeign, IsVerdict, IsAppended, IsLineOf, IsNoted}
+use Rattle.vlbi_core.specs.Restart.{IsHonest, Continues, StaysHonest}
+use Rattle.vlbi_core.specs.Steps.{OutcomeFrom, IsWordedBy, IsOpened, IsCauseOf, IsDueCause, IsPartly, IsDone, IsRunning, MatchDue, MatchEarly, MatchVerdict}
 use Rattle.vlbi_core.proofs.ExtendLemmas.{some_bodies, AreFrom-append, Extends-stays, Extends-counts}
-use Rattle.vlbi_core.proofs.CommandLemmas.{not_both}
+use Rattle.vlbi_core.proofs.CommandLemmas.{one-job}
 
 -- ---- outcomes, of which there is one
 
@@ -82,26 +84,58 @@ plan-one law files (Plain job vex) a b p q = law files (recordings_answer files)
 plan-one law files (Check job vex) a b p q = law files (recordings_answer files) (Check job vex) a b p q
 plan-one law files (Status job vex) a b p q = law files (files_answer files) (Status job vex) a b p q
 plan-one law files (Dump file) a b p q = law files (recordings_answer files) (Dump file) a b p q
-plan-one law files (Gen seed seconds workers piece) a b p q = law files (recordings_answer files) (Gen seed seconds workers piece) a b p q
+plan-one law files (Gen seed seconds workers piece) a b p q = law (sample_shelf seed seconds) (recordings_answer (sample_shelf seed seconds)) (sample_order workers piece) a b p q
 
-call-one : OneOutcome → (files : Files) (order : Order) → AreOne (CallFor files order)
-call-one law files order (Ok a) (Ok b) p q =
+job-one : OneOutcome → (files : Files) (order : Order) → AreOne (JobFor files order)
+job-one law files order (Ok (OfJob a)) (Ok (OfJob b)) p q =
     let plans : Ok a.plan ≡ Ok b.plan = plan-one law files order (Ok a.plan) (Ok b.plan) p.1 q.1 in
     let one : a.order ≡ b.order = p.0 ∙ sym q.0 in
     let two : a.plan ≡ b.plan = cc in
-    ap Ok (λ i. record { order = one i; plan = two i })
-call-one law files order (Ok a) (Err e) p q = let h : Ok a.plan ≡ Err e = plan-one law files order (Ok a.plan) (Err e) p.1 q in cc
-call-one law files order (Err d) (Ok b) p q = let h : Ok b.plan ≡ Err d = plan-one law files order (Ok b.plan) (Err d) q.1 p in cc
-call-one law files order (Err d) (Err e) p q =
+    λ i. Ok (OfJob (record { order = one i; plan = two i }))
+job-one law files order (Ok (OfJob a)) (Ok (OfRecords content)) p q = absurd q
+job-one law files order (Ok (OfRecords content)) b p q = absurd p
+job-one law files order (Ok (OfJob a)) (Err e) p q = let h : Ok a.plan ≡ Err e = plan-one law files order (Ok a.plan) (Err e) p.1 q in cc
+job-one law files order (Err d) (Ok (OfJob b)) p q = let h : Ok b.plan ≡ Err d = plan-one law files order (Ok b.plan) (Err d) q.1 p in cc
+job-one law files order (Err d) (Ok (OfRecords content)) p q = absurd q
+job-one law files order (Err d) (Err e) p q =
     let x : Result Plan Answer = Err d in
     let y : Result Plan Answer = Err e in
     let h : x ≡ y = plan-one law files order x y p q in
     let same : d ≡ e = cc in
     ap Err same
 
-pub outcome-one : OneOutcome → (wanted : Result Order WordsFault) (files : Files) → AreOne (OutcomeFrom wanted files)
-outcome-one law wanted files =
-    Then-one (Is (answered words_answer wanted)) (CallFor files) (λ a b p q. p ∙ sym q) (λ order. call-one law files order)
+show-one : (outcomes : Outcomes Content) → AreOne outcomes → AreOne (ShowFor outcomes)
+show-one outcomes one (Ok (OfJob call)) b p q = absurd p
+show-one outcomes one (Ok (OfRecords a)) (Ok (OfJob call)) p q = absurd q
+show-one outcomes one (Ok (OfRecords a)) (Ok (OfRecords b)) p q =
+    let h : Ok a ≡ Ok b = one (Ok a) (Ok b) p q in
+    let same : a ≡ b = cc in
+    ap (λ (content : Content). Ok (OfRecords content)) same
+show-one outcomes one (Ok (OfRecords a)) (Err e) p q = let h : Ok a ≡ Err e = one (Ok a) (Err e) p q in cc
+show-one outcomes one (Err d) (Ok (OfJob call)) p q = absurd q
+show-one outcomes one (Err d) (Ok (OfRecords b)) p q = let h : Ok b ≡ Err d = one (Ok b) (Err d) q p in cc
+show-one outcomes one (Err d) (Err e) p q =
+    let x : Result Content Answer = Err d in
+    let y : Result Content Answer = Err e in
+    let h : x ≡ y = one x y p q in
+    let same : d ≡ e = cc in
+    ap Err same
+
+-- the law of record files
+abbrev pub OneShown : Type 0
+OneShown = (files : Files) (name : List ℕ) (a b : Result Content Answer) → RecordsOf files name a → RecordsOf files name b → a ≡ b
+
+task-one : OneOutcome → OneShown → (files : Files) (order : Order) → AreOne (TaskFor files order)
+task-one law shown files (Run job vex workers piece) = job-one law files (Run job vex workers piece)
+task-one law shown files (Plain job vex) = job-one law files (Plain job vex)
+task-one law shown files (Check job vex) = job-one law files (Check job vex)
+task-one law shown files (Status job vex) = job-one law files (Status job vex)
+task-one law shown files (Dump file) = show-one (RecordsOf files file) (shown files file)
+task-one law shown files (Gen seed seconds workers piece) = job-one law files (Gen seed seconds workers piece)
+
+pub outcome-one : OneOutcome → OneShown → (wanted : Result Order WordsFault) (files : Files) → AreOne (OutcomeFrom wanted files)
+outcome-one law shown wanted files =
+    Then-one (Is (answered words_answer wanted)) (TaskFor files) (λ a b p q. p ∙ sym q) (λ order. task-one law shown files order)
 
 -- ---- statuses
 
@@ -112,6 +146,7 @@ due-status (Schedule fault) = inr (inr (inl refl))
 due-status (Job fault) = inr (inr (inr (inl refl)))
 due-status (Join fault name) = inr (inr (inr (inl refl)))
 due-status (Recording key field) = inr (inr (inr (inr (inl refl))))
+due-status (Records fault) = inr (inr (inr (inr (inl refl))))
 due-status (Limit quantity value) = inr (inr (inr (inr (inr (inl refl)))))
 due-status (NoFile name) = inr (inr (inr (inr (inr (inr refl)))))
 due-status (Other d) = inl refl
@@ -159,6 +194,7 @@ status-words wanted (DueRefusal (Join fault name)) by is = absurd cc
 status-words wanted (DueRefusal (Limit quantity value)) by is = absurd cc
 status-words wanted (DueRefusal (NoFile name)) by is = absurd cc
 status-words wanted (DueRefusal (Recording key field)) by is = absurd cc
+status-words wanted (DueRefusal (Records fault)) by is = absurd cc
 status-words wanted (DueRefusal (Other d)) by is = absurd cc
 status-words wanted Read by is = absurd cc
 status-words wanted (Journal kept) by is = absurd (not_journal kept 2 is (λ e. cc))
@@ -176,6 +212,7 @@ words-status wanted (DueRefusal (Join fault name)) by err = absurd (not-ok wante
 words-status wanted (DueRefusal (Limit quantity value)) by err = absurd (not-ok wanted by err)
 words-status wanted (DueRefusal (NoFile name)) by err = absurd (not-ok wanted by err)
 words-status wanted (DueRefusal (Recording key field)) by err = absurd (not-ok wanted by err)
+words-status wanted (DueRefusal (Records fault)) by err = absurd (not-ok wanted by err)
 words-status wanted (DueRefusal (Other d)) by err = absurd (not-ok wanted by err)
 words-status wanted Read by err = absurd (not-ok wanted by err)
 words-status wanted (Journal kept) by err = absurd (not-ok wanted by err)
@@ -230,28 +267,30 @@ write-kept Write P Q fact not = absurd (not refl)
 abbrev no_reading : Option (List (List ℕ))
 no_reading = None
 
-module _ (outcomes : Outcomes Call) (one : AreOne outcomes) where
-  pub call-not : (call : Call) (answer : Answer) → outcomes (Ok call) → outcomes (Err answer) → ⊥
-  call-not call answer p q = let h : Ok call ≡ Err answer = one (Ok call) (Err answer) p q in cc
+module _ (outcomes : Outcomes Task) (one : AreOne outcomes) where
+  pub task-not : (task : Task) (answer : Answer) → outcomes (Ok task) → outcomes (Err answer) → ⊥
+  task-not task answer p q = let h : Ok task ≡ Err answer = one (Ok task) (Err answer) p q in cc
 
-  pub calls-same : (a b : Call) → outcomes (Ok a) → outcomes (Ok b) → a ≡ b
-  calls-same a b p q = let h : Ok a ≡ Ok b = one (Ok a) (Ok b) p q in cc
+  pub tasks-same : (a b : Task) → outcomes (Ok a) → outcomes (Ok b) → a ≡ b
+  tasks-same a b p q = let h : Ok a ≡ Ok b = one (Ok a) (Ok b) p q in cc
+
+  pub calls-same : (a b : Call) → outcomes (Ok (OfJob a)) → outcomes (Ok (OfJob b)) → a ≡ b
+  calls-same a b p q = one-job a b (tasks-same (OfJob a) (OfJob b) p q)
 
   answers-same : (a b : Answer) → outcomes (Err a) → outcomes (Err b) → a ≡ b
   answers-same a b p q =
-      let x : Result Call Answer = Err a in
-      let y : Result Call Answer = Err b in
+      let x : Result Task Answer = Err a in
+      let y : Result Task Answer = Err b in
       let h : x ≡ y = one x y p q in
       cc
 
   -- a journal that was opened is not another job's
-  opened-not : (files : Files) (a b : Call) (journal : Option (List ℕ)) (image : List ℕ) → outcomes (Ok a) → outcomes (Ok b) → IsOpened files a journal
+  opened-not : (files : Files) (a : Task) (b : Call) (journal : Option (List ℕ)) (image : List ℕ) → outcomes (Ok a) → outcomes (Ok (OfJob b)) → IsOpened files a journal
       → journal ≡ Some image → IsForeign files b image → ⊥
   opened-not files a b journal image p q opened is foreign =
-      let same : b ≡ a = calls-same b a q p in
-      let at : IsForeign files a image = subst (λ (c : Call). IsForeign files c image) same foreign in
-      let some : IsSome (bodies_for files a image) = told_value journal (λ v. IsSome (bodies_for files a v)) image is (opened at.uses) in
-      let gone : IsSome no_reading = subst (λ (o : Option (List (List ℕ))). IsSome o) at.unread some in
+      let at : IsOpened files (OfJob b) journal = subst (λ (t : Task). IsOpened files t journal) (tasks-same a (OfJob b) p q) opened in
+      let some : IsSome (bodies_for files b image) = told_value journal (λ v. IsSome (bodies_for files b v)) image is (at foreign.uses) in
+      let gone : IsSome no_reading = subst (λ (o : Option (List (List ℕ))). IsSome o) foreign.unread some in
       cc
 
   pub verdict-done : {D : Type 0} (files : Files) (seen : D → Option (List ℕ)) (moment : D → ℕ) (may_leave : D → ℕ → List ℕ → Type 0) (before after : D) (old new : Option (List ℕ))
@@ -259,9 +298,9 @@ module _ (outcomes : Outcomes Call) (one : AreOne outcomes) where
       → IsVerdict outcomes files (seen before) 0 read_fault journal_fault write_fault
   verdict-done files seen moment may_leave before after old new read_fault journal_fault write_fault done = record {
     due = λ is. absurd (due-not 0 0 (inr is) refl (inl refl));
-    refused = λ answer fact. absurd (call-not done.call answer done.outcome fact);
+    refused = λ answer fact. absurd (task-not done.task answer done.outcome fact);
     other = λ is. absurd cc;
-    foreign = λ call image there is foreign. absurd (opened-not files done.call call (seen before) image done.outcome there done.opened is foreign);
+    foreign = λ call image there is foreign. absurd (opened-not files done.task call (seen before) image done.outcome there done.opened is foreign);
     complete = λ _ _ _ _ _. inl refl;
   }
 
@@ -273,8 +312,8 @@ module _ (outcomes : Outcomes Call) (one : AreOne outcomes) where
     due = λ _. (due_answer due, cause, refl);
     refused = λ answer fact. inl (ap (λ (a : Answer). a.status) (answers-same (due_answer due) answer cause fact));
     other = λ ten. absurd (not-ten (due_answer due).status is ten);
-    foreign = λ call image there _ _. absurd (call-not call (due_answer due) there cause);
-    complete = λ call there _ _ _. absurd (call-not call (due_answer due) there cause);
+    foreign = λ call image there _ _. absurd (task-not (OfJob call) (due_answer due) there cause);
+    complete = λ task there _ _ _. absurd (task-not task (due_answer due) there cause);
   }
     where
       not-ten : (status : ℕ) → IsVerdictStatus status → status ≡ 10 → ⊥
@@ -284,10 +323,10 @@ module _ (outcomes : Outcomes Call) (one : AreOne outcomes) where
       → IsVerdict outcomes files before 10 read_fault journal_fault write_fault
   verdict-other files d before read_fault journal_fault write_fault cause = record {
     due = λ is. absurd (ten-not 10 is refl);
-    refused = λ answer fact. absurd (call-not cause.call answer cause.outcome fact);
+    refused = λ answer fact. absurd (task-not (OfJob cause.call) answer cause.outcome fact);
     other = λ _. (cause.call, cause.outcome, foreign before cause.other);
     foreign = λ _ _ _ _ _. inl refl;
-    complete = λ call there _ _ usable. absurd (unusable call there usable);
+    complete = λ task there _ _ usable. absurd (unusable task there usable);
   }
     where
       ten-not : (status : ℕ) → IsVerdictStatus status → status ≡ 10 → ⊥
@@ -297,10 +336,10 @@ module _ (outcomes : Outcomes Call) (one : AreOne outcomes) where
       foreign None other = tt
       foreign (Some image) other = record { uses = cause.uses; unread = other.unread }
 
-      unusable : (call : Call) → outcomes (Ok call) → IsUsable files call before journal_fault → ⊥
-      unusable call there usable =
-          let same : call ≡ cause.call = calls-same call cause.call there cause.outcome in
-          let usable_here : IsUsable files cause.call before journal_fault = subst (λ (c : Call). IsUsable files c before journal_fault) same usable in
+      unusable : (task : Task) → outcomes (Ok task) → IsUsable files task before journal_fault → ⊥
+      unusable task there usable =
+          let same : task ≡ OfJob cause.call = tasks-same task (OfJob cause.call) there cause.outcome in
+          let usable_here : IsUsable files (OfJob cause.call) before journal_fault = subst (λ (t : Task). IsUsable files t before journal_fault) same usable in
           let at = usable_here cause.uses in
           let unread = (told_value before (λ image. IsOther (identity_for files cause.call) (sizes_for cause.call) image d) at.1.0 at.1.1 cause.other).unread in
           let gone : IsSome no_reading = subst (λ (o : Option (List (List ℕ))). IsSome o) unread at.1.2 in
@@ -328,6 +367,8 @@ module _ (outcomes : Outcomes Call) (one : AreOne outcomes) where
       verdict-of-due files (Join fault name) before read_fault journal_fault write_fault cause (inr (inr (inl refl)))
   verdict-refused files images before after old new read_fault journal_fault write_fault Q R S (DueRefusal (Recording key field)) cause reads journal writes =
       verdict-of-due files (Recording key field) before read_fault journal_fault write_fault cause (inr (inr (inr (inl refl))))
+  verdict-refused files images before after old new read_fault journal_fault write_fault Q R S (DueRefusal (Records fault)) cause reads journal writes =
+      verdict-of-due files (Records fault) before read_fault journal_fault write_fault cause (inr (inr (inr (inl refl))))
   verdict-refused files images before after old new read_fault journal_fault write_fault Q R S (DueRefusal (Limit quantity value)) cause reads journal writes =
       verdict-of-due files (Limit quantity value) before read_fault journal_fault write_fault cause (inr (inr (inr (inr (inl refl)))))
   verdict-refused files images before after old new read_fault journal_fault write_fault Q R S (DueRefusal (NoFile name)) cause reads journal writes =
@@ -344,34 +385,34 @@ module _ (outcomes : Outcomes Call) (one : AreOne outcomes) where
   verdict-refused files images before after old new read_fault journal_fault write_fault Q R S (Journal kept) cause reads journal writes =
       subst (λ (status : ℕ). IsVerdict outcomes files before status read_fault journal_fault write_fault) (sym (journal-status kept)) (record {
         due = λ is. absurd (due-not 8 8 (inr is) refl (inr (inr (inr (inl refl)))));
-        refused = λ answer fact. absurd (call-not cause.call answer cause.outcome fact);
+        refused = λ answer fact. absurd (task-not (OfJob cause.call) answer cause.outcome fact);
         other = λ is. absurd cc;
         foreign = λ _ _ _ _ _. inr (inr (inr refl));
-        complete = λ call there _ _ usable.
-            let same : call ≡ cause.call = calls-same call cause.call there cause.outcome in
-            let usable_here : IsUsable files cause.call before journal_fault = subst (λ (c : Call). IsUsable files c before journal_fault) same usable in
+        complete = λ task there _ _ usable.
+            let same : task ≡ OfJob cause.call = tasks-same task (OfJob cause.call) there cause.outcome in
+            let usable_here : IsUsable files (OfJob cause.call) before journal_fault = subst (λ (t : Task). IsUsable files t before journal_fault) same usable in
             absurd ((usable_here cause.uses).0 journal);
       })
   verdict-refused files images before after old new read_fault journal_fault write_fault Q R S Write cause reads journal writes = record {
     due = λ is. absurd (due-not 9 9 (inr is) refl (inr (inr (inr (inr refl)))));
-    refused = λ answer fact. absurd (call-not cause.call answer cause.outcome fact);
+    refused = λ answer fact. absurd (task-not cause.task answer cause.outcome fact);
     other = λ is. absurd cc;
-    foreign = λ call image there is foreign. absurd (opened-not files cause.call call before image cause.outcome there cause.opened is foreign);
+    foreign = λ call image there is foreign. absurd (opened-not files cause.task call before image cause.outcome there cause.opened is foreign);
     complete = λ _ _ _ no_write _. absurd (no_write writes);
   }
 
 -- ---- what is appended
 
-pub appended-done : {D : Type 0} (outcomes : Outcomes Call) (files : Files) (seen : D → Option (List ℕ)) (moment : D → ℕ) (may_leave : D → ℕ → List ℕ → Type 0) (before after : D)
+pub appended-done : {D : Type 0} (outcomes : Outcomes Task) (files : Files) (seen : D → Option (List ℕ)) (moment : D → ℕ) (may_leave : D → ℕ → List ℕ → Type 0) (before after : D)
     (old new : Option (List ℕ)) → IsDone outcomes files seen moment may_leave before after old new → IsAppended outcomes files (seen before) (seen after) 0 old new
 appended-done outcomes files seen moment may_leave before after old new done = record {
-  done = λ _. (done.call, done.outcome, (done.text, done.is, done.told));
+  done = λ _. (done.task, done.outcome, (done.text, done.is, done.told));
   nothing = λ is. absurd (due-not 0 0 is refl (inl refl));
   part = λ is. absurd (grind arith);
   write = λ is. absurd cc;
 }
 
-pub appended-refused : (outcomes : Outcomes Call) (files : Files) (before after old new : Option (List ℕ)) (r : Refusal) → IsPartly r outcomes files before after old new
+pub appended-refused : (outcomes : Outcomes Task) (files : Files) (before after old new : Option (List ℕ)) (r : Refusal) → IsPartly r outcomes files before after old new
     → IsAppended outcomes files before after (answer_of r).status old new
 appended-refused outcomes files before after old new Memory part = record {
   done = λ is. absurd cc;
@@ -438,6 +479,7 @@ verdict-fact (DueRefusal (Join fault name)) P Q fact is = fact
 verdict-fact (DueRefusal (Limit quantity value)) P Q fact is = fact
 verdict-fact (DueRefusal (NoFile name)) P Q fact is = fact
 verdict-fact (DueRefusal (Recording key field)) P Q fact is = fact
+verdict-fact (DueRefusal (Records fault)) P Q fact is = fact
 verdict-fact (DueRefusal (Other d)) P Q fact is = absurd (verdict-not 10 10 is refl (inl refl))
 verdict-fact Read P Q fact is = absurd (due-not 7 7 (inr is) refl (inr (inr (inl refl))))
 verdict-fact (Journal kept) P Q fact is = absurd (due-not _ 8 (inr is) (journal-status kept) (inr (inr (inr (inl refl)))))
@@ -453,6 +495,7 @@ other-fact (DueRefusal (Join fault name)) P Q fact is = absurd cc
 other-fact (DueRefusal (Limit quantity value)) P Q fact is = absurd cc
 other-fact (DueRefusal (NoFile name)) P Q fact is = absurd cc
 other-fact (DueRefusal (Recording key field)) P Q fact is = absurd cc
+other-fact (DueRefusal (Records fault)) P Q fact is = absurd cc
 other-fact (DueRefusal (Other d)) P Q fact is = fact
 other-fact Read P Q fact is = absurd cc
 other-fact (Journal kept) P Q fact is = absurd (not_journal kept 10 is (λ e. cc))
@@ -475,7 +518,7 @@ honest-extends files call v image honest (inr g) =
 
 module _ {D : Type 0} (seen : D → Option (List ℕ)) (moment : D → ℕ) (may_leave : D → ℕ → List ℕ → Type 0) where
   -- a call that continues its job, by what happened to the journal
-  goes-call : (outcomes : Outcomes Call) (one : AreOne outcomes) (files : Files) (before after : D) (call : Call) → outcomes (Ok call)
+  goes-call : (outcomes : Outcomes Task) (one : AreOne outcomes) (files : Files) (before after : D) (call : Call) → outcomes (Ok (OfJob call))
       → Looks seen moment may_leave before after ⊎ IsRunning outcomes files seen moment may_leave before after
       → Changes seen moment may_leave (Extends (IsSums files call.plan) (identity_for files call) (sizes_for call)) before after
   goes-call outcomes one files before after call there (inl looks) =
@@ -484,10 +527,10 @@ module _ {D : Type 0} (seen : D → Option (List ℕ)) (moment : D → ℕ) (may
       subst (λ (c : Call). Changes seen moment may_leave (Extends (IsSums files c.plan) (identity_for files c) (sizes_for c)) before after)
       (calls-same outcomes one running.call call running.outcome there) running.changes
 
-  pub stays-honest : (outcomes : Outcomes Call) (one : AreOne outcomes) (files : Files) (before after : D) (status : ℕ)
+  pub stays-honest : (outcomes : Outcomes Task) (one : AreOne outcomes) (files : Files) (before after : D) (status : ℕ)
       → Looks seen moment may_leave before after ⊎ IsRunning outcomes files seen moment may_leave before after
-      → ((call : Call) → outcomes (Ok call) → is_run call.order ≡ true → status ≡ 0 → (image : List ℕ) → may_leave after (moment after) image → kept_for files call image ≡ epochs_for call)
-      → (call : Call) → outcomes (Ok call) → Continues files call (may_leave before (moment before)) → StaysHonest files call status moment may_leave before after
+      → ((call : Call) → outcomes (Ok (OfJob call)) → is_run call.order ≡ true → status ≡ 0 → (image : List ℕ) → may_leave after (moment after) image → kept_for files call image ≡ epochs_for call)
+      → (call : Call) → outcomes (Ok (OfJob call)) → Continues files call (may_leave before (moment before)) → StaysHonest files call status moment may_leave before after
   stays-honest outcomes one files before after status goes all call there continues =
       let changes = goes-call outcomes one files before after call there goes in
       record {
@@ -498,30 +541,25 @@ module _ {D : Type 0} (seen : D → Option (List ℕ)) (moment : D → ℕ) (may
         all = λ done. all call there continues.run done;
       }
 
-  pub all-done : (outcomes : Outcomes Call) (one : AreOne outcomes) (files : Files) (before after : D) (old new : Option (List ℕ)) → IsDone outcomes files seen moment may_leave before after old new
-      → (call : Call) → outcomes (Ok call) → is_run call.order ≡ true → ◌≡◌ {A = ℕ} 0 0 → (image : List ℕ) → may_leave after (moment after) image → kept_for files call image ≡ epochs_for call
+  pub all-done : (outcomes : Outcomes Task) (one : AreOne outcomes) (files : Files) (before after : D) (old new : Option (List ℕ)) → IsDone outcomes files seen moment may_leave before after old new
+      → (call : Call) → outcomes (Ok (OfJob call)) → is_run call.order ≡ true → ◌≡◌ {A = ℕ} 0 0 → (image : List ℕ) → may_leave after (moment after) image → kept_for files call image ≡ epochs_for call
   all-done outcomes one files before after old new done call there run zero image now =
-      let same : done.call ≡ call = calls-same outcomes one done.call call done.outcome there in
-      let at : is_run done.call.order ≡ true = subst (λ (c : Call). is_run c.order ≡ true) (sym same) run in
-      subst (λ (c : Call). kept_for files c image ≡ epochs_for c) same (done.all at image now)
+      done.all call (tasks-same outcomes one done.task (OfJob call) done.outcome there) run image now
 
-  pub headline-done : (outcomes : Outcomes Call) (one : AreOne outcomes) (files : Files) (before after : D) (old new : Option (List ℕ)) → WhereTold (seen before) (may_leave before (moment before))
+  pub headline-done : (outcomes : Outcomes Task) (one : AreOne outcomes) (files : Files) (before after : D) (old new : Option (List ℕ)) → WhereTold (seen before) (may_leave before (moment before))
       → IsDone outcomes files seen moment may_leave before after old new
-      → WhereTold (seen before) (λ image. (call : Call) → outcomes (Ok call) → Continues files call (may_leave before (moment before)) → ◌≡◌ {A = ℕ} 0 0 → new ≡ more old (output call.plan files))
+      → WhereTold (seen before) (λ image. (call : Call) → outcomes (Ok (OfJob call)) → Continues files call (may_leave before (moment before)) → ◌≡◌ {A = ℕ} 0 0 → new ≡ more old (output call.plan files))
   headline-done outcomes one files before after old new law done = by (seen before) law done.sums
     where
       by : (o : Option (List ℕ)) → WhereTold o (may_leave before (moment before))
-          → (is_run done.call.order ≡ true → WhereTold o (λ image. IsHonest files done.call image → new ≡ more old (output done.call.plan files)))
-          → WhereTold o (λ image. (call : Call) → outcomes (Ok call) → Continues files call (may_leave before (moment before)) → ◌≡◌ {A = ℕ} 0 0 → new ≡ more old (output call.plan files))
+          → ((call : Call) → done.task ≡ OfJob call → is_run call.order ≡ true → WhereTold o (λ image. IsHonest files call image → new ≡ more old (output call.plan files)))
+          → WhereTold o (λ image. (call : Call) → outcomes (Ok (OfJob call)) → Continues files call (may_leave before (moment before)) → ◌≡◌ {A = ℕ} 0 0 → new ≡ more old (output call.plan files))
       by None now sums = tt
       by (Some image) now sums = λ call there continues zero.
-          let same : done.call ≡ call = calls-same outcomes one done.call call done.outcome there in
-          let run : is_run done.call.order ≡ true = subst (λ (c : Call). is_run c.order ≡ true) (sym same) continues.run in
-          let honest : IsHonest files done.call image = subst (λ (c : Call). IsHonest files c image) (sym same) (continues.honest image now) in
-          subst (λ (c : Call). new ≡ more old (output c.plan files)) same (sums run honest)
+          sums call (tasks-same outcomes one done.task (OfJob call) done.outcome there) continues.run (continues.honest image now)
 
-  pub headline-refused : (P : List ℕ → Call → Type 0) (status : ℕ) (o : Option (List ℕ)) (outcomes : Outcomes Call) (Q : Call → Type 0) → (status ≡ 0 → ⊥)
-      → WhereTold o (λ image. (call : Call) → outcomes (Ok call) → Q call → status ≡ 0 → P image call)
+  pub headline-refused : (P : List ℕ → Call → Type 0) (status : ℕ) (o : Option (List ℕ)) (outcomes : Outcomes Task) (Q : Call → Type 0) → (status ≡ 0 → ⊥)
+      → WhereTold o (λ image. (call : Call) → outcomes (Ok (OfJob call)) → Q call → status ≡ 0 → P image call)
   headline-refused P status None outcomes Q not = tt
   headline-refused P status (Some image) outcomes Q not = λ call there q zero. absurd (not zero)
 
@@ -534,7 +572,7 @@ refusal-not-zero Write is = cc
 
 -- ---- notes
 
-pub line-refused : (outcomes : Outcomes Call) (files : Files) (images : List ℕ → Type 0) (before after old new : Option (List ℕ)) (r : Refusal)
+pub line-refused : (outcomes : Outcomes Task) (files : Files) (images : List ℕ → Type 0) (before after old new : Option (List ℕ)) (r : Refusal)
     → IsCauseOf r outcomes files images before after old new → IsLineOf outcomes files before (answer_of r).status (answer_of r).note
 line-refused outcomes files images before after old new Memory cause = inl (inr (inl (refl, refl)))
 line-refused outcomes files images before after old new (DueRefusal (Words fault)) cause = inr (inr (inl refl, (words_answer fault, cause, (refl, refl))))
@@ -543,6 +581,7 @@ line-refused outcomes files images before after old new (DueRefusal (Schedule fa
 line-refused outcomes files images before after old new (DueRefusal (Job fault)) cause = inr (inr (inr (inr (inl refl)), (due_answer (Job fault), cause, (refl, refl))))
 line-refused outcomes files images before after old new (DueRefusal (Join fault name)) cause = inr (inr (inr (inr (inl refl)), (due_answer (Join fault name), cause, (refl, refl))))
 line-refused outcomes files images before after old new (DueRefusal (Recording key field)) cause = inr (inr (inr (inr (inr (inl refl))), (due_answer (Recording key field), cause, (refl, refl))))
+line-refused outcomes files images before after old new (DueRefusal (Records fault)) cause = inr (inr (inr (inr (inr (inl refl))), (due_answer (Records fault), cause, (refl, refl))))
 line-refused outcomes files images before after old new (DueRefusal (Limit quantity value)) cause = inr (inr (inr (inr (inr (inr (inl refl)))), (due_answer (Limit quantity value), cause, (refl, refl))))
 line-refused outcomes files images before after old new (DueRefusal (NoFile name)) cause = inr (inr (inr (inr (inr (inr (inr refl)))), (due_answer (NoFile name), cause, (refl, refl))))
 line-refused outcomes files images before after old new (DueRefusal (Other d)) cause =

@@ -1,41 +1,31 @@
--- What words and files come to: a command with the plan of its job, or the answer of the first thing that is wrong.
-use Rattle.std.specs.Prelude.{◌≡◌, ⊤, ℕ, Bool, true, false, List, map, Option, Result, Ok, Err, String, string_bytes}
+-- What words and files come to: a command with the plan of its job, the content of a record file, or the answer of the first
+-- thing that is wrong.
+use Rattle.std.specs.Prelude.{◌≡◌, ℕ, Bool, true, false, List, map, Option, Result, Ok, Err, String, string_bytes}
 use Rattle.std.specs.declared.alloc.Global.{Global}
 use Rattle.corr_model.specs.Files.{Files}
 use Rattle.job_plan.specs.declared.plan.Plan.{Plan}
 use Rattle.job_epochs.specs.Sizes.{sizes_of}
+use Rattle.vis_records.specs.Content.{Content}
 use Rattle.checkpoint_journal.specs.Image.{body_sizes, reading, kept_in}
 use Rattle.run_words.specs.declared.fault.WordsFault.{WordsFault}
-use Rattle.run_words.specs.declared.fault.WordsFault.TheVariants.{UnknownCommand}
 use Rattle.run_words.specs.declared.order.Order.{Order}
-use Rattle.run_words.specs.declared.order.Order.TheVariants.{Run, Plain, Check, Status, Dump, Gen}
+use Rattle.run_words.specs.declared.order.Order.TheVariants.{Run, Status, Dump, Gen}
 use Rattle.run_words.specs.Orders.{order_of}
 use Rattle.run_notes.specs.Answers.{words_answer}
 use Rattle.run_notes.specs.Refusals.{Outcomes}
 use Rattle.run_ready.specs.Steps.{Is, Then, answered}
 use Rattle.run_ready.specs.Outcome.{SurveyOf, PlanOf}
 use Rattle.run_ready.specs.Identities.{identity_under}
+use Rattle.run_dump.specs.Shown.{RecordsOf}
+use Rattle.vlbi_core.specs.Sample.{SampleOf}
 
 -- the words as texts
 abbrev pub texts_of : List (String Global) → List (List ℕ)
 texts_of words = map string_bytes words
 
--- the commands that there are
-abbrev pub built : Order → Result Order WordsFault
-built (Run job vex workers piece) = Ok (Run job vex workers piece)
-built (Plain job vex) = Ok (Plain job vex)
-built (Check job vex) = Ok (Check job vex)
-built (Status job vex) = Ok (Status job vex)
-built (Dump file) = Err UnknownCommand
-built (Gen seed seconds workers piece) = Err UnknownCommand
-
-abbrev pub built_of : Result Order WordsFault → Result Order WordsFault
-built_of (Ok order) = built order
-built_of (Err fault) = Err fault
-
 -- the order that words give
 abbrev pub order_in : List (List ℕ) → Result Order WordsFault
-order_in texts = built_of (order_of texts)
+order_in texts = order_of texts
 
 -- the commands that sum into the journal, and those that use it
 abbrev pub is_run : Order → Bool
@@ -52,19 +42,37 @@ pub record Call : Type 0 where
   pub order : Order
   pub plan : Plan
 
--- the plan of an order; `status` looks at the lengths of the recordings alone
+-- what a call works on: a command on a job, or the content of a record file
+pub data Task : Type 0 where
+  OfJob : Call → Task
+  OfRecords : Content → Task
+
+-- the plan of an order; `status` looks at the lengths of the recordings alone, and `gen` has its own job and recordings
 abbrev pub PlanFor : Files → Order → Outcomes Plan
 PlanFor files (Status job vex) = SurveyOf files (Status job vex)
+PlanFor files (Gen seed seconds workers piece) = SampleOf seed seconds workers piece
 PlanFor files order = PlanOf files order
 
--- the call of an order
-abbrev pub CallFor : Files → Order → Outcomes Call
-CallFor files order (Ok call) = (call.order ≡ order) × PlanFor files order (Ok call.plan)
-CallFor files order (Err answer) = PlanFor files order (Err answer)
+-- the task of an order on a job
+abbrev pub JobFor : Files → Order → Outcomes Task
+JobFor files order (Ok (OfJob call)) = (call.order ≡ order) × PlanFor files order (Ok call.plan)
+JobFor files order (Ok (OfRecords content)) = ⊥
+JobFor files order (Err answer) = PlanFor files order (Err answer)
+
+-- the task of showing a record file
+abbrev pub ShowFor : Outcomes Content → Outcomes Task
+ShowFor outcomes (Ok (OfJob call)) = ⊥
+ShowFor outcomes (Ok (OfRecords content)) = outcomes (Ok content)
+ShowFor outcomes (Err answer) = outcomes (Err answer)
+
+-- the task of an order
+abbrev pub TaskFor : Files → Order → Outcomes Task
+TaskFor files (Dump file) = ShowFor (RecordsOf files file)
+TaskFor files order = JobFor files order
 
 -- what words and files come to
-abbrev pub OutcomeOf : List (List ℕ) → Files → Outcomes Call
-OutcomeOf texts files = Then (Is (answered words_answer (order_in texts))) (CallFor files)
+abbrev pub OutcomeOf : List (List ℕ) → Files → Outcomes Task
+OutcomeOf texts files = Then (Is (answered words_answer (order_in texts))) (TaskFor files)
 
 -- the identity of a call's job, and the sizes of its bodies
 abbrev pub identity_for : Files → Call → List ℕ

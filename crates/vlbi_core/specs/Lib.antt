@@ -1,4 +1,5 @@
 pub mod Shelf
+pub mod Sample
 pub mod Faults
 pub mod Calls
 pub mod Texts

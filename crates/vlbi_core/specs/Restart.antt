@@ -1,11 +1,10 @@
 -- What a call leaves in the journal, at every moment.
-use Rattle.std.specs.Prelude.{◌≡◌, ◌⊎◌, ⊤, ℕ, ◌+◌, ◌≤◌, Bool, true, false, List, Option, None, Some, Result, Ok, Err}
+use Rattle.std.specs.Prelude.{◌≡◌, ◌⊎◌, ⊤, ℕ, ◌+◌, ◌≤◌, true, false, List, Option, None, Some, Result, Ok, Err}
 use Rattle.dev_traits.specs.Moments.{NeverFalls}
 use Rattle.corr_model.specs.Files.{Files}
 use Rattle.checkpoint_journal.specs.Runs.{StepTold, KeepsBodies}
 use Rattle.run_words.specs.declared.fault.WordsFault.{WordsFault}
 use Rattle.run_words.specs.declared.order.Order.{Order}
-use Rattle.run_words.specs.declared.order.Order.TheVariants.{Status}
 use Rattle.run_notes.specs.Answers.{journal_answer}
 use Rattle.run_journal.specs.Extended.{AreFrom}
 use Rattle.vlbi_core.specs.Calls.{Call, identity_for, sizes_for, bodies_for, kept_for, is_run}

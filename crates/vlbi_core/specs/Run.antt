@@ -1,5 +1,5 @@
 -- What the status, the output and the note of a call say.
-use Rattle.std.specs.Prelude.{◌≡◌, ◌⊎◌, ⊤, ℕ, Bool, true, false, List, [], Option, Some, None, IsSome, Result, Ok, Err, if◌then◌else◌}
+use Rattle.std.specs.Prelude.{◌≡◌, ◌⊎◌, ⊤, ℕ, true, List, [], Option, Some, None, IsSome, Ok, Err}
 use Rattle.dev_traits.specs.Told.{more, PrefixMore, WhereTold}
 use Rattle.corr_model.specs.Files.{Files}
 use Rattle.checkpoint_journal.specs.declared.fault.Differs.{Differs}
@@ -7,7 +7,7 @@ use Rattle.checkpoint_journal.specs.Finding.{IsOther}
 use Rattle.run_notes.specs.declared.refusal.Refusal.{Refusal}
 use Rattle.run_notes.specs.Answers.{Answer, memory_answer, read_answer, journal_answer, write_answer, other_answer}
 use Rattle.run_notes.specs.Refusals.{Outcomes, answer_of}
-use Rattle.vlbi_core.specs.Calls.{Call, identity_for, sizes_for, bodies_for, is_run, uses_journal}
+use Rattle.vlbi_core.specs.Calls.{Call, Task, OfJob, OfRecords, identity_for, sizes_for, bodies_for, uses_journal}
 use Rattle.vlbi_core.specs.Texts.{IsText, IsPart}
 
 -- the statuses of what is wrong with words and files
@@ -22,10 +22,11 @@ IsDueStatus status = (status ≡ 10) ⊎ IsVerdictStatus status
 abbrev pub IsStatus : ℕ → Type 0
 IsStatus status = (status ≡ 0) ⊎ ((status ≡ 1) ⊎ ((status ≡ 7) ⊎ ((status ≡ 8) ⊎ ((status ≡ 9) ⊎ IsDueStatus status))))
 
--- a journal that a call can go on from, where it uses one: its count of faults did not rise, and what a read gives is blank or of
+-- a journal that a task can go on from, where it uses one: its count of faults did not rise, and what a read gives is blank or of
 -- the job's form
-abbrev pub IsUsable : Files → Call → Option (List ℕ) → Type 0 → Type 0
-IsUsable files call journal fault =
+abbrev pub IsUsable : Files → Task → Option (List ℕ) → Type 0 → Type 0
+IsUsable files (OfRecords content) journal fault = ⊤
+IsUsable files (OfJob call) journal fault =
     uses_journal call.order ≡ true
     → (¬ fault) × ((image : List ℕ) × (journal ≡ Some image) × IsSome (bodies_for files call image))
 
@@ -38,21 +39,21 @@ pub record IsForeign (files : Files) (call : Call) (image : List ℕ) : Type 0 w
 -- is that of the answer; where an answer refuses, want of memory and a read fault may come before it; status 10 comes of another
 -- job's journal, where nothing refuses, and such a journal gives no other status but those of faults; and where nothing refuses,
 -- the journal can be used and no count of faults rose, the call is done, or is out of memory.
-pub record IsVerdict (outcomes : Outcomes Call) (files : Files) (journal : Option (List ℕ)) (status : ℕ)
+pub record IsVerdict (outcomes : Outcomes Task) (files : Files) (journal : Option (List ℕ)) (status : ℕ)
     (read_fault journal_fault write_fault : Type 0) : Type 0 where
   pub due : IsVerdictStatus status → (answer : Answer) × outcomes (Err answer) × (answer.status ≡ status)
   pub refused : (answer : Answer) → outcomes (Err answer) → (status ≡ answer.status) ⊎ ((status ≡ 1) ⊎ (status ≡ 7))
-  pub other : status ≡ 10 → (call : Call) × outcomes (Ok call) × WhereTold journal (IsForeign files call)
-  pub foreign : (call : Call) (image : List ℕ) → outcomes (Ok call) → journal ≡ Some image → IsForeign files call image
+  pub other : status ≡ 10 → (call : Call) × outcomes (Ok (OfJob call)) × WhereTold journal (IsForeign files call)
+  pub foreign : (call : Call) (image : List ℕ) → outcomes (Ok (OfJob call)) → journal ≡ Some image → IsForeign files call image
       → (status ≡ 10) ⊎ ((status ≡ 1) ⊎ ((status ≡ 7) ⊎ (status ≡ 8)))
-  pub complete : (call : Call) → outcomes (Ok call) → ¬ read_fault → ¬ write_fault → IsUsable files call journal journal_fault
+  pub complete : (task : Task) → outcomes (Ok task) → ¬ read_fault → ¬ write_fault → IsUsable files task journal journal_fault
       → (status ≡ 0) ⊎ (status ≡ 1)
 
--- What is appended: with status 0 the text of the call, with the statuses of what is wrong nothing, and with a fault or want of
+-- What is appended: with status 0 the text of the task, with the statuses of what is wrong nothing, and with a fault or want of
 -- memory nothing or a first part of the text.
-pub record IsAppended (outcomes : Outcomes Call) (files : Files) (before after : Option (List ℕ)) (status : ℕ)
+pub record IsAppended (outcomes : Outcomes Task) (files : Files) (before after : Option (List ℕ)) (status : ℕ)
     (old new : Option (List ℕ)) : Type 0 where
-  pub done : status ≡ 0 → (call : Call) × outcomes (Ok call) × ((text : List ℕ) × IsText files call before after text × (new ≡ more old text))
+  pub done : status ≡ 0 → (task : Task) × outcomes (Ok task) × ((text : List ℕ) × IsText files task before after text × (new ≡ more old text))
   pub nothing : IsDueStatus status → new ≡ old
   pub part : (status ≡ 1) ⊎ ((status ≡ 7) ⊎ (status ≡ 8)) → (new ≡ old) ⊎ IsPart outcomes files before after old new
   pub write : status ≡ 9 → IsPart outcomes files before after old new
@@ -70,15 +71,15 @@ IsOwnLine status line =
     ⊎ (((status ≡ 8) × IsJournalLine line) ⊎ ((status ≡ 9) × (line ≡ write_answer.note)))))
 
 -- the line of another job's journal: where it differs from the call's
-pub record IsOtherLine (outcomes : Outcomes Call) (files : Files) (journal : Option (List ℕ)) (line : List ℕ) : Type 0 where
+pub record IsOtherLine (outcomes : Outcomes Task) (files : Files) (journal : Option (List ℕ)) (line : List ℕ) : Type 0 where
   pub call : Call
-  pub outcome : outcomes (Ok call)
+  pub outcome : outcomes (Ok (OfJob call))
   pub differs : Differs
   pub other : WhereTold journal (λ image. IsOther (identity_for files call) (sizes_for call) image differs)
   pub line_is : line ≡ (other_answer differs).note
 
 -- the line of a status, by what words and files come to, and by what the journal's disk reads on entry
-abbrev pub IsLineOf : Outcomes Call → Files → Option (List ℕ) → ℕ → List ℕ → Type 0
+abbrev pub IsLineOf : Outcomes Task → Files → Option (List ℕ) → ℕ → List ℕ → Type 0
 IsLineOf outcomes files journal status line =
     IsOwnLine status line
     ⊎ (((status ≡ 10) × IsOtherLine outcomes files journal line)

@@ -1,15 +1,16 @@
 -- A call before its status: what it did where it is done, and what it was refused for.
-use Rattle.std.specs.Prelude.{◌≡◌, ◌⊎◌, ⊤, ℕ, ◌+◌, ◌≤◌, ◌<◌, ◌^◌, Bool, true, false, List, Option, None, Some, IsSome, Result, Ok, Err, IsOk, OnOk, IfErr}
+use Rattle.std.specs.Prelude.{◌≡◌, ◌⊎◌, ⊤, ℕ, ◌+◌, ◌≤◌, ◌<◌, ◌^◌, true, false, List, length, Option, None, Some, IsSome, Result, Ok, Err, IsOk, OnOk, IfErr}
 use Rattle.dev_traits.specs.Told.{more, PrefixMore, WhereTold}
 use Rattle.corr_model.specs.Files.{Files}
 use Rattle.job_plan.specs.declared.plan.Plan.{Plan}
+use Rattle.job_plan.specs.Ranges.{IsPlan}
 use Rattle.job_plan.specs.Output.{output}
 use Rattle.checkpoint_journal.specs.declared.fault.Differs.{Differs}
 use Rattle.checkpoint_journal.specs.Finding.{IsOther}
 use Rattle.checkpoint_journal.specs.Runs.{Looks, Changes, StepTold, KeepsBodies}
 use Rattle.run_words.specs.declared.fault.WordsFault.{WordsFault}
 use Rattle.run_words.specs.declared.order.Order.{Order}
-use Rattle.run_words.specs.declared.order.Order.TheVariants.{Run, Plain, Check, Status}
+use Rattle.run_words.specs.declared.order.Order.TheVariants.{Run, Plain, Check, Status, Dump, Gen}
 use Rattle.run_notes.specs.declared.refusal.Due.{Due}
 use Rattle.run_notes.specs.declared.refusal.Due.TheVariants.{Words, Other}
 use Rattle.run_notes.specs.declared.refusal.Refusal.{Refusal}
@@ -17,9 +18,8 @@ use Rattle.run_notes.specs.declared.refusal.Refusal.TheVariants.{Memory, Due as 
 use Rattle.run_notes.specs.Answers.{words_answer}
 use Rattle.run_notes.specs.Refusals.{Outcomes, IsCause, due_answer}
 use Rattle.run_ready.specs.Steps.{Is, Then, answered}
-use Rattle.run_ready.specs.Outcome.{PlanOf}
 use Rattle.run_journal.specs.Extended.{Extends}
-use Rattle.vlbi_core.specs.Calls.{Call, CallFor, identity_for, sizes_for, bodies_for, kept_for, is_run, uses_journal}
+use Rattle.vlbi_core.specs.Calls.{Call, Task, OfJob, OfRecords, TaskFor, identity_for, sizes_for, bodies_for, kept_for, is_run, uses_journal}
 use Rattle.vlbi_core.specs.Texts.{IsSums, IsText, IsPart, epochs_for}
 use Rattle.vlbi_core.specs.Restart.{IsHonest, IsRunOf, IsNoRun}
 
@@ -32,9 +32,15 @@ pub record IsWork (workers piece : ℕ) : Type 0 where
   pub least : 64 ≤ piece
   pub most : piece ≤ 4194304
 
+-- the seconds of a sample, in their range
+pub record IsSample (seconds : ℕ) : Type 0 where
+  pub some : 1 ≤ seconds
+  pub few : seconds ≤ 60
+
 -- an order whose numbers are in their ranges
 abbrev pub IsNumbered : Order → Type 0
 IsNumbered (Run job vex workers piece) = IsWork workers piece
+IsNumbered (Gen seed seconds workers piece) = IsSample seconds × IsWork workers piece
 IsNumbered _ = ⊤
 
 -- an order of each command
@@ -54,9 +60,17 @@ abbrev pub IsStatusOrder : Order → Type 0
 IsStatusOrder (Status job vex) = ⊤
 IsStatusOrder _ = ⊥
 
+abbrev pub IsDumpOrder : Order → Type 0
+IsDumpOrder (Dump file) = ⊤
+IsDumpOrder _ = ⊥
+
+abbrev pub IsGenOrder : Order → Type 0
+IsGenOrder (Gen seed seconds workers piece) = ⊤
+IsGenOrder _ = ⊥
+
 -- what words and files come to, by the order that the words give
-abbrev pub OutcomeFrom : Result Order WordsFault → Files → Outcomes Call
-OutcomeFrom wanted files = Then (Is (answered words_answer wanted)) (CallFor files)
+abbrev pub OutcomeFrom : Result Order WordsFault → Files → Outcomes Task
+OutcomeFrom wanted files = Then (Is (answered words_answer wanted)) (TaskFor files)
 
 -- ---- refusals by the words
 
@@ -94,24 +108,24 @@ IsShort _ = ⊤
 
 -- ---- commands that leave the journal alone
 
--- a first part of the text of the plan that an order comes to
-abbrev pub IsPartOf : Outcomes Plan → (Plan → List ℕ) → Option (List ℕ) → Option (List ℕ) → Type 0
-IsPartOf outcomes text old new = (plan : Plan) × outcomes (Ok plan) × PrefixMore old (text plan) new
+-- a first part of the text of what an order comes to
+abbrev pub IsPartOf : {A : Type 0} → Outcomes A → (A → List ℕ) → Option (List ℕ) → Option (List ℕ) → Type 0
+IsPartOf {A} outcomes text old new = (x : A) × outcomes (Ok x) × PrefixMore old (text x) new
 
 -- what such a command appended where it was refused
-abbrev pub IsPartlyOf : Refusal → Outcomes Plan → (Plan → List ℕ) → Option (List ℕ) → Option (List ℕ) → Type 0
+abbrev pub IsPartlyOf : {A : Type 0} → Refusal → Outcomes A → (A → List ℕ) → Option (List ℕ) → Option (List ℕ) → Type 0
 IsPartlyOf Memory outcomes text old new = (new ≡ old) ⊎ IsPartOf outcomes text old new
 IsPartlyOf (DueRefusal due) outcomes text old new = new ≡ old
 IsPartlyOf Read outcomes text old new = (new ≡ old) ⊎ IsPartOf outcomes text old new
 IsPartlyOf (Journal kept) outcomes text old new = ⊥
 IsPartlyOf Write outcomes text old new = IsPartOf outcomes text old new
 
--- The text of the order's plan was appended; or the order was refused, with its cause, and with a first part of that text
+-- The text of what an order comes to was appended; or the order was refused, with its cause, and with a first part of that text
 -- appended or nothing.
-pub record Tells (files : Files) (order : Order) (text : Plan → List ℕ) (old new : Option (List ℕ)) (result : Result (Unit {0}) Refusal) : Type 0 where
-  pub done : OnOk result ((plan : Plan) × PlanOf files order (Ok plan) × (new ≡ more old (text plan)))
-  pub cause : IfErr result (λ r. IsCause r (PlanOf files order))
-  pub part : IfErr result (λ r. IsPartlyOf r (PlanOf files order) text old new)
+pub record Tells {A : Type 0} (outcomes : Outcomes A) (text : A → List ℕ) (old new : Option (List ℕ)) (result : Result (Unit {0}) Refusal) : Type 0 where
+  pub done : OnOk result ((x : A) × outcomes (Ok x) × (new ≡ more old (text x)))
+  pub cause : IfErr result (λ r. IsCause r outcomes)
+  pub part : IfErr result (λ r. IsPartlyOf r outcomes text old new)
 
 -- what they may be refused for: anything but a fault of the words, another journal and a fault of the journal
 abbrev pub IsOfFilesOrOutput : Refusal → Type 0
@@ -119,6 +133,28 @@ IsOfFilesOrOutput (DueRefusal (Words fault)) = ⊥
 IsOfFilesOrOutput (DueRefusal (Other d)) = ⊥
 IsOfFilesOrOutput (Journal kept) = ⊥
 IsOfFilesOrOutput _ = ⊤
+
+-- what a call over devices in memory may be refused for: want of memory, and a verdict on its files
+abbrev pub IsInMemory : Refusal → Type 0
+IsInMemory Memory = ⊤
+IsInMemory (DueRefusal (Words fault)) = ⊥
+IsInMemory (DueRefusal (Other d)) = ⊥
+IsInMemory (DueRefusal due) = ⊤
+IsInMemory Read = ⊥
+IsInMemory (Journal kept) = ⊥
+IsInMemory Write = ⊥
+
+-- the refusal of such a call: the devices fail for want of memory alone
+abbrev pub in_memory : Refusal → Refusal
+in_memory (DueRefusal due) = DueRefusal due
+in_memory _ = Memory
+
+-- a plan in its ranges, where a call comes to one
+pub record IsPlanned (outcomes : Outcomes Plan) : Type 0 where
+  pub plan : Plan
+  pub outcome : outcomes (Ok plan)
+  pub ranges : IsPlan plan
+  pub few : length plan.scans ≤ 8388608
 
 -- want of memory, and a fault of the shelf or of the output
 abbrev pub IsOfOutput : Refusal → Type 0
@@ -141,14 +177,15 @@ looked _ = Memory
 
 -- ---- causes
 
--- A journal that a call went on from, where it uses one: what a read gave is blank or of the job's form.
-abbrev pub IsOpened : Files → Call → Option (List ℕ) → Type 0
-IsOpened files call before = uses_journal call.order ≡ true → WhereTold before (λ image. IsSome (bodies_for files call image))
+-- A journal that a task went on from, where it uses one: what a read gave is blank or of the job's form.
+abbrev pub IsOpened : Files → Task → Option (List ℕ) → Type 0
+IsOpened files (OfRecords content) before = ⊤
+IsOpened files (OfJob call) before = uses_journal call.order ≡ true → WhereTold before (λ image. IsSome (bodies_for files call image))
 
 -- another job's journal, where a call uses one
-pub record IsOtherCause (outcomes : Outcomes Call) (files : Files) (before : Option (List ℕ)) (d : Differs) : Type 0 where
+pub record IsOtherCause (outcomes : Outcomes Task) (files : Files) (before : Option (List ℕ)) (d : Differs) : Type 0 where
   pub call : Call
-  pub outcome : outcomes (Ok call)
+  pub outcome : outcomes (Ok (OfJob call))
   pub uses : uses_journal call.order ≡ true
   pub other : WhereTold before (λ image. IsOther (identity_for files call) (sizes_for call) image d)
 
@@ -160,26 +197,26 @@ SaysFor (Some k) files call images before after old new =
 SaysFor None files call images before after old new =
     (new ≡ old) × StepTold (KeepsBodies (identity_for files call) (sizes_for call)) before after
 
-pub record IsJournalCause (outcomes : Outcomes Call) (files : Files) (images : List ℕ → Type 0) (before after old new : Option (List ℕ)) (kept : Option ℕ) : Type 0 where
+pub record IsJournalCause (outcomes : Outcomes Task) (files : Files) (images : List ℕ → Type 0) (before after old new : Option (List ℕ)) (kept : Option ℕ) : Type 0 where
   pub call : Call
-  pub outcome : outcomes (Ok call)
+  pub outcome : outcomes (Ok (OfJob call))
   pub uses : uses_journal call.order ≡ true
   pub says : is_run call.order ≡ true → SaysFor kept files call images before after old new
   pub unnamed : is_run call.order ≡ false → kept ≡ None
 
 -- a fault of the output comes behind the opening of the journal
-pub record IsWriteCause (outcomes : Outcomes Call) (files : Files) (before : Option (List ℕ)) : Type 0 where
-  pub call : Call
-  pub outcome : outcomes (Ok call)
-  pub opened : IsOpened files call before
+pub record IsWriteCause (outcomes : Outcomes Task) (files : Files) (before : Option (List ℕ)) : Type 0 where
+  pub task : Task
+  pub outcome : outcomes (Ok task)
+  pub opened : IsOpened files task before
 
 -- the cause of a verdict
-abbrev pub IsDueCause : Due → Outcomes Call → Files → Option (List ℕ) → Type 0
+abbrev pub IsDueCause : Due → Outcomes Task → Files → Option (List ℕ) → Type 0
 IsDueCause (Other d) outcomes files before = IsOtherCause outcomes files before d
 IsDueCause due outcomes files before = outcomes (Err (due_answer due))
 
 -- a refusal has its cause
-abbrev pub IsCauseOf : Refusal → Outcomes Call → Files → (List ℕ → Type 0) → Option (List ℕ) → Option (List ℕ) → Option (List ℕ) → Option (List ℕ) → Type 0
+abbrev pub IsCauseOf : Refusal → Outcomes Task → Files → (List ℕ → Type 0) → Option (List ℕ) → Option (List ℕ) → Option (List ℕ) → Option (List ℕ) → Type 0
 IsCauseOf Memory outcomes files images before after old new = ⊤
 IsCauseOf (DueRefusal due) outcomes files images before after old new = IsDueCause due outcomes files before
 IsCauseOf Read outcomes files images before after old new = ⊤
@@ -190,7 +227,7 @@ IsCauseOf Write outcomes files images before after old new = IsWriteCause outcom
 
 -- What a refused call appended: nothing where it was refused for what it was given; nothing or a first part of the text with
 -- want of memory, a read fault and a fault of the journal; and such a part with a write fault.
-abbrev pub IsPartly : Refusal → Outcomes Call → Files → Option (List ℕ) → Option (List ℕ) → Option (List ℕ) → Option (List ℕ) → Type 0
+abbrev pub IsPartly : Refusal → Outcomes Task → Files → Option (List ℕ) → Option (List ℕ) → Option (List ℕ) → Option (List ℕ) → Type 0
 IsPartly Memory outcomes files before after old new = (new ≡ old) ⊎ IsPart outcomes files before after old new
 IsPartly (DueRefusal due) outcomes files before after old new = new ≡ old
 IsPartly Read outcomes files before after old new = (new ≡ old) ⊎ IsPart outcomes files before after old new
@@ -199,22 +236,22 @@ IsPartly Write outcomes files before after old new = IsPart outcomes files befor
 
 -- A call is done: its text was appended, and behind a call of `run` each image keeps all epochs, and the text is that of the
 -- direct sums where the image on entry was honest.
-pub record IsDone {D : Type 0} (outcomes : Outcomes Call) (files : Files) (seen : D → Option (List ℕ)) (moment : D → ℕ) (may_leave : D → ℕ → List ℕ → Type 0)
+pub record IsDone {D : Type 0} (outcomes : Outcomes Task) (files : Files) (seen : D → Option (List ℕ)) (moment : D → ℕ) (may_leave : D → ℕ → List ℕ → Type 0)
     (before after : D) (old new : Option (List ℕ)) : Type 0 where
-  pub call : Call
-  pub outcome : outcomes (Ok call)
-  pub opened : IsOpened files call (seen before)
+  pub task : Task
+  pub outcome : outcomes (Ok task)
+  pub opened : IsOpened files task (seen before)
   pub text : List ℕ
-  pub is : IsText files call (seen before) (seen after) text
+  pub is : IsText files task (seen before) (seen after) text
   pub told : new ≡ more old text
-  pub all : is_run call.order ≡ true → (image : List ℕ) → may_leave after (moment after) image → kept_for files call image ≡ epochs_for call
-  pub sums : is_run call.order ≡ true → WhereTold (seen before) (λ image. IsHonest files call image → new ≡ more old (output call.plan files))
+  pub all : (call : Call) → task ≡ OfJob call → is_run call.order ≡ true → (image : List ℕ) → may_leave after (moment after) image → kept_for files call image ≡ epochs_for call
+  pub sums : (call : Call) → task ≡ OfJob call → is_run call.order ≡ true → WhereTold (seen before) (λ image. IsHonest files call image → new ≡ more old (output call.plan files))
 
 -- A call wrote to the journal: each image goes on from one before it with sums of the plan.
-pub record IsRunning {D : Type 0} (outcomes : Outcomes Call) (files : Files) (seen : D → Option (List ℕ)) (moment : D → ℕ) (may_leave : D → ℕ → List ℕ → Type 0)
+pub record IsRunning {D : Type 0} (outcomes : Outcomes Task) (files : Files) (seen : D → Option (List ℕ)) (moment : D → ℕ) (may_leave : D → ℕ → List ℕ → Type 0)
     (before after : D) : Type 0 where
   pub call : Call
-  pub outcome : outcomes (Ok call)
+  pub outcome : outcomes (Ok (OfJob call))
   pub changes : Changes seen moment may_leave (Extends (IsSums files call.plan) (identity_for files call) (sizes_for call)) before after
 
 -- What a call did, by what the words give and where the shelf tells its files.

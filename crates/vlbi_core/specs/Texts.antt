@@ -1,5 +1,5 @@
 -- What a call appends where it is done.
-use Rattle.std.specs.Prelude.{◌≡◌, ⊤, ℕ, List, ◌++◌, length, Option, Some, Result, Ok}
+use Rattle.std.specs.Prelude.{◌≡◌, ℕ, List, ◌++◌, length, Option, Some, Ok}
 use Rattle.dev_traits.specs.Told.{WhereTold, PrefixMore}
 use Rattle.corr_model.specs.Files.{Files}
 use Rattle.piece_plan.specs.Epochs.{epochs_of}
@@ -14,7 +14,9 @@ use Rattle.run_notes.specs.Refusals.{Outcomes}
 use Rattle.run_journal.specs.Extended.{AreFrom}
 use Rattle.run_records.specs.Kept.{kept_text}
 use Rattle.run_summary.specs.Summaries.{check_text, kept_line}
-use Rattle.vlbi_core.specs.Calls.{Call, bodies_for, kept_for}
+use Rattle.vis_records.specs.Dumped.{dump_text}
+use Rattle.vlbi_core.specs.Sample.{sample_text}
+use Rattle.vlbi_core.specs.Calls.{Call, Task, OfJob, OfRecords, bodies_for, kept_for}
 
 -- the number of epochs of a call's job
 abbrev pub epochs_for : Call → ℕ
@@ -35,9 +37,10 @@ pub record IsRecords (files : Files) (call : Call) (before after text : List ℕ
   pub all : length (old ++ more) ≡ epochs_for call
   pub records : text ≡ kept_text call.plan (old ++ more)
 
--- the text of a call, by what the journal's disk reads before it and after it
-abbrev pub IsText : Files → Call → Option (List ℕ) → Option (List ℕ) → List ℕ → Type 0
-IsText files call before after text = by call.order
+-- the text of a task, by what the journal's disk reads before it and after it
+abbrev pub IsText : Files → Task → Option (List ℕ) → Option (List ℕ) → List ℕ → Type 0
+IsText files (OfRecords content) before after text = text ≡ dump_text content
+IsText files (OfJob call) before after text = by call.order
   where
     by : Order → Type 0
     by (Plain job vex) = text ≡ output call.plan files
@@ -45,12 +48,12 @@ IsText files call before after text = by call.order
     by (Status job vex) = WhereTold before (λ image. text ≡ kept_line (kept_for files call image) (epochs_for call))
     by (Run job vex workers piece) = WhereTold before (λ old. WhereTold after (λ new. IsRecords files call old new text))
     by (Dump file) = ⊥
-    by (Gen seed seconds workers piece) = ⊥
+    by (Gen seed seconds workers piece) = text ≡ sample_text seed seconds call.plan
 
--- a first part of the text of the call, where there is one
-pub record IsPart (outcomes : Outcomes Call) (files : Files) (before after old new : Option (List ℕ)) : Type 0 where
-  pub call : Call
-  pub outcome : outcomes (Ok call)
+-- a first part of the text of the task, where there is one
+pub record IsPart (outcomes : Outcomes Task) (files : Files) (before after old new : Option (List ℕ)) : Type 0 where
+  pub task : Task
+  pub outcome : outcomes (Ok task)
   pub text : List ℕ
-  pub is : IsText files call before after text
+  pub is : IsText files task before after text
   pub part : PrefixMore old text new

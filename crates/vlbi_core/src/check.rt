@@ -3,7 +3,7 @@ ghost use Rattle.std.specs.Prelude.{◌≡◌, IsSome, IfErr};
 ghost use Rattle.dev_traits.specs.Told.{WhereTold};
 ghost use Rattle.run_words.specs.Orders.{AreTexts};
 ghost use Rattle.run_notes.specs.Counted.{CountsReads, CountsWrites};
-ghost use Rattle.run_ready.specs.Outcome.{job_names};
+ghost use Rattle.run_ready.specs.Outcome.{job_names, PlanOf};
 ghost use Rattle.run_summary.specs.Summaries.{check_text};
 ghost use Rattle.vlbi_core.specs.Faults.{written_with};
 ghost use Rattle.vlbi_core.specs.Steps.{Tells, IsOfFilesOrOutput, MatchDue};
@@ -25,7 +25,7 @@ pub fn check_job<F: Shelf, S: Sink>(
     requires job { IsSome (job_names order.now) }
     requires texts { AreTexts order.now }
     ensures same { F.told shelf.new ≡ F.told shelf.old }
-    ensures tells { WhereTold (F.told shelf.old) (λ files. Tells files order.now (λ plan. check_text plan files) (S.told out.old) (S.told out.new) result) }
+    ensures tells { WhereTold (F.told shelf.old) (λ files. Tells (PlanOf files order.now) (λ plan. check_text plan files) (S.told out.old) (S.told out.new) result) }
     ensures nothing { IfErr result (λ r. MatchDue r (S.told out.new ≡ S.told out.old)) }
     ensures stage { IfErr result IsOfFilesOrOutput }
     ensures reads { CountsReads (F.faults shelf.old) (F.faults shelf.new) result }

@@ -1,11 +1,11 @@
 //! A job that is summed into its journal, and its records.
-ghost use Rattle.std.specs.Prelude.{◌≡◌, IfErr, IsSome, Ok};
+ghost use Rattle.std.specs.Prelude.{◌≡◌, IfErr, IsSome, Ok, OnOk};
 ghost use Rattle.dev_traits.specs.Told.{WhereTold};
 ghost use Rattle.run_words.specs.Orders.{AreTexts};
 ghost use Rattle.run_notes.specs.Counted.{CountsReads, CountsJournal, CountsWrites};
-ghost use Rattle.run_ready.specs.Outcome.{job_names};
+ghost use Rattle.run_ready.specs.Outcome.{job_names, PlanOf};
 ghost use Rattle.vlbi_core.specs.Calls.{is_run};
-ghost use Rattle.vlbi_core.specs.Steps.{IsWork, IsRunOrder, IsBehindWords, Does, Leaves};
+ghost use Rattle.vlbi_core.specs.Steps.{IsWork, IsRunOrder, IsBehindWords, IsPlanned, Does, Leaves};
 
 use dev_traits::{Disk, Gate, Shelf, Sink};
 use run_journal::resume;
@@ -36,6 +36,7 @@ pub fn correlate_job<R: Threads + Sync, F: Shelf, D: Disk, S: Sink, G: Gate + Sy
     requires work { IsWork workers piece }
     ensures same { F.told shelf.new ≡ F.told shelf.old }
     ensures does { WhereTold (F.told shelf.old) (λ files. Does (Ok order.now) files D.seen D.moment D.may_leave journal.old journal.new (S.told out.old) (S.told out.new) result) }
+    ensures planned { OnOk result (WhereTold (F.told shelf.old) (λ files. IsPlanned (PlanOf files order.now))) }
     ensures leaves { Leaves (Ok order.now) D.seen D.moment D.may_leave journal.old journal.new (S.told out.old) (S.told out.new) result }
     ensures stage { IfErr result IsBehindWords }
     ensures reads { CountsReads (F.faults shelf.old) (F.faults shelf.new) result }

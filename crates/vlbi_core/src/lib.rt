@@ -11,6 +11,7 @@ mod check;
 mod correlation;
 mod order;
 mod plain;
+mod sample;
 mod status;
 mod top;
 

@@ -4,7 +4,7 @@ ghost use Rattle.dev_traits.specs.Told.{WhereTold};
 ghost use Rattle.corr_model.specs.Records.{vis_text};
 ghost use Rattle.job_plan.specs.Output.{head_of, output};
 ghost use Rattle.run_words.specs.Orders.{AreTexts};
-ghost use Rattle.run_ready.specs.Outcome.{job_names};
+ghost use Rattle.run_ready.specs.Outcome.{job_names, PlanOf};
 ghost use Rattle.run_notes.specs.Counted.{CountsReads, CountsWrites};
 ghost use Rattle.station_stream.specs.Recorded.{AreRecorded};
 ghost use Rattle.vis_writer.specs.Cells.{all_cells, widest};
@@ -37,7 +37,7 @@ pub fn plain_job<F: Shelf, S: Sink>(
     requires job { IsSome (job_names order.now) }
     requires texts { AreTexts order.now }
     ensures same { F.told shelf.new ≡ F.told shelf.old }
-    ensures tells { WhereTold (F.told shelf.old) (λ files. Tells files order.now (λ plan. output plan files) (S.told out.old) (S.told out.new) result) }
+    ensures tells { WhereTold (F.told shelf.old) (λ files. Tells (PlanOf files order.now) (λ plan. output plan files) (S.told out.old) (S.told out.new) result) }
     ensures nothing { IfErr result (λ r. MatchDue r (S.told out.new ≡ S.told out.old)) }
     ensures stage { IfErr result IsOfFilesOrOutput }
     ensures reads { CountsReads (F.faults shelf.old) (F.faults shelf.new) result }

@@ -6,8 +6,7 @@ ghost use Rattle.job_plan.specs.Output.{output};
 ghost use Rattle.checkpoint_journal.specs.Runs.{Looks};
 ghost use Rattle.run_words.specs.Orders.{AreTexts};
 ghost use Rattle.run_notes.specs.Counted.{CountsReads, CountsJournal, CountsWrites};
-ghost use Rattle.run_ready.specs.Outcome.{job_names};
-ghost use Rattle.vlbi_core.specs.Calls.{Call, texts_of, order_in, OutcomeOf};
+ghost use Rattle.vlbi_core.specs.Calls.{Call, OfJob, texts_of, order_in, OutcomeOf};
 ghost use Rattle.vlbi_core.specs.Run.{IsVerdictStatus, IsDueStatus, IsStatus, IsVerdict, IsAppended, IsSomeLine, IsLineOf, IsNoted};
 ghost use Rattle.vlbi_core.specs.Restart.{Continues, StaysHonest, SaysKept, IsRunOf, IsNoRun};
 ghost use Rattle.vlbi_core.specs.Steps.{IsNumbered, IsWorded, IsBehindWords, IsShort, Does, Leaves};
@@ -16,8 +15,11 @@ use crate::check::check_job;
 use crate::correlation::correlate_job;
 use crate::order::read_order;
 use crate::plain::plain_job;
+use crate::sample::total_sample;
 use crate::status::journal_status;
 use dev_traits::{Disk, Gate, Shelf, Sink};
+use run_dump::laws::one_shown;
+use run_dump::show_records;
 use run_notes::{Refusal, status, write_note};
 use run_ready::laws::one_outcome;
 use run_words::Order;
@@ -69,10 +71,10 @@ pub fn run<R: Threads + Sync, F: Shelf, D: Disk, S: Sink, N: Sink, G: Gate + Syn
 
     // The headline: a call of `run` that continues its job keeps every image of the journal honest, at every moment, keeps what
     // each image keeps, and with status 0 appends the record file of the direct sums.
-    ensures restart { WhereTold (F.told shelf.old) (λ files. (call : Call) → OutcomeOf (texts_of words.now) files (Ok call)
+    ensures restart { WhereTold (F.told shelf.old) (λ files. (call : Call) → OutcomeOf (texts_of words.now) files (Ok (OfJob call))
         → Continues files call (D.may_leave journal.old (D.moment journal.old))
         → StaysHonest files call result D.moment D.may_leave journal.old journal.new) }
-    ensures headline { WhereTold (F.told shelf.old) (λ files. WhereTold (D.seen journal.old) (λ image. (call : Call) → OutcomeOf (texts_of words.now) files (Ok call)
+    ensures headline { WhereTold (F.told shelf.old) (λ files. WhereTold (D.seen journal.old) (λ image. (call : Call) → OutcomeOf (texts_of words.now) files (Ok (OfJob call))
         → Continues files call (D.may_leave journal.old (D.moment journal.old))
         → result ≡ 0 → S.told out.new ≡ more (S.told out.old) (output call.plan files))) }
 
@@ -96,11 +98,12 @@ pub fn run<R: Threads + Sync, F: Shelf, D: Disk, S: Sink, N: Sink, G: Gate + Syn
     // epochs are kept.
     ensures note { (line : List ℕ) × IsSomeLine result line
         × WhereTold (F.told shelf.old) (λ files. IsLineOf (OutcomeOf (texts_of words.now) files) files (D.seen journal.old) result line)
-        × WhereTold (F.told shelf.old) (λ files. (call : Call) → OutcomeOf (texts_of words.now) files (Ok call)
+        × WhereTold (F.told shelf.old) (λ files. (call : Call) → OutcomeOf (texts_of words.now) files (Ok (OfJob call))
         → SaysKept files call line (D.may_leave journal.new (D.moment journal.new)) (D.seen journal.old) (D.seen journal.new) (S.told out.old) (S.told out.new))
         × IsNoted line (N.told notes.old) (N.told notes.new) (HasRisen (N.faults notes.old) (N.faults notes.new)) }
 {
     one_outcome();
+    one_shown();
     match call(rt, alloc, words, shelf, journal, out, gate) {
         Ok(()) => 0,
         Err(refusal) => {
@@ -159,7 +162,6 @@ fn command<R: Threads + Sync, F: Shelf, D: Disk, S: Sink, G: Gate + Sync>(
     out: &mut S,
     gate: &G,
 ) -> Result<(), Refusal>
-    requires job { IsSome (job_names order.now) }
     requires texts { AreTexts order.now }
     requires numbers { IsNumbered order.now }
     ensures same { F.told shelf.new ≡ F.told shelf.old }
@@ -174,8 +176,15 @@ fn command<R: Threads + Sync, F: Shelf, D: Disk, S: Sink, G: Gate + Sync>(
         Order::Run { workers, piece, .. } => correlate_job(
             rt, alloc, order, *workers, *piece, shelf, journal, out, gate,
         ),
-        Order::Status { .. } => journal_status(alloc, order, shelf, journal, out),
+        Order::Plain { .. } => plain_job(alloc, order, shelf, out),
         Order::Check { .. } => check_job(alloc, order, shelf, out),
-        _ => plain_job(alloc, order, shelf, out),
+        Order::Status { .. } => journal_status(alloc, order, shelf, journal, out),
+        Order::Dump { file } => show_records(alloc, file, shelf, out),
+        Order::Gen {
+            seed,
+            seconds,
+            workers,
+            piece,
+        } => total_sample(rt, alloc, *seed, *seconds, *workers, *piece, out, gate),
     }
 }

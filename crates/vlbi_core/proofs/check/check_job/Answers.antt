@@ -1,6 +1,7 @@
 use Rattle.std.proofs.Common.{Result, sym, subst}
 use Rattle.dev_traits.specs.Told.{WhereTold}
 use Rattle.run_notes.specs.declared.refusal.Refusal.{Refusal}
+use Rattle.run_ready.specs.Outcome.{PlanOf}
 use Rattle.run_summary.specs.Summaries.{check_text}
 use Rattle.vlbi_core.specs.Steps.{Tells}
 use Rattle.vlbi_core.proofs.CommandLemmas.{check-tells}
@@ -10,6 +11,6 @@ pub returns-clause-tells : goal.returns-clause-tells
 returns-clause-tells g c =
     let ready = c.in_ok-ready.ready in
     subst (λ (q : Result (Unit {0}) Refusal). WhereTold (g.F.Shelf.told c.args.shelf.now)
-    (λ files. Tells files c.args.order.now (λ plan. check_text plan files) (g.S.Sink.told c.args.out.now) (g.S.Sink.told c.write_check.new.out) q)) (sym c.written.ensures)
+    (λ files. Tells (PlanOf files c.args.order.now) (λ plan. check_text plan files) (g.S.Sink.told c.args.out.now) (g.S.Sink.told c.write_check.new.out) q)) (sym c.written.ensures)
     (check-tells (g.F.Shelf.told c.args.shelf.now) c.args.order.now ready.plan ready.recordings.items (g.S.Sink.told c.args.out.now) (g.S.Sink.told c.write_check.new.out) _ _
     c.write_check.ensures.0 c.write_check.result c.in_ok-ready.ensures.plan c.in_ok-ready.ensures.recorded c.write_check.ensures.1 c.write_check.ensures.2)

@@ -1,4 +1,4 @@
-use Rattle.std.proofs.Common.{◌≡◌, Result, Ok, Err, rules, sym, subst, Option, List, ℕ}
+use Rattle.std.proofs.Common.{◌≡◌, Result, Ok, Err, rules, sym, subst, Option}
 use Rattle.dev_traits.specs.Told.{WhereTold}
 use Rattle.corr_model.specs.Files.{Files}
 use Rattle.job_plan.specs.Ranges.{IsPlan}

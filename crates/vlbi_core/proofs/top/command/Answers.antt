@@ -1,7 +1,9 @@
-use Rattle.std.proofs.Common.{◌≡◌, sym, subst}
-use Rattle.vis_writer.proofs.WritesLemmas.{where_then}
-use Rattle.vlbi_core.specs.Steps.{IsCheckOrder, IsPlainOrder}
-use Rattle.vlbi_core.proofs.CommandLemmas.{does-check, does-plain, plain-order}
+use Rattle.std.proofs.Common.{Ok, sym, subst}
+use Rattle.run_words.specs.declared.order.Order.{Order}
+use Rattle.vis_writer.proofs.WritesLemmas.{where_then, where_always}
+use Rattle.vlbi_core.specs.Steps.{IsCheckOrder, IsPlainOrder, Does}
+use Rattle.vlbi_core.proofs.CommandLemmas.{does-check, does-plain, does-dump, does-gen}
+use Rattle.vlbi_core.proofs.SampleLemmas.{reads-same}
 use Rattle.vlbi_core.proofs.top.command.Goals as goal
 
 pub returns-in-Check-clause-does : goal.returns-in-Check-clause-does
@@ -11,9 +13,29 @@ returns-in-Check-clause-does g c =
     (subst IsCheckOrder (sym c.in-Check.is) tt) c.check_job.ensures.stage tells)
     c.check_job.ensures.tells
 
-pub returns-in_default-clause-does : goal.returns-in_default-clause-does
-returns-in_default-clause-does g c =
+pub returns-in-Plain-clause-does : goal.returns-in-Plain-clause-does
+returns-in-Plain-clause-does g c =
     where_then (g.F.Shelf.told c.args.shelf.now) _ _
     (λ files tells. does-plain g.D.Disk.seen g.D.Disk.moment g.D.Disk.may_leave files c.args.order.now c.args.journal.now (g.S.Sink.told c.args.out.now) (g.S.Sink.told c.plain_job.new.out) c.plain_job.result
-    (plain-order c.args.order.now c.requires.job c.in_default.not-Run c.in_default.not-Check c.in_default.not-Status) c.plain_job.ensures.stage tells)
+    (subst IsPlainOrder (sym c.in-Plain.is) tt) c.plain_job.ensures.stage tells)
     c.plain_job.ensures.tells
+
+pub returns-in-Dump-clause-does : goal.returns-in-Dump-clause-does
+returns-in-Dump-clause-does g c =
+    where_then (g.F.Shelf.told c.args.shelf.now) _ _
+    (λ files shows. subst (λ (o : Order). Does (Ok o) files g.D.Disk.seen g.D.Disk.moment g.D.Disk.may_leave c.args.journal.now c.args.journal.now
+    (g.S.Sink.told c.args.out.now) (g.S.Sink.told c.show_records.new.out) c.show_records.result) (sym c.in-Dump.is)
+    (does-dump g.D.Disk.seen g.D.Disk.moment g.D.Disk.may_leave files _ c.args.journal.now (g.S.Sink.told c.args.out.now) (g.S.Sink.told c.show_records.new.out) c.show_records.result
+    c.show_records.ensures.stage shows))
+    c.show_records.ensures.shows
+
+pub returns-in-Gen-clause-does : goal.returns-in-Gen-clause-does
+returns-in-Gen-clause-does g c =
+    where_always (g.F.Shelf.told c.args.shelf.now) _
+    (λ files. subst (λ (o : Order). Does (Ok o) files g.D.Disk.seen g.D.Disk.moment g.D.Disk.may_leave c.args.journal.now c.args.journal.now
+    (g.S.Sink.told c.args.out.now) (g.S.Sink.told c.total_sample.new.out) c.total_sample.result) (sym c.in-Gen.is)
+    (does-gen g.D.Disk.seen g.D.Disk.moment g.D.Disk.may_leave files _ _ _ _ c.args.journal.now (g.S.Sink.told c.args.out.now) (g.S.Sink.told c.total_sample.new.out) c.total_sample.result
+    c.total_sample.ensures.stage c.total_sample.ensures.tells))
+
+pub returns-in-Gen-clause-reads : goal.returns-in-Gen-clause-reads
+returns-in-Gen-clause-reads g c = reads-same _ c.total_sample.result c.total_sample.ensures.unread

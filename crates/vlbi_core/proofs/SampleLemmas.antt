@@ -1,0 +1,245 @@
+-- What a call over devices in memory leaves.
+use Rattle.std.specs.Prelude.{IfErr, codes}
+use Rattle.std.proofs.Common.{◌≡◌, ◌∙◌, inl, inr, ℕ, ◌^◌, ◌<◌, true, List, [], length, Option, Some, None, Result, Ok, Err, refl, sym, ap, subst}
+use Rattle.dev_traits.specs.Told.{more, PrefixMore}
+use Rattle.sink_text.specs.Appends.{Appends}
+use Rattle.corr_model.specs.Files.{Files}
+use Rattle.job_plan.specs.declared.plan.Plan.{Plan}
+use Rattle.job_plan.specs.Output.{output}
+use Rattle.checkpoint_journal.specs.declared.fault.Differs.{Differs}
+use Rattle.checkpoint_journal.specs.Image.{reading}
+use Rattle.checkpoint_journal.specs.Finding.{IsOther}
+use Rattle.checkpoint_journal.proofs.RunLemmas.{told_value}
+use Rattle.vis_records.specs.Content.{Content, IsRecordFile}
+use Rattle.vis_records.specs.Laws.{HasOneContent}
+use Rattle.gen_summary.specs.Totals.{totals_text}
+use Rattle.run_words.specs.declared.order.Order.{Order}
+use Rattle.run_words.specs.declared.order.Order.TheVariants.{Run}
+use Rattle.run_notes.specs.declared.refusal.Due.TheVariants.{Words, Vex, Schedule, Job, Join, Limit, NoFile, Recording, Records, Other}
+use Rattle.run_notes.specs.declared.refusal.Refusal.{Refusal}
+use Rattle.run_notes.specs.declared.refusal.Refusal.TheVariants.{Memory, Due as DueRefusal, Read, Journal, Write}
+use Rattle.run_notes.specs.Answers.{Answer, words_answer}
+use Rattle.run_notes.specs.Refusals.{Outcomes, IsCause, MatchRead}
+use Rattle.run_notes.specs.Counted.{CountsReads}
+use Rattle.run_ready.specs.Steps.{answered}
+use Rattle.run_ready.specs.Recordings.{recordings_answer}
+use Rattle.run_ready.specs.Outcome.{PlanOf}
+use Rattle.mem_devices.specs.MemShelfState.{bytes_under}
+use Rattle.vlbi_core.specs.Calls.{Call, Task, OfJob, OfRecords, TaskFor, identity_for, sizes_for, is_run}
+use Rattle.vlbi_core.specs.Restart.{IsHonest}
+use Rattle.vlbi_core.specs.Sample.{SampleOf, IsSampled, sample_files, sample_shelf, sample_order, content_for, sample_text}
+use Rattle.vlbi_core.specs.Faults.{written_with}
+use Rattle.vlbi_core.specs.Steps.{OutcomeFrom, IsBehindWords, IsOfFilesOrOutput, IsCauseOf, IsDone, Does, IsInMemory, IsOtherCause, IsPlanned, Tells, in_memory}
+use Rattle.vlbi_core.proofs.RecordFileLemmas.{output-IsRecordFile}
+use Rattle.vlbi_core.proofs.TopLemmas.{OneOutcome}
+
+-- a blank image is honest
+blank-reads : (id sizes : List ℕ) → reading id sizes [] ≡ Some []
+unfolding reading
+blank-reads id sizes = refl
+
+blank-honest : (files : Files) (call : Call) → IsHonest files call []
+blank-honest files call = record { bodies = []; reads = blank-reads (identity_for files call) (sizes_for call); sums = tt }
+
+-- the task of a run
+task-of : (files : Files) (order : Order) (task : Task) → OutcomeFrom (Ok order) files (Ok task) → TaskFor files order (Ok task)
+task-of files order task p =
+    let e : Ok p.0 ≡ Ok order = p.1 in
+    let same : p.0 ≡ order = cc in
+    subst (λ (o : Order). TaskFor files o (Ok task)) same p.2
+
+-- the refusal of a run
+refusal-of : (files : Files) (order : Order) (answer : Answer) → OutcomeFrom (Ok order) files (Err answer) → TaskFor files order (Err answer)
+refusal-of files order answer (inl p) = absurd (by p)
+  where
+    by : Err answer ≡ answered words_answer (Ok order) → ⊥
+    by e = cc
+refusal-of files order answer (inr p) =
+    let e : Ok p.0 ≡ Ok order = p.1 in
+    let same : p.0 ≡ order = cc in
+    subst (λ (o : Order). TaskFor files o (Err answer)) same p.2
+
+module _ {D : Type 0} (seen : D → Option (List ℕ)) (moment : D → ℕ) (may_leave : D → ℕ → List ℕ → Type 0) where
+  -- a run that was done over a blank journal appended what its plan comes to
+  pub done-output : (files : Files) (job : List ℕ) (vex : Option (List ℕ)) (workers piece : ℕ) (before after : D) (old new : Option (List ℕ)) → seen before ≡ Some []
+      → IsDone (OutcomeFrom (Ok (Run job vex workers piece)) files) files seen moment may_leave before after old new
+      → (plan : Plan) × PlanOf files (Run job vex workers piece) (Ok plan) × (new ≡ more old (output plan files))
+  done-output files job vex workers piece before after old new blank done = by done.task refl (task-of files (Run job vex workers piece) done.task done.outcome)
+    where
+      by : (task : Task) → done.task ≡ task → TaskFor files (Run job vex workers piece) (Ok task)
+          → (plan : Plan) × PlanOf files (Run job vex workers piece) (Ok plan) × (new ≡ more old (output plan files))
+      by (OfRecords content) same p = absurd p
+      by (OfJob call) same p =
+          let run : is_run call.order ≡ true = subst (λ (o : Order). is_run o ≡ true) (sym p.0) refl in (
+            call.plan,
+            p.1,
+            told_value (seen before) (λ image. IsHonest files call image → new ≡ more old (output call.plan files)) [] blank (done.sums call same run) (blank-honest files call),
+          )
+
+-- over a blank journal no other job's is met
+not-other : (outcomes : Outcomes Task) (files : Files) (before : Option (List ℕ)) (d : Differs) → before ≡ Some [] → IsOtherCause outcomes files before d → ⊥
+not-other outcomes files before d blank cause =
+    let there = told_value before (λ image. IsOther (identity_for files cause.call) (sizes_for cause.call) image d) [] blank cause.other in
+    let gone : Some [] ≡ None = sym (blank-reads (identity_for files cause.call) (sizes_for cause.call)) ∙ there.unread in
+    cc
+
+-- the cause of a refusal over devices in memory
+module _ (files : Files) (job : List ℕ) (vex : Option (List ℕ)) (workers piece : ℕ) (images : List ℕ → Type 0) (before after old new : Option (List ℕ)) where
+  pub memory-cause : (r : Refusal) → before ≡ Some [] → IsBehindWords r → IsCauseOf r (OutcomeFrom (Ok (Run job vex workers piece)) files) files images before after old new
+      → IsCause (in_memory r) (PlanOf files (Run job vex workers piece))
+  memory-cause Memory blank behind cause = tt
+  memory-cause (DueRefusal (Words fault)) blank behind cause = absurd behind
+  memory-cause (DueRefusal (Vex fault)) blank behind cause = refusal-of files (Run job vex workers piece) _ cause
+  memory-cause (DueRefusal (Schedule fault)) blank behind cause = refusal-of files (Run job vex workers piece) _ cause
+  memory-cause (DueRefusal (Job fault)) blank behind cause = refusal-of files (Run job vex workers piece) _ cause
+  memory-cause (DueRefusal (Join fault name)) blank behind cause = refusal-of files (Run job vex workers piece) _ cause
+  memory-cause (DueRefusal (Limit quantity value)) blank behind cause = refusal-of files (Run job vex workers piece) _ cause
+  memory-cause (DueRefusal (NoFile name)) blank behind cause = refusal-of files (Run job vex workers piece) _ cause
+  memory-cause (DueRefusal (Recording key field)) blank behind cause = refusal-of files (Run job vex workers piece) _ cause
+  memory-cause (DueRefusal (Records fault)) blank behind cause = refusal-of files (Run job vex workers piece) _ cause
+  memory-cause (DueRefusal (Other d)) blank behind cause = absurd (not-other (OutcomeFrom (Ok (Run job vex workers piece)) files) files before d blank cause)
+  memory-cause Read blank behind cause = tt
+  memory-cause (Journal kept) blank behind cause = tt
+  memory-cause Write blank behind cause = tt
+
+  pub memory-stage : (r : Refusal) → before ≡ Some [] → IsBehindWords r → IsCauseOf r (OutcomeFrom (Ok (Run job vex workers piece)) files) files images before after old new
+      → IsInMemory (in_memory r)
+  memory-stage Memory blank behind cause = tt
+  memory-stage (DueRefusal (Words fault)) blank behind cause = absurd behind
+  memory-stage (DueRefusal (Vex fault)) blank behind cause = tt
+  memory-stage (DueRefusal (Schedule fault)) blank behind cause = tt
+  memory-stage (DueRefusal (Job fault)) blank behind cause = tt
+  memory-stage (DueRefusal (Join fault name)) blank behind cause = tt
+  memory-stage (DueRefusal (Limit quantity value)) blank behind cause = tt
+  memory-stage (DueRefusal (NoFile name)) blank behind cause = tt
+  memory-stage (DueRefusal (Recording key field)) blank behind cause = tt
+  memory-stage (DueRefusal (Records fault)) blank behind cause = tt
+  memory-stage (DueRefusal (Other d)) blank behind cause = absurd (not-other (OutcomeFrom (Ok (Run job vex workers piece)) files) files before d blank cause)
+  memory-stage Read blank behind cause = tt
+  memory-stage (Journal kept) blank behind cause = tt
+  memory-stage Write blank behind cause = tt
+
+-- ---- the totals of a sample
+
+-- a verdict on the files of a sample is a verdict of the call, and so is want of memory
+pub sample-refused : (outcomes : Outcomes Plan) (text : Plan → List ℕ) (old : Option (List ℕ)) (r : Refusal) → IsInMemory r → IsCause r outcomes → Tells outcomes text old old (Err r)
+sample-refused outcomes text old Memory stage cause = record { done = tt; cause = tt; part = inl refl }
+sample-refused outcomes text old (DueRefusal due) stage cause = record { done = tt; cause = cause; part = refl }
+sample-refused outcomes text old Read stage cause = absurd stage
+sample-refused outcomes text old (Journal kept) stage cause = absurd stage
+sample-refused outcomes text old Write stage cause = absurd stage
+
+pub sample-stage : (r : Refusal) → IsInMemory r → IsOfFilesOrOutput r
+sample-stage Memory stage = tt
+sample-stage (DueRefusal (Words fault)) stage = absurd stage
+sample-stage (DueRefusal (Vex fault)) stage = tt
+sample-stage (DueRefusal (Schedule fault)) stage = tt
+sample-stage (DueRefusal (Job fault)) stage = tt
+sample-stage (DueRefusal (Join fault name)) stage = tt
+sample-stage (DueRefusal (Limit quantity value)) stage = tt
+sample-stage (DueRefusal (NoFile name)) stage = tt
+sample-stage (DueRefusal (Recording key field)) stage = tt
+sample-stage (DueRefusal (Records fault)) stage = tt
+sample-stage (DueRefusal (Other d)) stage = absurd stage
+sample-stage Read stage = absurd stage
+sample-stage (Journal kept) stage = absurd stage
+sample-stage Write stage = absurd stage
+
+-- the totals of the content that was read are those of the plan's record file
+pub sample-totals : {E : Type 0} (seed seconds workers piece : ℕ) (bytes : List ℕ) (content : Content) (old new : Option (List ℕ)) (before now : ℕ) (r : Result (Unit {0}) E)
+    → ((text : List ℕ) → HasOneContent text) → length bytes < 2 ^ 64 → (s : IsSampled seed seconds workers piece bytes) → IsRecordFile bytes content
+    → Appends old new (totals_text content (length bytes)) before now r
+    → Tells (SampleOf seed seconds workers piece) (sample_text seed seconds) old new (written_with r)
+sample-totals {E} seed seconds workers piece bytes content old new before now r law short s read appends = by r appends
+  where
+    files : Files
+    files = sample_shelf seed seconds
+
+    own : IsRecordFile bytes (content_for s.plan files)
+    own = subst (λ (text : List ℕ). IsRecordFile text (content_for s.plan files)) (sym s.records) (output-IsRecordFile s.plan files s.ranges s.few)
+
+    same : content ≡ content_for s.plan files
+    same = law bytes content (content_for s.plan files) short read own
+
+    text-is : totals_text content (length bytes) ≡ sample_text seed seconds s.plan
+    text-is = ap (λ (c : Content). totals_text c (length bytes)) same ∙ ap (λ (text : List ℕ). totals_text (content_for s.plan files) (length text)) s.records
+
+    by : (q : Result (Unit {0}) E) → Appends old new (totals_text content (length bytes)) before now q
+        → Tells (SampleOf seed seconds workers piece) (sample_text seed seconds) old new (written_with q)
+    by (Ok x) appends = record { done = (s.plan, s.outcome, appends.ok ∙ ap (more old) text-is); cause = tt; part = tt }
+    by (Err e) appends = record {
+      done = tt;
+      cause = (s.plan, s.outcome);
+      part = (s.plan, s.outcome, subst (λ (t : List ℕ). PrefixMore old t new) text-is appends.prefix);
+    }
+
+-- the totals of a sample's call are of no shelf
+pub reads-same : (n : ℕ) (result : Result (Unit {0}) Refusal) → IfErr result (λ r. MatchRead r ⊥ (Unit {0})) → CountsReads n n result
+reads-same n (Ok x) unread = refl
+reads-same n (Err Memory) unread = refl
+reads-same n (Err (DueRefusal due)) unread = refl
+reads-same n (Err Read) unread = absurd unread
+reads-same n (Err (Journal kept)) unread = refl
+reads-same n (Err Write) unread = refl
+
+pub sample-unread : (r : Refusal) → IsInMemory r → MatchRead r ⊥ (Unit {0})
+sample-unread Memory stage = tt
+sample-unread (DueRefusal due) stage = tt
+sample-unread Read stage = absurd stage
+sample-unread (Journal kept) stage = tt
+sample-unread Write stage = tt
+
+-- what was appended in memory is the record file of a plan of the sample
+pub sampled : {D : Type 0} (seen : D → Option (List ℕ)) (moment : D → ℕ) (may_leave : D → ℕ → List ℕ → Type 0) (law : OneOutcome) (seed seconds workers piece : ℕ)
+    (order : Order) (files : List (List ℕ × List ℕ)) (before after : D) (bytes : List ℕ) → order ≡ sample_order workers piece → files ≡ sample_files seed seconds → seen before ≡ Some []
+    → IsDone (OutcomeFrom (Ok order) (bytes_under files)) (bytes_under files) seen moment may_leave before after (Some []) (Some bytes)
+    → IsPlanned (PlanOf (bytes_under files) order)
+    → IsSampled seed seconds workers piece bytes
+sampled {D} seen moment may_leave law seed seconds workers piece order files before after bytes same_order same_files blank done planned =
+    let own_done : IsDone (OutcomeFrom (Ok (sample_order workers piece)) (sample_shelf seed seconds)) (sample_shelf seed seconds) seen moment may_leave before after (Some []) (Some bytes) =
+    subst (λ (fs : List (List ℕ × List ℕ)). IsDone (OutcomeFrom (Ok (sample_order workers piece)) (bytes_under fs)) (bytes_under fs) seen moment may_leave before after (Some []) (Some bytes)) same_files
+    (subst (λ (o : Order). IsDone (OutcomeFrom (Ok o) (bytes_under files)) (bytes_under files) seen moment may_leave before after (Some []) (Some bytes)) same_order done) in
+    let own_planned : IsPlanned (SampleOf seed seconds workers piece) =
+    subst (λ (fs : List (List ℕ × List ℕ)). IsPlanned (PlanOf (bytes_under fs) (sample_order workers piece))) same_files
+    (subst (λ (o : Order). IsPlanned (PlanOf (bytes_under files) o)) same_order planned) in
+    let out = done-output seen moment may_leave (sample_shelf seed seconds) (codes "job") None workers piece before after (Some []) (Some bytes) blank own_done in
+    let one : Ok out.0 ≡ Ok own_planned.plan =
+    law (sample_shelf seed seconds) (recordings_answer (sample_shelf seed seconds)) (sample_order workers piece) (Ok out.0) (Ok own_planned.plan) out.1 own_planned.outcome in
+    let plans : out.0 ≡ own_planned.plan = cc in
+    let told : Some bytes ≡ Some (output out.0 (sample_shelf seed seconds)) = out.2 in
+    let text : bytes ≡ output out.0 (sample_shelf seed seconds) = cc in
+    record {
+      plan = own_planned.plan;
+      outcome = own_planned.outcome;
+      ranges = own_planned.ranges;
+      few = own_planned.few;
+      records = text ∙ ap (λ (plan : Plan). output plan (sample_shelf seed seconds)) plans;
+    }
+
+module _ {D : Type 0} (seen : D → Option (List ℕ)) (moment : D → ℕ) (may_leave : D → ℕ → List ℕ → Type 0) (seed seconds workers piece : ℕ)
+    (order : Order) (files : List (List ℕ × List ℕ)) (before after : D) (same_order : order ≡ sample_order workers piece) (same_files : files ≡ sample_files seed seconds)
+    (blank : seen before ≡ Some []) where
+  pub sampled-does : OneOutcome → (old bytes items : List ℕ) (x : Unit {0}) → old ≡ [] → items ≡ bytes
+      → Does (Ok order) (bytes_under files) seen moment may_leave before after (Some old) (Some bytes) (Ok x)
+      → IsPlanned (PlanOf (bytes_under files) order) → IsSampled seed seconds workers piece items
+  sampled-does law old bytes items x none same does planned =
+      subst (IsSampled seed seconds workers piece) (sym same)
+      (sampled seen moment may_leave law seed seconds workers piece order files before after bytes same_order same_files blank
+      (subst (λ (o : List ℕ). IsDone (OutcomeFrom (Ok order) (bytes_under files)) (bytes_under files) seen moment may_leave before after (Some o) (Some bytes)) none does.done)
+      planned)
+
+  own-cause : (old new : Option (List ℕ)) (r : Refusal) → Does (Ok order) (bytes_under files) seen moment may_leave before after old new (Err r)
+      → IsCauseOf r (OutcomeFrom (Ok (sample_order workers piece)) (sample_shelf seed seconds)) (sample_shelf seed seconds) (may_leave after (moment after)) (seen before) (seen after) old new
+  own-cause old new r does =
+      subst (λ (fs : List (List ℕ × List ℕ)). IsCauseOf r (OutcomeFrom (Ok (sample_order workers piece)) (bytes_under fs)) (bytes_under fs) (may_leave after (moment after)) (seen before) (seen after) old new) same_files
+      (subst (λ (o : Order). IsCauseOf r (OutcomeFrom (Ok o) (bytes_under files)) (bytes_under files) (may_leave after (moment after)) (seen before) (seen after) old new) same_order does.cause)
+
+  pub refused-cause : (old new : Option (List ℕ)) (r : Refusal) → IsBehindWords r → Does (Ok order) (bytes_under files) seen moment may_leave before after old new (Err r)
+      → IsCause (in_memory r) (SampleOf seed seconds workers piece)
+  refused-cause old new r behind does =
+      memory-cause (sample_shelf seed seconds) (codes "job") None workers piece (may_leave after (moment after)) (seen before) (seen after) old new r blank behind (own-cause old new r does)
+
+  pub refused-stage : (old new : Option (List ℕ)) (r : Refusal) → IsBehindWords r → Does (Ok order) (bytes_under files) seen moment may_leave before after old new (Err r)
+      → IsInMemory (in_memory r)
+  refused-stage old new r behind does =
+      memory-stage (sample_shelf seed seconds) (codes "job") None workers piece (may_leave after (moment after)) (seen before) (seen after) old new r blank behind (own-cause old new r does)

@@ -32,6 +32,18 @@ def answer(file):
     return " ".join([words + f"scans {len(records.scans)} cells", *cells])
 
 
+def shown(file):
+    """What the table prints for the lines that show a file: where they are no text, their bytes."""
+    try:
+        lines = b"".join(vlbi_records.text(vlbi_records.from_bytes(file)))
+    except vlbi_records.RecordFault as fault:
+        return [f"dump: {str(fault).removeprefix('records: ')}"]
+    try:
+        return ["dump:", *lines.decode().splitlines()]
+    except UnicodeDecodeError:
+        return ["dump:", lines.hex()]
+
+
 def answers(lines):
     """What the table of record files prints for its lines, which the head of its file `stdin` explains."""
     text = b""
@@ -43,6 +55,8 @@ def answers(lines):
             text += bytes.fromhex(rest)
         elif word == "whole":
             yield f"{line}: {answer(text)}"
+        elif word == "dump":
+            yield from shown(text)
         elif word == "fronts":
             yield from (f"{size} bytes: {answer(text[:size])}" for size in range(len(text)))
         elif word == "byte":

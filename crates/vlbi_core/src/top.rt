@@ -28,8 +28,8 @@ use std::thread::Threads;
 
 /// Does what the words ask for, and answers the status. `words` are the command and what follows it; the files are read from
 /// `shelf`, records and summaries go to `out`, and a refusal's line to `notes`. `journal` is the file in which a call of `run`
-/// keeps each epoch once it is summed, so that a later call goes on from there; `status` reads it. `gate` is told each piece
-/// before a worker of `run` sums it; no clause speaks of it.
+/// keeps each epoch once it is summed, so that a later call goes on from there; `status` reads it, and no other command uses it.
+/// `gate` is told each piece before a worker of `run` or `gen` sums it; no clause speaks of it.
 ///
 /// | status | |
 /// |---|---|
@@ -38,7 +38,7 @@ use std::thread::Threads;
 /// | 2 | the words are not a command's |
 /// | 3 | the schedule is not accepted |
 /// | 4 | the job is not accepted, or does not go with the schedule |
-/// | 5 | a station's recording has slots, and none agrees with its shape |
+/// | 5 | a station's recording has slots, and none agrees with its shape; or the file that is shown is no record file |
 /// | 6 | a quantity is past its greatest |
 /// | 7 | a read failed |
 /// | 8 | the journal failed |

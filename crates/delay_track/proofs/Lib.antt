@@ -1,7 +1,8 @@
-pub mod Lines
 pub mod Polynomials
 pub mod Samples
 pub mod Clocks
 pub mod Knots
 pub mod Stretches
 pub mod AllSamples
+pub mod Pieces
+pub mod StretchLemmas

@@ -2,8 +2,10 @@ ghost use Rattle.corr_model.specs.Delay.{IsDelayModel};
 ghost use Rattle.delay_track.specs.Model.{delay_model};
 
 use crate::Track;
-use crate::line::{between, samples_in, samples_to};
+use crate::line::{samples_in, samples_to};
+use crate::piece::Piece;
 use crate::polynomial::{poly_value, zero_poly};
+use delay_line::Line;
 use delay_poly::{PolyEntry, PolyList};
 use station_clock::{ClockEntry, ClockList, clock_at};
 
@@ -22,11 +24,13 @@ pub struct StationModel<'a> {
 }
 
 impl<'a> StationModel<'a> {
-    ghost use Rattle.std.specs.Prelude.{◌≡◌, ℕ, ◌+◌, ◌*◌, ◌^◌, ◌≤◌, ◌<◌, ◌↔◌, ◌≤ℤ◌, ◌<ℤ◌, pos, ◌*ℤ◌, unsigned_abs, true, Some, IsSome, IfSome};
-    ghost use Rattle.corr_model.specs.Delay.{second_at, poly_at, samples_since, clock_of, clock_samples, clock_at_knot, knot_delay, delay_by, delay_at, is_modelled, has_model, has_clock};
+    ghost use Rattle.std.specs.Prelude.{◌≡◌, ℕ, ◌+◌, ◌*◌, ◌^◌, ◌≤◌, ◌<◌, ◌↔◌, ◌≤ℤ◌, ◌<ℤ◌, pos, ◌-ℤ◌, ◌*ℤ◌, unsigned_abs, true, Some, IsSome, IfSome};
+    ghost use Rattle.num_time.specs.Times.{IsSecond};
+    ghost use Rattle.corr_model.specs.Delay.{second_at, poly_at, samples_since, knot_before, past_knot, clock_of, clock_samples, clock_at_knot, knot_delay, delay_by, delay_at, is_modelled, has_model, has_clock};
     ghost use Rattle.delay_track.specs.Model.{IsKnot};
     ghost use Rattle.delay_track.specs.StationModel.{delay_model_of};
     ghost use Rattle.delay_track.specs.Track.{model_of};
+    ghost use Rattle.delay_track.specs.Piece.{IsPiece};
 
     // The second in which sample `n` lies.
     fn second_at(&self, n: u64) -> i64
@@ -34,6 +38,15 @@ impl<'a> StationModel<'a> {
         ensures { result ≡ second_at (delay_model_of self.now) n }
     {
         self.second + (n / u64::from(self.rate)) as i64
+    }
+
+    // The sample at which a second begins, which is not before the scan's start.
+    fn sample_at(&self, second: i64) -> u64
+        requires second { IsSecond second }
+        requires begun { self.now.second ≤ℤ second }
+        ensures { result ≡ unsigned_abs (second -ℤ self.now.second) * self.now.rate }
+    {
+        (second - self.second) as u64 * u64::from(self.rate)
     }
 
     // The polynomial in force at sample `n`.
@@ -96,6 +109,35 @@ impl<'a> StationModel<'a> {
         poly_value(&e.poly, j) + self.clock_at_knot(e, j)
     }
 
+    // The line between the two knots about sample `n`, at which the polynomial is in force.
+    fn line_about(&self, e: &PolyEntry, n: u64) -> Line
+        requires inside { n < self.now.samples }
+        requires poly { poly_at (delay_model_of self.now) n ≡ Some e.now }
+        requires modelled { is_modelled (delay_model_of self.now) n ≡ true }
+        ensures first { result.first ≡ knot_delay (delay_model_of self.now) e.now (knot_before (delay_model_of self.now) e.now n) }
+        ensures next { result.next ≡ knot_delay (delay_model_of self.now) e.now (knot_before (delay_model_of self.now) e.now n + 1) }
+        ensures knot { result.knot ≡ self.now.knot }
+    {
+        let j = self.samples_since(e, n) / u64::from(self.knot);
+        let first = self.knot_delay(e, j);
+        let next = self.knot_delay(e, j + 1);
+        Line {
+            first,
+            next,
+            knot: self.knot,
+        }
+    }
+
+    // How far sample `n`, at which the polynomial is in force, is behind the knot before it.
+    fn past_knot(&self, e: &PolyEntry, n: u64) -> u32
+        requires inside { n < self.now.samples }
+        requires poly { poly_at (delay_model_of self.now) n ≡ Some e.now }
+        ensures value { result ≡ past_knot (delay_model_of self.now) e.now n }
+        ensures within { result < self.now.knot }
+    {
+        (self.samples_since(e, n) % u64::from(self.knot)) as u32
+    }
+
     // The delay at sample `n`, at which the polynomial is in force.
     fn delay_by(&self, e: &PolyEntry, n: u64) -> i64
         requires inside { n < self.now.samples }
@@ -104,11 +146,59 @@ impl<'a> StationModel<'a> {
         ensures value { result ≡ delay_by (delay_model_of self.now) e.now n }
         ensures bound { unsigned_abs result < 2 ^ 59 }
     {
-        let since = self.samples_since(e, n);
-        let knot = u64::from(self.knot);
-        let first = self.knot_delay(e, since / knot);
-        let next = self.knot_delay(e, since / knot + 1);
-        between(first, next, (since % knot) as u32, self.knot)
+        self.line_about(e, n).delay(self.past_knot(e, n))
+    }
+
+    // Up to which sample, and at most up to `to`, the polynomial stays in force that is so at sample `n`.
+    fn poly_end(&self, n: u64, to: u64) -> u64
+        requires order { n < to }
+        requires inside { to ≤ self.now.samples }
+        requires modelled { is_modelled (delay_model_of self.now) n ≡ true }
+        ensures after { n < result }
+        ensures within { result ≤ to }
+        ensures same { (i : ℕ) → n ≤ i → i < result → poly_at (delay_model_of self.now) i ≡ poly_at (delay_model_of self.now) n }
+    {
+        match self.polys.next_second(self.second_at(n)) {
+            None => to,
+            Some(next) => to.min(self.sample_at(next)),
+        }
+    }
+
+    // The piece from sample `n` on, at which the polynomial is in force, and at most up to `to`.
+    fn piece_by(&self, e: &PolyEntry, n: u64, to: u64) -> Piece
+        requires order { n < to }
+        requires inside { to ≤ self.now.samples }
+        requires poly { poly_at (delay_model_of self.now) n ≡ Some e.now }
+        requires modelled { is_modelled (delay_model_of self.now) n ≡ true }
+        ensures from { result.from ≡ n }
+        ensures after { n < result.to }
+        ensures within { result.to ≤ to }
+        ensures line { IsPiece (delay_model_of self.now) result }
+    {
+        let past = self.past_knot(e, n);
+        Piece {
+            from: n,
+            to: self.poly_end(n, to).min(n + u64::from(self.knot - past)),
+            past,
+            line: self.line_about(e, n),
+        }
+    }
+
+    // The piece from sample `n` on, which has a model, and at most up to `to`: it ends at the next knot, or at the second at
+    // which the next polynomial begins.
+    pub(crate) fn piece(&self, n: u64, to: u64) -> Piece
+        requires order { n < to }
+        requires inside { to ≤ self.now.samples }
+        requires modelled { is_modelled (delay_model_of self.now) n ≡ true }
+        ensures from { result.from ≡ n }
+        ensures after { n < result.to }
+        ensures within { result.to ≤ to }
+        ensures line { IsPiece (delay_model_of self.now) result }
+    {
+        match self.poly_at(n) {
+            None => Piece::none(),
+            Some(e) => self.piece_by(&e, n, to),
+        }
     }
 
     // The delay at sample `n`, which has a model.
@@ -143,7 +233,7 @@ impl<'a> StationModel<'a> {
         if e.second <= self.second {
             0
         } else {
-            (e.second - self.second) as u64 * u64::from(self.rate)
+            self.sample_at(e.second)
         }
     }
 

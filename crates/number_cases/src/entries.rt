@@ -50,6 +50,11 @@ impl Entries {
             "clock_for" => print_clock(rt, self.clocks.entry_for(rest.parse::<i64>()?))?,
             "has" => self.print_has(rt)?,
             "delay" => self.print_delay(rt, rest.parse::<u64>()?)?,
+            "runs" => self.print_runs(rt, &numbers(alloc, rest)?)?,
+            "turns" => {
+                let (side, values) = rest.split_once(' ').context("a sideband")?;
+                self.print_turns(rt, side == "U", &numbers(alloc, values)?)?;
+            }
             _ => return Ok(false),
         }
         Ok(true)
@@ -124,6 +129,55 @@ impl Entries {
             bail!("no such sample");
         }
         println!(rt; "{} {}", track.delay(n), track.whole(n))?;
+        Ok(())
+    }
+
+    // The runs of one whole delay through these samples.
+    fn print_runs(&self, rt: &impl Print, values: &[i64]) -> Result<()> {
+        let [from, to] = values else {
+            bail!("from and to");
+        };
+        let (from, to) = (u64::try_from(*from)?, u64::try_from(*to)?);
+        let track = track(
+            &self.polys,
+            &self.clocks,
+            self.rate,
+            self.knot,
+            self.samples,
+        )
+        .context("no model or no clock")?;
+        if from > to || to > self.samples {
+            bail!("no such samples");
+        }
+        for run in track.runs(from, to) {
+            print!(rt; "{} to {} of {}, ", run.from, run.to, run.whole)?;
+        }
+        println!(rt; "end")?;
+        Ok(())
+    }
+
+    // The turns of one sector of a band through these samples.
+    fn print_turns(&self, rt: &impl Print, upper: bool, values: &[i64]) -> Result<()> {
+        let [hertz, from, to] = values else {
+            bail!("frequency, from and to");
+        };
+        let hertz = u64::try_from(*hertz)?;
+        let (from, to) = (u64::try_from(*from)?, u64::try_from(*to)?);
+        let track = track(
+            &self.polys,
+            &self.clocks,
+            self.rate,
+            self.knot,
+            self.samples,
+        )
+        .context("no model or no clock")?;
+        if hertz >= 1 << 40 || from > to || to > self.samples {
+            bail!("no such frequency or samples");
+        }
+        for turn in track.turns(hertz, upper, from, to) {
+            print!(rt; "{} to {} of {}, ", turn.from, turn.to, turn.sector)?;
+        }
+        println!(rt; "end")?;
         Ok(())
     }
 }

@@ -1,6 +1,5 @@
 -- The samples of a frame are those in the slot that holds it.
 use Rattle.std.specs.Prelude.{◌==◌, ◌&&◌, not, option_map, map, cond}
-use Rattle.std.specs.Bool.{IsTrue}
 use Rattle.std.specs.List.{All, find}
 use Rattle.std.proofs.Common.{◌≡◌, ◌∙◌, refl, sym, ap, subst, ℕ, suc, ◌+◌, ◌*◌, ◌/◌, ◌≤◌, ◌<◌, Bool, true, false, ℤ, pos, ◌-ℤ◌, unsigned_abs, List, [], ◌∷◌, ◌++◌, length, take, drop, get_or, Option, Some, None, arith, zero-add}
 use Rattle.std.proofs.Math.Seq.{get_or-append_seam}
@@ -8,7 +7,7 @@ use Rattle.std.proofs.lemmas.Bool.Decides.{Decides-eqb, Decides-int_eq}
 use Rattle.std.proofs.lemmas.List.{append_assoc, length-append}
 use Rattle.std.proofs.lemmas.List.Elements.{All-append}
 use Rattle.std.proofs.lemmas.List.FromFn.{length-map-range_with_len, get_or-map-range_with_len}
-use Rattle.std.proofs.lemmas.Nat.{div-add-mod', mod_below}
+use Rattle.std.proofs.lemmas.Nat.{div-add-mod'}
 use Rattle.vdif_frame.specs.Header.{fields_of}
 use Rattle.vdif_frame.specs.Shape.{ShapeFields, IsShape, head_bytes, chans_of, samples_per_frame}
 use Rattle.vdif_frame.proofs.Samples.{samples_per_frame_some}
@@ -18,16 +17,13 @@ use Rattle.corr_model.specs.Sample.{Timing, Recorded, agrees_with, slot_place, c
 use Rattle.corr_model.specs.Frames.{second_in, holds_frame, frame_slot, counted_slot}
 use Rattle.corr_model.proofs.SlotLemmas.{slot_within}
 use Rattle.frame_index.specs.declared.frame.SlotAt.{SlotAt}
-use Rattle.frame_index.specs.Placed.{second_of_place, place_in_second, number_of_place, sample_in_frame}
+use Rattle.frame_index.specs.Placed.{second_of_place, number_of_place, sample_in_frame}
 use Rattle.frame_index.specs.Indexed.{IndexFields, IsIndexOf, place_in, place_of_slot}
-use Rattle.frame_index.specs.Recording.{Shelved, AreOnShelf, bytes_on, slots_on}
+use Rattle.frame_index.specs.Recording.{Shelved, bytes_on}
 use Rattle.frame_index.proofs.FrameLaw.{FillsSeconds, counted_slot-frame_slot}
-use Rattle.station_stream.specs.declared.chan.StationChan.{StationChan}
 use Rattle.station_stream.specs.declared.part.StationPart.{StationPart}
-use Rattle.station_stream.specs.declared.place.FramePlace.{FramePlace}
 use Rattle.station_stream.specs.Part.{IsIndexed, timing_of}
 use Rattle.station_stream.specs.Standing.{StandsAt, bytes_at}
-use Rattle.station_stream.specs.Holding.{IsFrame}
 use Rattle.station_stream.proofs.PlaceLemmas.{floor_parts, start_of_frame, place_back}
 
 -- ---- a search through slots
@@ -172,7 +168,7 @@ pub record IsSlotAt (shape : ShapeFields) (files : List (List ℕ)) (thread : �
   pub bytes : slot.bytes ≡ bytes_at files at shape.frame_bytes
 
 -- where the index has a place, a slot that holds the frame stands there
-slot_at_place : (shape : ShapeFields) (files : List (List ℕ)) (index : IndexFields) (thread : ℕ) (second : ℤ) (number : ℕ) (at : SlotAt)
+pub slot_at_place : (shape : ShapeFields) (files : List (List ℕ)) (index : IndexFields) (thread : ℕ) (second : ℤ) (number : ℕ) (at : SlotAt)
     → IsIndexOf shape (station_slots shape.frame_bytes files) index
     → place_in index thread second number ≡ Some at
     → (slot : Slot) × IsSlotAt shape files thread second number at slot
@@ -190,7 +186,7 @@ slot_at_place shape files index thread second number at is found =
     )
 
 -- where it has none, no slot holds the frame
-no_slot : (shape : ShapeFields) (slots : List Slot) (index : IndexFields) (thread : ℕ) (second : ℤ) (number : ℕ) → IsIndexOf shape slots index
+pub no_slot : (shape : ShapeFields) (slots : List Slot) (index : IndexFields) (thread : ℕ) (second : ℤ) (number : ℕ) → IsIndexOf shape slots index
     → place_in index thread second number ≡ None
     → frame_slot shape slots thread second number ≡ None
 no_slot shape slots index thread second number is none =
@@ -206,18 +202,6 @@ fills_seconds part shape = record {
   whole = part.sound.rate;
 }
 
--- a frame that the index does not have
-pub IsFrame-none : (told : Shelved) (part : StationPart) (chan : StationChan) (index : IndexFields) (place : FramePlace) (levels : List ℤ) → IsShape part.shape
-    → place_in index chan.thread place.second place.number ≡ None
-    → IsIndexed told part index
-    → IsFrame told part chan place false levels
-IsFrame-none told part chan index place levels shape none indexed = λ p is.
-    let t : Timing = timing_of part in
-    let here : place_in index chan.thread (second_of_place t p) (number_of_place t p) ≡ None =
-    ap (λ (at : FramePlace). place_in index chan.thread at.second at.number) (sym is) ∙ none in
-    sample_of-none t (record { thread = chan.thread; index = chan.index }) (bytes_on told part.files.now) p (fills_seconds part shape)
-    (no_slot part.shape (slots_on told part.shape part.files.now) index chan.thread (second_of_place t p) (number_of_place t p) indexed.1 here)
-
 -- a place that the index gives is one at which a slot stands
 pub stands_indexed : (told : Shelved) (part : StationPart) (index : IndexFields) (thread : ℕ) (second : ℤ) (number : ℕ) (at : SlotAt)
     → place_in index thread second number ≡ Some at
@@ -225,58 +209,3 @@ pub stands_indexed : (told : Shelved) (part : StationPart) (index : IndexFields)
     → StandsAt (bytes_on told part.files.now) at part.shape.frame_bytes
 stands_indexed told part index thread second number at found indexed =
     (slot_at_place part.shape (bytes_on told part.files.now) index thread second number at indexed.1 found).1.stands
-
--- a frame whose slot stands at a place
-pub IsFrame-some : (told : Shelved) (part : StationPart) (chan : StationChan) (index : IndexFields) (place : FramePlace) (at : SlotAt) (slot : List ℕ) (levels : List ℤ)
-    → IsShape part.shape
-    → place_in index chan.thread place.second place.number ≡ Some at
-    → slot ≡ bytes_at (bytes_on told part.files.now) at part.shape.frame_bytes
-    → length levels ≡ samples_per_frame part.shape
-    → ((i : ℕ) → i < length levels → get_or levels i (pos 0) ≡ level_at (drop (head_bytes part.shape.legacy) slot) part.shape.bits (chans_of part.shape) chan.index i)
-    → IsIndexed told part index
-    → IsFrame told part chan place true levels
-IsFrame-some told part chan index place at slot levels shape found is_slot long unpacked indexed = λ p is.
-    let t : Timing = timing_of part in
-    let files : List (List ℕ) = bytes_on told part.files.now in
-    let here : place_in index chan.thread (second_of_place t p) (number_of_place t p) ≡ Some at =
-    ap (λ (x : FramePlace). place_in index chan.thread x.second x.number) (sym is) ∙ found in
-    let held = slot_at_place part.shape files index chan.thread (second_of_place t p) (number_of_place t p) at indexed.1 here in
-    let below : sample_in_frame t p < length levels = omega (arith, long, mod_below (place_in_second t p) (samples_per_frame part.shape) (fills_seconds part shape).some) in
-    let offset : unsigned_abs (p -ℤ place.start) ≡ sample_in_frame t p =
-    ap (λ (x : FramePlace). unsigned_abs (p -ℤ x.start)) is ∙ place_back p (sample_in_frame t p) in
-    sample_of-some t (record { thread = chan.thread; index = chan.index }) files p held.0 (fills_seconds part shape) held.1.found
-    ∙ ap (λ (b : List ℕ). Some (level_at (drop (head_bytes part.shape.legacy) b) part.shape.bits (chans_of part.shape) chan.index (sample_in_frame t p))) (held.1.bytes ∙ sym is_slot)
-    ∙ ap Some (sym (unpacked (sample_in_frame t p) below))
-    ∙ ap (λ (i : ℕ). Some (get_or levels i (pos 0))) (sym offset)
-
--- a slot that was found and not read
-pub IsFrame-unread : (told : Shelved) (part : StationPart) (chan : StationChan) (index : IndexFields) (place : FramePlace) (at : SlotAt) (old new : List ℕ) (there : Bool) (levels : List ℤ)
-    → place_in index chan.thread place.second place.number ≡ Some at
-    → length old ≡ part.shape.frame_bytes
-    → there ≡ false
-    → (AreOnShelf part.files.now told → StandsAt (bytes_on told part.files.now) at (length old) → IsTrue there × (new ≡ bytes_at (bytes_on told part.files.now) at (length old)))
-    → IsIndexed told part index
-    → IsFrame told part chan place there levels
-IsFrame-unread told part chan index place at old new there levels found long unread reads indexed =
-    let stands = stands_indexed told part index chan.thread place.second place.number at found indexed in
-    let read = reads indexed.0 (subst (λ (n : ℕ). StandsAt (bytes_on told part.files.now) at n) (sym long) stands) in
-    let clash : true ≡ false = sym read.0 ∙ unread in
-    cc
-
--- one that was read, and its samples unpacked
-pub IsFrame-read : (told : Shelved) (part : StationPart) (chan : StationChan) (index : IndexFields) (place : FramePlace) (at : SlotAt) (old new : List ℕ) (there : Bool) (before levels : List ℤ)
-    → IsShape part.shape
-    → place_in index chan.thread place.second place.number ≡ Some at
-    → length old ≡ part.shape.frame_bytes
-    → length before ≡ samples_per_frame part.shape
-    → length levels ≡ length before
-    → ((i : ℕ) → i < length before → get_or levels i (pos 0) ≡ level_at (drop (head_bytes part.shape.legacy) new) part.shape.bits (chans_of part.shape) chan.index i)
-    → (AreOnShelf part.files.now told → StandsAt (bytes_on told part.files.now) at (length old) → IsTrue there × (new ≡ bytes_at (bytes_on told part.files.now) at (length old)))
-    → IsIndexed told part index
-    → IsFrame told part chan place there levels
-IsFrame-read told part chan index place at old new there before levels shape found long room kept unpacked reads indexed =
-    let stands = stands_indexed told part index chan.thread place.second place.number at found indexed in
-    let read = reads indexed.0 (subst (λ (n : ℕ). StandsAt (bytes_on told part.files.now) at n) (sym long) stands) in
-    subst (λ (b : Bool). IsFrame told part chan place b levels) (sym read.0)
-    (IsFrame-some told part chan index place at new levels shape found
-    (read.1 ∙ ap (λ (n : ℕ). bytes_at (bytes_on told part.files.now) at n) long) (kept ∙ room) (λ i h. unpacked i (omega arith)) indexed)

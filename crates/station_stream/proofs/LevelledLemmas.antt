@@ -1,14 +1,14 @@
--- No component of a value of a stream is greater than 3.
+-- Each component of a value of a stream has the magnitude 0, 1 or 3.
 use Rattle.std.specs.Prelude.{int_le, int_lt, ◌&&◌, if◌then◌else◌, IfSome}
-use Rattle.std.proofs.Common.{◌≡◌, ℕ, zero, suc, ◌+◌, ◌-◌, ◌/◌, ◌%◌, ◌≤◌, ◌<◌, Bool, true, false, eqb, ℤ, pos, ◌-ℤ◌, ◌*ℤ◌, unsigned_abs, List, [], ◌∷◌, get_or, map, Some, None, subst, sym, arith}
-use Rattle.std.proofs.lemmas.Int.{ints, unsigned_abs-mul}
-use Rattle.std.proofs.lemmas.Nat.{mul-le}
+use Rattle.std.proofs.Common.{◌≡◌, ◌≢◌, ℕ, zero, suc, ◌+◌, ◌-◌, ◌*◌, ◌/◌, ◌%◌, ◌≤◌, ◌<◌, ◌⊎◌, ⊎_elim, inl, inr, refl, ap, ◌∙◌, Bool, true, false, eqb, ℤ, pos, ◌-ℤ◌, ◌*ℤ◌, unsigned_abs, List, [], ◌∷◌, get_or, map, Some, None, subst, sym, arith}
+use Rattle.std.proofs.lemmas.Int.{unsigned_abs-mul}
+use Rattle.std.proofs.lemmas.Bool.{cases_eq}
 use Rattle.fringe_rotator.specs.Table.{cosines, cos3, sin3}
 use Rattle.sample_unpack.specs.Level.{level_of}
 use Rattle.corr_model.specs.Cell.{Value}
 use Rattle.corr_model.specs.Rotated.{turned}
 use Rattle.station_stream.specs.Codes.{value_of}
-use Rattle.station_stream.specs.Stream.{StreamFields, windowed, AreLevelled}
+use Rattle.station_stream.specs.Stream.{StreamFields, windowed, IsLevelPart, AreLevelled}
 
 -- each number of the list is -1, 0 or 1
 AreUnits : List ℤ → Type 0
@@ -31,16 +31,34 @@ cosines-units =
 cos3-unit : (k : ℕ) → unsigned_abs (cos3 k) ≤ 1
 cos3-unit k = get_or-unit cosines k cosines-units
 
-level_of-small : (code : ℕ) → code < 4 → unsigned_abs (level_of 2 code) ≤ 3
-level_of-small code h = omega (arith, ints)
+-- a level of two bits is 1 or 3 in magnitude
+level_of-odd : (code : ℕ) → code < 4 → (unsigned_abs (level_of 2 code) ≡ 1) ⊎ (unsigned_abs (level_of 2 code) ≡ 3)
+level_of-odd zero h = inr refl
+level_of-odd (suc zero) h = inl refl
+level_of-odd (suc (suc zero)) h = inl refl
+level_of-odd (suc (suc (suc zero))) h = inr refl
+level_of-odd (suc (suc (suc (suc n)))) h = absurd (omega arith)
 
-product-small : (x y : ℤ) → unsigned_abs x ≤ 3 → unsigned_abs y ≤ 1 → unsigned_abs (x *ℤ y) ≤ 3
-product-small x y h k = omega (arith, unsigned_abs-mul x y, mul-le (unsigned_abs x) (unsigned_abs y) 3 1 h k)
+-- 0 or 1 times a magnitude
+size-times : (x y : ℤ) (n : ℕ) → unsigned_abs x ≡ n → unsigned_abs (x *ℤ y) ≡ n * unsigned_abs y
+size-times x y n is = unsigned_abs-mul x y ∙ ap (λ (m : ℕ). m * unsigned_abs y) is
+
+-- an odd level times -1, 0 or 1
+IsLevelPart-times : (x y : ℤ) → (unsigned_abs x ≡ 1) ⊎ (unsigned_abs x ≡ 3) → unsigned_abs y ≤ 1 → IsLevelPart (x *ℤ y)
+IsLevelPart-times x y odd unit =
+    ⊎_elim
+    (λ (none : unsigned_abs y ≡ 0). inl (unsigned_abs-mul x y ∙ ap (λ (m : ℕ). unsigned_abs x * m) none ∙ omega arith))
+    (λ (some : unsigned_abs y ≢ 0).
+    ⊎_elim
+    (λ (one : unsigned_abs x ≡ 1). inr (inl (omega (arith, size-times x y 1 one, unit, some))))
+    (λ (three : unsigned_abs x ≡ 3). inr (inr (omega (arith, size-times x y 3 three, unit, some))))
+    odd)
+    (cases_eq (unsigned_abs y) 0)
 
 AreLevelled-turned : (code sector : ℕ) → code < 4 → AreLevelled (turned (level_of 2 code) sector)
 AreLevelled-turned code sector h =
-    let level = level_of-small code h in
-    (product-small (level_of 2 code) (cos3 sector) level (cos3-unit sector), product-small (level_of 2 code) (sin3 sector) level (cos3-unit ((sector + 12) % 16)))
+    let odd = level_of-odd code h in
+    (IsLevelPart-times (level_of 2 code) (cos3 sector) odd (cos3-unit sector), IsLevelPart-times (level_of 2 code) (sin3 sector) odd (cos3-unit ((sector + 12) % 16)))
 
 AreLevelled-value_of : (code : ℕ) → IfSome (value_of code) AreLevelled
 AreLevelled-value_of code = by (eqb code 0)

@@ -1,8 +1,15 @@
 pub mod PlaceLemmas
 pub mod FrameSamples
 pub mod LevelLemmas
-pub mod HoldingLemmas
+pub mod ThreadLemmas
 pub mod ValueLemmas
-pub mod ChannelLemmas
+pub mod ChansLemmas
 pub mod StreamLemmas
 pub mod LevelledLemmas
+pub mod SweepLemmas
+pub mod FillLemmas
+pub mod ThreadsLemmas
+pub mod PartLemmas
+pub mod TakenLemmas
+pub mod RunLemmas
+pub mod TurnLemmas

@@ -1,5 +1,5 @@
 -- Levels of one or two bits.
-use Rattle.std.specs.Prelude.{◌≡◌, ℤ, Bool, true, ◌||◌, List}
+use Rattle.std.specs.Prelude.{◌≡◌, ℕ, ◌<◌, ℤ, Bool, true, ◌||◌, List}
 use Rattle.std.specs.Ordering.{int_eq}
 use Rattle.std.specs.List.{All}
 use Rattle.sample_unpack.specs.Level.{level_of}
@@ -12,3 +12,7 @@ is_level level =
 -- each of them is one
 abbrev pub AreLevels : List ℤ → Type 0
 AreLevels levels = All (λ level. is_level level ≡ true) levels
+
+-- one of the levels of one or two bits
+abbrev pub IsLevel : ℤ → Type 0
+IsLevel level = (code : ℕ) × (code < 4) × (level ≡ level_of 2 code)

@@ -8,4 +8,9 @@ pub mod Faults
 pub mod Levels
 pub mod Place
 pub mod Standing
-pub mod Holding
+pub mod FrameSlots
+pub mod ThreadFrames
+pub mod Sweep
+pub mod Taken
+pub mod Threads
+pub mod Filled

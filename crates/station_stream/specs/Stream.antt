@@ -1,5 +1,5 @@
 -- The values of a station's channels in a window of a scan.
-use Rattle.std.specs.Prelude.{ℕ, ◌≤◌, ℤ, pos, ◌-ℤ◌, unsigned_abs, int_le, int_lt, ◌&&◌, List, [], None, slice_index_or, if◌then◌else◌}
+use Rattle.std.specs.Prelude.{◌≡◌, ℕ, ℤ, ◌-ℤ◌, unsigned_abs, ◌⊎◌, int_le, int_lt, ◌&&◌, List, [], None, slice_index_or, if◌then◌else◌}
 use Rattle.corr_model.specs.Cell.{Value}
 
 -- The samples from `from` up to, not including, `to`, and the values of each channel from sample `from` on. A channel
@@ -17,6 +17,10 @@ stream_value s chan n = slice_index_or (slice_index_or s.values chan []) (unsign
 abbrev pub windowed : StreamFields → ℕ → ℤ → Value
 windowed s chan n = if int_le s.from n && int_lt n s.to then stream_value s chan n else None
 
--- a level of one or two bits turned by a sector: no component is greater than 3
+-- a component of a level of one or two bits turned by a sector: its magnitude is 0, 1 or 3
+abbrev pub IsLevelPart : ℤ → Type 0
+IsLevelPart x = (unsigned_abs x ≡ 0) ⊎ ((unsigned_abs x ≡ 1) ⊎ (unsigned_abs x ≡ 3))
+
+-- both components of such a value
 abbrev pub AreLevelled : ℤ × ℤ → Type 0
-AreLevelled v = (unsigned_abs v.0 ≤ 3) × (unsigned_abs v.1 ≤ 3)
+AreLevelled v = IsLevelPart v.0 × IsLevelPart v.1

@@ -1,31 +1,10 @@
 //! A value in a byte.
-ghost use Rattle.std.specs.Prelude.{◌≡◌, ◌<◌, Some, None, IfSome, map, slice_index_or};
-ghost use Rattle.sample_unpack.specs.Level.{level_of};
+ghost use Rattle.std.specs.Prelude.{◌≡◌, None, IfSome, map, slice_index_or};
 ghost use Rattle.corr_model.specs.Cell.{AreSmall};
-ghost use Rattle.corr_model.specs.Rotated.{turned};
 ghost use Rattle.station_stream.specs.Codes.{value_of};
-ghost use Rattle.station_stream.specs.Holding.{IsLevel};
 
 use fringe_rotator::rotate;
 use sample_unpack::level;
-
-/// The byte of a level that is turned by a sector.
-pub(crate) fn code_of(level: i8, sector: u8) -> u8
-    requires level { IsLevel level }
-    requires sector { sector < 16 }
-    ensures { value_of result ≡ Some (turned level sector) }
-{
-    1 + 16 * level_code(level) + sector
-}
-
-// The code of a level among those of two bits.
-fn level_code(level: i8) -> u8
-    requires { IsLevel level }
-    ensures code { level ≡ level_of 2 result }
-    ensures within { result < 4 }
-{
-    ((level + 3) / 2) as u8
-}
 
 /// The value in a byte; None in the byte 0.
 pub(crate) fn value_of(code: u8) -> Option<(i8, i8)>

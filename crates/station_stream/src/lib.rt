@@ -2,21 +2,27 @@
 //! delay says and turned by the sector of the delay. It stands on `frame_index` for the places of frames, on `delay_track`
 //! for delays, on `sample_unpack` and `fringe_rotator` for levels and sectors, and on a `Shelf` for the files.
 //!
-//! A stream keeps one byte for a sample. It is loaded frame by frame: a frame is looked up and read once for the samples
-//! that lie in it one behind the other. Where the shelf tells its content, the values are those of the definition in
-//! `specs/Part`; a fault of a read comes only where the shelf had one. (Thompson, Moran and Swenson, chapters 8 and 9.)
+//! A stream keeps one byte for a sample. It is loaded sweep by sweep, a sweep being samples whose recorded ones lie side by
+//! side: a window's slots of a thread are read one behind the other, once, for all its channels. Where the shelf tells its
+//! content, the values are those of the definition in `specs/Part`; a fault of a read comes only where the shelf had one.
+//! (Thompson, Moran and Swenson, chapters 8 and 9.)
 #![tactic(auto)]
 
 mod chan;
 mod codes;
 mod fault;
-mod frame;
+mod frame_run;
+mod levels;
 mod part;
 mod place;
 mod recording;
 mod samples;
 mod slot;
 mod stream;
+mod sweep;
+mod thread_frames;
+mod threads;
+mod turned;
 mod window;
 
 pub use chan::StationChan;

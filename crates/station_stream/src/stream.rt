@@ -1,5 +1,5 @@
 //! Streams.
-ghost use Rattle.std.specs.Prelude.{◌≡◌, ◌<◌, ◌≤ℤ◌, ◌<ℤ◌, ◌-ℤ◌, ℕ, ℤ, pos, unsigned_abs, length, IfOk, IfSome};
+ghost use Rattle.std.specs.Prelude.{◌≡◌, ◌<◌, ◌^◌, ◌≤ℤ◌, ◌<ℤ◌, ◌-ℤ◌, ℕ, ℤ, pos, unsigned_abs, length, IfOk, IfSome};
 ghost use Rattle.dev_traits.specs.Told.{WhereTold};
 ghost use Rattle.corr_model.specs.Cell.{AreSmall};
 ghost use Rattle.station_stream.specs.Part.{IsIndexed, part_value};
@@ -21,6 +21,8 @@ pub struct Stream {
     to: i64,
     chans: Vec<Vec<u8>>,
     ghost begin: { pos 0 ≤ℤ from },
+    ghost order: { from ≤ℤ to },
+    ghost end: { to ≤ℤ pos (2 ^ 40) },
 }
 
 impl Model for Stream {
@@ -110,6 +112,15 @@ impl Stream {
     /// Each value is a level turned by a sector. The call does nothing: it brings this law.
     pub fn is_levelled(&self)
         ensures { (chan : ℕ) (n : ℤ) → IfSome (windowed self.now chan n) AreLevelled }
+    {
+        let _ = &self.chans;
+    }
+
+    /// The window is one of a scan, which has at most 2^40 samples. The call does nothing: it brings this law.
+    pub fn is_in_scan(&self)
+        ensures begin { pos 0 ≤ℤ self.now.from }
+        ensures order { self.now.from ≤ℤ self.now.to }
+        ensures end { self.now.to ≤ℤ pos (2 ^ 40) }
     {
         let _ = &self.chans;
     }

@@ -207,12 +207,12 @@ fn no_values_of_an_invalid_frame(rt: HostRuntime) -> Result<(), Fail> {
     Ok(())
 }
 
-// The calls are the file's size, the index's read, and the reads of the two frames.
+// The calls are the file's size, the index's read, and the read of the two frames' slots at once.
 #[test]
 fn a_read_that_fails(rt: HostRuntime) -> Result<(), Fail> {
     let alloc = rt.alloc();
     let (f0, f1) = (frame(0, 0xFF), frame(1, 0xFF));
-    let mut shelf = shelf_of(alloc, &[&f0, &f1], vec![in alloc; 3u64]?)?;
+    let mut shelf = shelf_of(alloc, &[&f0, &f1], vec![in alloc; 2u64]?)?;
     let stream = stream_of(alloc, &mut shelf, 0, 0, 0, 64)?;
     assert_eq!(rt; stream.err(), Some(StreamFault::Read));
     Ok(())

@@ -1,131 +1,258 @@
-//! The values of a channel in a window.
-ghost use Rattle.std.specs.Prelude.{◌≡◌, ◌+◌, ◌<◌, ◌≤◌, ◌^◌, ◌+ℤ◌, pos, ℕ, Some, [], IfOk, OnOk, length, map, option_map, slice_index, slice_index_or, unsigned_abs};
+//! The values of a station's channels in a window of a scan.
+ghost use Rattle.std.specs.Prelude.{◌≡◌, ◌+◌, ◌<◌, ◌≤◌, ◌^◌, ℕ, Option, [], IfOk, OnOk, length, map, min, max, slice_index, slice_index_or};
 ghost use Rattle.std.specs.Option.{ForSome};
 ghost use Rattle.dev_traits.specs.Told.{WhereTold};
-ghost use Rattle.corr_model.specs.Delay.{nearest};
-ghost use Rattle.corr_model.specs.Rotated.{turned, band_sector};
+ghost use Rattle.vdif_frame.specs.Shape.{samples_per_frame};
+ghost use Rattle.frame_index.specs.Recording.{Shelved};
 ghost use Rattle.station_stream.specs.Ranges.{IsChanOf};
-ghost use Rattle.station_stream.specs.Part.{IsIndexed, chan_at};
-ghost use Rattle.station_stream.specs.Holding.{IsOfShape, Holds, IsLevel};
+ghost use Rattle.station_stream.specs.Part.{IsIndexed, chan_at, chan_sample};
 ghost use Rattle.station_stream.specs.Codes.{value_of};
-ghost use Rattle.station_stream.specs.Window.{AreValues, value_in};
+ghost use Rattle.station_stream.specs.Sweep.{recorded_at, LieIn};
+ghost use Rattle.station_stream.specs.Taken.{IsTaken};
+ghost use Rattle.station_stream.specs.Threads.{AreThreads};
+ghost use Rattle.station_stream.specs.Filled.{AreFilled, AllFilled, AreZeros, AllZeros, AllLong, AllValues};
+ghost use Rattle.station_stream.specs.Window.{AreValues};
 ghost use Rattle.station_stream.specs.Faults.{CountsReads};
 
-use crate::codes::code_of;
-use crate::frame::HeldFrame;
+use crate::levels::fill_levels;
+use crate::sweep::Sweep;
+use crate::threads::Threads;
+use crate::turned::turn_levels;
 use crate::{StationChan, StationPart, StreamFault};
-use delay_track::nearest;
 use dev_traits::Shelf;
 use frame_index::Index;
-use fringe_rotator::sector;
-use std::alloc::Global;
+use std::alloc::{AllocError, Global};
 
-// The byte of a level in a channel after a delay, at `rate` samples a second; 0 where there is no level.
-fn turned_code(level: Option<i8>, chan: &StationChan, delay: i64, rate: u32) -> u8
-    requires level { ForSome level IsLevel }
-    requires frequency { chan.now.hertz < 2 ^ 40 }
-    requires delay { unsigned_abs delay < 2 ^ 60 }
-    requires rate { 0 < rate }
-    ensures { value_of result ≡ option_map (λ level. turned level (band_sector (record { hertz = chan.now.hertz; upper = chan.now.upper }) rate delay)) level }
-{
-    match level {
-        Some(level) => code_of(level, sector(chan.hertz, chan.upper, delay, rate)),
-        None => 0,
+/// So many samples of a scan from `from` on.
+#[derive(Clone, Copy)]
+pub(crate) struct Window {
+    pub from: u64,
+    pub count: usize,
+}
+
+impl Window {
+    // The sample, or the window's begin or end where the sample lies before it or behind it.
+    fn clip(&self, n: u64) -> u64
+        requires { self.now.from + self.now.count < 2 ^ 64 }
+        ensures { result ≡ min (max n self.now.from) (self.now.from + self.now.count) }
+    {
+        n.max(self.from).min(self.from + self.count as u64)
+    }
+
+    // The place of a sample in the window.
+    fn place(&self, n: u64) -> usize
+        requires begun { self.now.from ≤ n }
+        requires inside { n ≤ self.now.from + self.now.count }
+        ensures { self.now.from + result ≡ n }
+    {
+        (n - self.from) as usize
     }
 }
 
-// The sample of the recording that a delay puts at sample `n`.
-fn delayed(n: u64, delay: i64) -> i64
-    requires place { n < 2 ^ 40 }
-    requires delay { unsigned_abs delay < 2 ^ 60 }
-    ensures value { result ≡ pos n +ℤ nearest delay }
-    ensures bound { unsigned_abs result < 2 ^ 61 }
+// A byte 0 for each of so many samples; no bytes of a channel that the station lacks.
+fn zeros(alloc: Global, chan: &Option<StationChan>, count: usize) -> Result<Vec<u8>, AllocError>
+    ensures { IfOk result (λ codes. AreZeros chan.now count codes.items) }
 {
-    n as i64 + nearest(delay)
-}
-
-// The byte of a channel's value at sample `n`.
-fn code_at<F: Shelf>(
-    held: &mut HeldFrame,
-    shelf: &mut F,
-    index: &Index,
-    part: &StationPart<'_>,
-    chan: &StationChan,
-    n: u64,
-) -> Result<u8, StreamFault>
-    requires chan { IsChanOf part.now.shape chan.now }
-    requires inside { n < part.now.track.samples }
-    requires indexed { WhereTold (F.told shelf.old) (λ told. IsIndexed told part.now index.now) }
-    requires shape { IsOfShape part.now.shape held.old }
-    requires held { WhereTold (F.told shelf.old) (λ told. Holds told part.now chan.now held.old) }
-    ensures same { F.told shelf.new ≡ F.told shelf.old }
-    ensures shape { OnOk result (IsOfShape part.now.shape held.new) }
-    ensures held { OnOk result (WhereTold (F.told shelf.old) (λ told. Holds told part.now chan.now held.new)) }
-    ensures value { IfOk result (λ code. WhereTold (F.told shelf.old) (λ told. value_of code ≡ value_in told part.now (Some chan.now) n)) }
-    ensures counts { CountsReads (F.faults shelf.old) (F.faults shelf.new) result }
-{
-    if n < part.from || n >= part.to {
-        return Ok(0);
+    match chan {
+        Some(_) => vec![in alloc; 0u8; count],
+        None => Ok(Vec::new(alloc)),
     }
-    let delay = part.track.delay(n);
-    let level = held.level(shelf, index, part, chan, delayed(n, delay))?;
-    Ok(turned_code(level, chan, delay, part.track.rate))
 }
 
-// Sets the bytes to those of a channel's values from sample `from` on.
-fn fill<F: Shelf>(
-    held: &mut HeldFrame,
+// The same for each channel.
+fn empty(alloc: Global, part: &StationPart<'_>, count: usize) -> Result<Vec<Vec<u8>>, AllocError>
+    ensures each { IfOk result (λ chans. length chans.items ≡ length part.now.chans.now) }
+    ensures zeros { IfOk result (λ chans. AllZeros part.now count chans.items) }
+{
+    let mut chans = Vec::new(alloc);
+    for chan in part.chans {
+        chans.push(zeros(alloc, chan, count)?)?;
+    }
+    Ok(chans)
+}
+
+// Sets bytes to the levels of a channel from the first sample of a sweep on.
+fn fill_chan<F: Shelf>(
+    alloc: Global,
     shelf: &mut F,
     index: &Index,
     part: &StationPart<'_>,
+    threads: &mut Threads,
     chan: &StationChan,
-    from: u64,
+    frame: &mut [i8],
     codes: &mut [u8],
 ) -> Result<(), StreamFault>
     requires chan { IsChanOf part.now.shape chan.now }
-    requires inside { from + length codes.old ≤ part.now.track.samples }
+    requires inside { threads.old.sweep.from + length codes.old ≤ part.now.track.samples }
+    requires lie { LieIn part.now.track threads.old.sweep.from (threads.old.sweep.from + length codes.old) threads.old.sweep.first threads.old.sweep.last }
+    requires frame { length frame.old ≡ samples_per_frame part.now.shape }
     requires indexed { WhereTold (F.told shelf.old) (λ told. IsIndexed told part.now index.now) }
-    requires shape { IsOfShape part.now.shape held.old }
+    requires threads { AreThreads (F.told shelf.old) part.now threads.old }
     ensures same { F.told shelf.new ≡ F.told shelf.old }
-    ensures shape { OnOk result (IsOfShape part.now.shape held.new) }
-    ensures values { OnOk result (WhereTold (F.told shelf.old) (λ told. (k : ℕ) → k < length codes.new
-        → value_of (slice_index codes.new k) ≡ value_in told part.now (Some chan.now) (from + k))) }
+    ensures sweep { threads.new.sweep ≡ threads.old.sweep }
+    ensures threads { OnOk result (AreThreads (F.told shelf.old) part.now threads.new) }
+    ensures taken { OnOk result (WhereTold (F.told shelf.old) (λ told. (k : ℕ) → k < length codes.new
+        → IsTaken (slice_index codes.new k) (chan_sample told part.now chan.now (recorded_at part.now.track (threads.old.sweep.from + k))))) }
     ensures counts { CountsReads (F.faults shelf.old) (F.faults shelf.new) result }
 {
-    held.forget();
-    for (k, code) in codes.iter_mut().enumerate() {
-        *code = code_at(held, shelf, index, part, chan, from + k as u64)?;
+    let place = threads.place(alloc, shelf, index, part, chan.thread)?;
+    let sweep = threads.sweep;
+    let frames = &threads.frames[place];
+    fill_levels(
+        frames,
+        part,
+        chan.index,
+        sweep.first,
+        sweep.last,
+        sweep.from,
+        frame,
+        codes,
+    );
+    Ok(())
+}
+
+// Goes on with a channel's bytes in a window through a sweep.
+fn fill_on<F: Shelf>(
+    alloc: Global,
+    shelf: &mut F,
+    index: &Index,
+    part: &StationPart<'_>,
+    threads: &mut Threads,
+    window: Window,
+    chan: &Option<StationChan>,
+    frame: &mut [i8],
+    codes: &mut [u8],
+) -> Result<(), StreamFault>
+    requires chan { ForSome chan.now (IsChanOf part.now.shape) }
+    requires window { window.from + window.count ≤ part.now.track.samples }
+    requires begun { max part.now.from window.from ≤ threads.old.sweep.from }
+    requires order { threads.old.sweep.from ≤ threads.old.sweep.to }
+    requires inside { threads.old.sweep.to ≤ window.from + window.count }
+    requires lie { LieIn part.now.track threads.old.sweep.from threads.old.sweep.to threads.old.sweep.first threads.old.sweep.last }
+    requires frame { length frame.old ≡ samples_per_frame part.now.shape }
+    requires indexed { WhereTold (F.told shelf.old) (λ told. IsIndexed told part.now index.now) }
+    requires threads { AreThreads (F.told shelf.old) part.now threads.old }
+    requires filled { AreFilled (F.told shelf.old) part.now chan.now window threads.old.sweep.from codes.old }
+    ensures same { F.told shelf.new ≡ F.told shelf.old }
+    ensures sweep { threads.new.sweep ≡ threads.old.sweep }
+    ensures threads { OnOk result (AreThreads (F.told shelf.old) part.now threads.new) }
+    ensures filled { OnOk result (AreFilled (F.told shelf.old) part.now chan.now window threads.old.sweep.to codes.new) }
+    ensures counts { CountsReads (F.faults shelf.old) (F.faults shelf.new) result }
+{
+    let Some(chan) = chan else {
+        return Ok(());
+    };
+    let (at, to) = (
+        window.place(threads.sweep.from),
+        window.place(threads.sweep.to),
+    );
+    fill_chan(
+        alloc,
+        shelf,
+        index,
+        part,
+        threads,
+        chan,
+        frame,
+        &mut codes[at..to],
+    )
+}
+
+// Goes on with the bytes of each channel through a sweep. The frames of each thread are read once.
+fn fill_sweep<F: Shelf>(
+    alloc: Global,
+    shelf: &mut F,
+    index: &Index,
+    part: &StationPart<'_>,
+    sweep: Sweep,
+    window: Window,
+    frame: &mut [i8],
+    chans: &mut [Vec<u8>],
+) -> Result<(), StreamFault>
+    requires window { window.from + window.count ≤ part.now.track.samples }
+    requires begun { max part.now.from window.from ≤ sweep.from }
+    requires order { sweep.from ≤ sweep.to }
+    requires inside { sweep.to ≤ window.from + window.count }
+    requires lie { LieIn part.now.track sweep.from sweep.to sweep.first sweep.last }
+    requires frame { length frame.old ≡ samples_per_frame part.now.shape }
+    requires indexed { WhereTold (F.told shelf.old) (λ told. IsIndexed told part.now index.now) }
+    requires each { length chans.old ≡ length part.now.chans.now }
+    requires filled { AllFilled (F.told shelf.old) part.now window sweep.from chans.old }
+    ensures same { F.told shelf.new ≡ F.told shelf.old }
+    ensures filled { OnOk result (AllFilled (F.told shelf.old) part.now window sweep.to chans.new) }
+    ensures counts { CountsReads (F.faults shelf.old) (F.faults shelf.new) result }
+{
+    let mut threads = Threads::new(alloc, sweep);
+    for (i, codes) in chans.iter_mut().enumerate() {
+        fill_on(
+            alloc,
+            shelf,
+            index,
+            part,
+            &mut threads,
+            window,
+            &part.chans[i],
+            frame,
+            codes,
+        )?;
     }
     Ok(())
 }
 
-// The bytes of a channel's values at `count` samples from `from` on; no bytes of a channel that the station lacks.
-fn channel<F: Shelf>(
+// Sets the bytes of each channel at the part's samples in a window to the levels there.
+fn fill<F: Shelf>(
     alloc: Global,
-    held: &mut HeldFrame,
     shelf: &mut F,
     index: &Index,
     part: &StationPart<'_>,
-    chan: &Option<StationChan>,
-    from: u64,
-    count: usize,
-) -> Result<Vec<u8>, StreamFault>
-    requires chan { ForSome chan.now (IsChanOf part.now.shape) }
-    requires inside { from + count ≤ part.now.track.samples }
+    window: Window,
+    frame: &mut [i8],
+    chans: &mut [Vec<u8>],
+) -> Result<(), StreamFault>
+    requires window { window.from + window.count ≤ part.now.track.samples }
+    requires frame { length frame.old ≡ samples_per_frame part.now.shape }
     requires indexed { WhereTold (F.told shelf.old) (λ told. IsIndexed told part.now index.now) }
-    requires shape { IsOfShape part.now.shape held.old }
+    requires each { length chans.old ≡ length part.now.chans.now }
+    requires zeros { AllZeros part.now window.count chans.old }
     ensures same { F.told shelf.new ≡ F.told shelf.old }
-    ensures shape { OnOk result (IsOfShape part.now.shape held.new) }
-    ensures values { IfOk result (λ codes. WhereTold (F.told shelf.old) (λ told. AreValues told part.now chan.now from count (map value_of codes.items))) }
+    ensures filled { OnOk result (AllFilled (F.told shelf.old) part.now window part.now.to chans.new) }
     ensures counts { CountsReads (F.faults shelf.old) (F.faults shelf.new) result }
 {
-    match chan {
-        Some(chan) => {
-            let mut codes = vec![in alloc; 0u8; count]?;
-            fill(held, shelf, index, part, chan, from, &mut codes)?;
-            Ok(codes)
-        }
-        None => Ok(Vec::new(alloc)),
+    let to = window.clip(part.to);
+    let mut at = window.clip(part.from);
+    while at < to {
+        let sweep = Sweep::of(part, at, to);
+        fill_sweep(alloc, shelf, index, part, sweep, window, frame, chans)?;
+        at = sweep.to;
+    }
+    Ok(())
+}
+
+// Turns the levels of a channel at the part's samples in a window.
+fn turn(part: &StationPart<'_>, window: Window, chan: &Option<StationChan>, codes: &mut [u8])
+    requires chan { ForSome chan.now (IsChanOf part.now.shape) }
+    requires window { window.from + window.count ≤ part.now.track.samples }
+    requires long { ForSome chan.now (λ _. length codes.old ≡ window.count) }
+    ensures { (told : Option Shelved) → AreFilled told part.now chan.now window part.now.to codes.old
+        → WhereTold told (λ told. AreValues told part.now chan.now window.from window.count (map value_of codes.new)) }
+{
+    if let Some(chan) = chan {
+        let from = window.clip(part.from);
+        let (at, to) = (window.place(from), window.place(window.clip(part.to)));
+        turn_levels(part, chan, from, &mut codes[at..to]);
+    }
+}
+
+// Turns those of each channel.
+fn turn_each(part: &StationPart<'_>, window: Window, chans: &mut [Vec<u8>])
+    requires window { window.from + window.count ≤ part.now.track.samples }
+    requires each { length chans.old ≡ length part.now.chans.now }
+    requires long { AllLong part.now window.count chans.old }
+    ensures { (told : Option Shelved) → AllFilled told part.now window part.now.to chans.old
+        → WhereTold told (λ told. AllValues told part.now window.from window.count chans.new) }
+{
+    for (i, codes) in chans.iter_mut().enumerate() {
+        turn(part, window, &part.chans[i], codes);
     }
 }
 
@@ -147,10 +274,10 @@ pub(crate) fn channels<F: Shelf>(
         (slice_index_or (map (λ codes. map value_of codes.items) chans.items) chan []))) }
     ensures counts { CountsReads (F.faults shelf.old) (F.faults shelf.new) result }
 {
-    let mut held = HeldFrame::new(alloc, &part.shape)?;
-    let mut chans = Vec::new(alloc);
-    for chan in part.chans {
-        chans.push(channel(alloc, &mut held, shelf, index, part, chan, from, count)?)?;
-    }
+    let window = Window { from, count };
+    let mut frame = vec![in alloc; 0i8; part.shape.samples_per_frame() as usize]?;
+    let mut chans = empty(alloc, part, count)?;
+    fill(alloc, shelf, index, part, window, &mut frame, &mut chans)?;
+    turn_each(part, window, &mut chans);
     Ok(chans)
 }

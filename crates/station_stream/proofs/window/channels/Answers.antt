@@ -1,20 +1,25 @@
-use Rattle.std.proofs.Common.{◌∙◌, map, Vec, ℕ, Global, rules}
-use Rattle.std.proofs.lemmas.Option.{slice_get-get_or}
-use Rattle.station_stream.specs.Codes.{value_of}
-use Rattle.station_stream.proofs.ChannelLemmas.{WhereTold-push}
+use Rattle.std.proofs.Common.{◌≡◌, ◌∙◌, sym, ap, subst, List, ◌++◌, length, take, drop, Vec, ℕ, Global}
+use Rattle.dev_traits.specs.Told.{WhereTold}
+use Rattle.station_stream.specs.declared.window.Window.{Window}
+use Rattle.station_stream.specs.Filled.{AllFilled, AllValues}
+use Rattle.station_stream.proofs.ChansLemmas.{take-kept}
 use Rattle.station_stream.proofs.window.channels.Goals as goal
 
-pub loop-chan-preserved : goal.loop-chan-preserved
-loop-chan-preserved g c = record {
-  same = c.in_ok-channel.ensures.same ∙ c.loop-chan.invariant.same;
-  faults = c.in_ok-channel.ensures.counts.kept ∙ c.loop-chan.invariant.faults;
-  shape = c.in_ok-channel.ensures.shape;
-  each = search rules;
-  values =
-      let told = g.F.Shelf.told c.args.shelf.now in
-      rw c.in_ok-push.ensures.items
-      (WhereTold-push (λ (codes : Vec ℕ Global). map value_of codes.items) c.args.part.now c.args.from c.args.count c.loop-chan.chan-index c.loop-chan.chans.items c.in_ok-channel.field-0
-      _ told c.loop-chan.invariant.each (slice_get-get_or c.args.part.now.chans.now c.loop-chan.chan-index _ c.loop-chan-test.true)
-      c.loop-chan.invariant.values
-      (rw c.loop-chan.invariant.same at c.in_ok-channel.ensures.values));
-}
+pub returns-clause-values : goal.returns-clause-values
+returns-clause-values g c =
+    let told = g.F.Shelf.told c.args.shelf.now in
+    let part = c.args.part.now in
+    let w : Window = record { from = c.args.from; count = c.args.count } in
+    let zeros = c.in_ok-chans.chans.items in
+    let many = c.in_ok-chans.chans.len in
+    let filled = c.fill.new.chans in
+    let turned = c.turn_each.new.chans in
+    let long : many ≡ length zeros = c.in_ok-chans.chans.ok.0 in
+    let same : length filled ≡ length zeros = c.fill.auto.chans ∙ ap (λ (xs : List (Vec ℕ Global)). length xs) c.deref_mut-2.ensures.value in
+    let kept : take many (filled ++ drop (length filled) zeros) ≡ filled = take-kept zeros filled many long same in
+    let are : c.deref_mut-3.result.now ≡ filled = c.deref_mut-3.ensures.value ∙ kept in
+    let turned_kept : take many (turned ++ drop (length turned) (take many (filled ++ drop (length filled) zeros))) ≡ turned =
+    take-kept (take many (filled ++ drop (length filled) zeros)) turned many (long ∙ sym same ∙ sym (ap (λ (xs : List (Vec ℕ Global)). length xs) kept))
+    (c.turn_each.auto.chans ∙ ap (λ (xs : List (Vec ℕ Global)). length xs) c.deref_mut-3.ensures.value) in
+    subst (λ (chans : List (Vec ℕ Global)). WhereTold told (λ t. AllValues t part c.args.from c.args.count chans)) (sym turned_kept)
+    (c.turn_each.ensures told (subst (AllFilled told part w part.to) (sym are) c.in_ok-fill.ensures.filled))

@@ -1,16 +1,17 @@
-use Rattle.std.proofs.Common.{◌≡◌, ◌+◌, ◌<◌, ℕ, Some, slice_index}
-use Rattle.dev_traits.specs.Told.{WhereTold}
-use Rattle.station_stream.specs.Holding.{IsOfShape, Holds}
-use Rattle.station_stream.specs.Codes.{value_of}
-use Rattle.station_stream.specs.Window.{value_in}
+use Rattle.std.proofs.Common.{◌≡◌, ◌+◌, ◌≤◌, ◌-◌, min, max, length}
+use Rattle.station_stream.specs.Filled.{AllFilled}
+use Rattle.vdif_frame.specs.Shape.{samples_per_frame}
 use Rattle.station_stream.proofs.window.fill.Given as goal
 
-abbrev pub invariant-loop-k : goal.invariant-loop-k
-invariant-loop-k g l = record {
+abbrev pub invariant-loop-at : goal.invariant-loop-at
+invariant-loop-at g l = record {
   same : g.F.Shelf.told l.shelf ≡ g.F.Shelf.told l.initial.shelf;
   faults : g.F.Shelf.faults l.shelf ≡ g.F.Shelf.faults l.initial.shelf;
-  shape : IsOfShape l.part.shape l.held;
-  held : WhereTold (g.F.Shelf.told l.initial.shelf) (λ told. Holds told l.part l.chan l.held);
-  values : WhereTold (g.F.Shelf.told l.initial.shelf) (λ told. (k : ℕ) → k < l.k
-      → value_of (slice_index l.codes k) ≡ value_in told l.part (Some l.chan) (l.from + k));
+  frame : length l.frame ≡ samples_per_frame l.part.shape;
+  begun : min (max l.part.from l.window.from) (l.window.from + l.window.count) ≤ l.at;
+  within : l.at ≤ l.to;
+  filled : AllFilled (g.F.Shelf.told l.initial.shelf) l.part l.window l.at l.chans;
 }
+
+abbrev pub decreases-loop-at : goal.decreases-loop-at
+decreases-loop-at g l = l.to - l.at

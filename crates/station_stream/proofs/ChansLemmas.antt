@@ -1,0 +1,79 @@
+-- The bytes of a station's channels, one channel after the other.
+use Rattle.std.proofs.Common.{◌≡◌, ◌≢◌, ◌∙◌, sym, ap, subst, ℕ, ◌+◌, ◌≤◌, ◌<◌, List, [], length, take, drop, ◌++◌, get_or, set, map, min, max, Option, Some, None, option_and_then, Vec, Global, below_more, arith}
+use Rattle.std.specs.Vec.{with_items}
+use Rattle.std.proofs.lemmas.List.{length-map, length-set, take-append-le, take_all, map-set, get_or-set_same, get_or-set_other}
+use Rattle.std.proofs.lemmas.Option.{slice_get-get_or}
+use Rattle.dev_traits.specs.Told.{WhereTold}
+use Rattle.corr_model.specs.Cell.{Value}
+use Rattle.frame_index.specs.Recording.{Shelved}
+use Rattle.station_stream.specs.declared.chan.StationChan.{StationChan}
+use Rattle.station_stream.specs.declared.part.StationPart.{StationPart}
+use Rattle.station_stream.specs.declared.window.Window.{Window}
+use Rattle.station_stream.specs.Part.{chan_at}
+use Rattle.station_stream.specs.Filled.{AreFilled, AllFilled, AllZeros}
+use Rattle.station_stream.proofs.FillLemmas.{AreFilled-zeros}
+
+-- the channel at a place that there is
+pub chan_at-index : (chans : List (Option StationChan)) (i : ℕ) → i < length chans → chan_at chans i ≡ get_or chans i None
+chan_at-index chans i h = ap (option_and_then (λ c. c)) (slice_get-get_or chans i None h)
+
+-- what holds of the first i lists and of the one put at place i holds of the first i + 1
+pub first-next : (Q : ℕ → List ℕ → Type 0) (chans : List (Vec ℕ Global)) (i : ℕ) (v : Vec ℕ Global) → i < length chans
+    → ((k : ℕ) (d : Vec ℕ Global) → k < i → Q k (get_or chans k d).items) → Q i v.items
+    → (k : ℕ) (d : Vec ℕ Global) → k < i + 1 → Q k (get_or (set chans i v) k d).items
+first-next Q chans i v below old new = λ k d h.
+    below_more (λ j. (e : Vec ℕ Global) → Q j (get_or (set chans i v) j e).items) i
+    (λ j under e. let ne : j ≢ i = omega (arith, under) in
+    subst (λ (x : Vec ℕ Global). Q j x.items) (sym (get_or-set_other chans i j v e ne)) (old j e under))
+    (λ e. subst (λ (x : Vec ℕ Global). Q i x.items) (sym (get_or-set_same chans i v e below)) new)
+    k h d
+
+-- what holds of the lists from place i on holds of those behind it
+pub left-next : (Q : ℕ → List ℕ → Type 0) (chans : List (Vec ℕ Global)) (i : ℕ) (v : Vec ℕ Global)
+    → ((k : ℕ) (d : Vec ℕ Global) → i ≤ k → k < length chans → Q k (get_or chans k d).items)
+    → (k : ℕ) (d : Vec ℕ Global) → i + 1 ≤ k → k < length (set chans i v) → Q k (get_or (set chans i v) k d).items
+left-next Q chans i v old = λ k d behind inside.
+    let ne : k ≢ i = omega (arith, behind) in
+    subst (λ (x : Vec ℕ Global). Q k x.items) (sym (get_or-set_other chans i k v d ne)) (old k d (omega (arith, behind)) (omega (arith, inside, length-set chans i v)))
+
+-- the same of what the lists stand for
+pub mapped-next : (f : Vec ℕ Global → List Value) (Q : ℕ → List Value → Type 0) (chans : List (Vec ℕ Global)) (i : ℕ) (v : Vec ℕ Global) → i < length chans
+    → ((k : ℕ) → k < i → Q k (get_or (map f chans) k [])) → Q i (f v)
+    → (k : ℕ) → k < i + 1 → Q k (get_or (map f (set chans i v)) k [])
+mapped-next f Q chans i v below old new =
+    below_more (λ j. Q j (get_or (map f (set chans i v)) j [])) i
+    (λ j under. let ne : j ≢ i = omega (arith, under) in
+    subst (Q j) (sym (ap (λ (xs : List (List Value)). get_or xs j []) (map-set f chans i v) ∙ get_or-set_other (map f chans) i j (f v) [] ne)) (old j under))
+    (subst (Q i) (sym (ap (λ (xs : List (List Value)). get_or xs i []) (map-set f chans i v) ∙ get_or-set_same (map f chans) i (f v) [] (omega (arith, below, length-map chans f)))) new)
+
+-- what is told of each place is told of all
+pub WhereTold-each : {A : Type 0} (told : Option A) (Q : ℕ → Type 0) (P : A → ℕ → Type 0)
+    → ((k : ℕ) → Q k → WhereTold told (λ t. P t k)) → WhereTold told (λ t. (k : ℕ) → Q k → P t k)
+WhereTold-each None Q P each = tt
+WhereTold-each (Some t) Q P each = each
+
+-- ---- the bytes of a window
+
+-- where no byte is filled in yet
+pub AllFilled-zeros : (told : Option Shelved) (part : StationPart) (w : Window) (upto : ℕ) (chans : List (Vec ℕ Global))
+    → upto ≡ min (max part.from w.from) (w.from + w.count) → AllZeros part w.count chans → AllFilled told part w upto chans
+AllFilled-zeros told part w upto chans e zeros = λ i d h.
+    AreFilled-zeros told part (chan_at part.chans.now i) w upto (get_or chans i d).items e (zeros i d h)
+
+-- the same bytes told by other terms
+pub AreFilled-as : (told told' : Option Shelved) (part : StationPart) (chan chan' : Option StationChan) (w : Window) (upto upto' : ℕ) (codes codes' : List ℕ)
+    → told ≡ told' → chan ≡ chan' → upto ≡ upto' → codes ≡ codes' → AreFilled told part chan w upto codes → AreFilled told' part chan' w upto' codes'
+AreFilled-as told told' part chan chan' w upto upto' codes codes' e f g h filled =
+    subst (λ (t : Option Shelved). AreFilled t part chan' w upto' codes') e
+    (subst (λ (c : Option StationChan). AreFilled told part c w upto' codes') f
+    (subst (λ (n : ℕ). AreFilled told part chan w n codes') g
+    (subst (AreFilled told part chan w upto) h filled)))
+
+-- lists behind which nothing of the old ones is kept
+pub take-kept : {X : Type 0} (old new : List X) (n : ℕ) → n ≡ length old → length new ≡ length old → take n (new ++ drop (length new) old) ≡ new
+take-kept old new n e f =
+    take-append-le n new (drop (length new) old) (omega (arith, e, f)) ∙ take_all n new (omega (arith, e, f))
+
+-- the items of a list of bytes that was written over
+pub with_items-kept : (v : Vec ℕ Global) (codes : List ℕ) → length codes ≡ length v.items → (with_items v codes).items ≡ codes
+with_items-kept v codes same = take-kept v.items codes v.len v.ok.0 same

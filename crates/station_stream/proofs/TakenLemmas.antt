@@ -1,0 +1,129 @@
+-- Levels as bytes: the byte of a level, and those of the frames of a thread.
+use Rattle.std.proofs.Common.{◌≡◌, ◌∙◌, refl, sym, ap, subst, ℕ, ◌+◌, ◌-◌, ◌*◌, ◌/◌, ◌%◌, ◌<◌, ◌≤◌, ◌≢◌, ◌==◌, ⊎_elim, below_more, set, option_map, Bool, true, false, cond, ℤ, pos, List, length, take, drop, get_or, Option, Some, None, arith}
+use Rattle.std.proofs.lemmas.Bool.{cases_lt}
+use Rattle.std.proofs.lemmas.Bool.Decides.{nat_tests}
+use Rattle.std.proofs.lemmas.Nat.{div-add-mod', div-mul-add, mod-mul-add}
+use Rattle.std.proofs.lemmas.List.{get_or-drop, take_rest, get_or-set_same, get_or-set_other}
+use borrow.Rule.Slice.PartMut.{put_mid}
+use Rattle.vdif_frame.specs.Shape.{ShapeFields, head_bytes, chans_of, samples_per_frame}
+use Rattle.sample_unpack.specs.Level.{level_of, level_at}
+use Rattle.corr_model.specs.Rotated.{turned}
+use Rattle.station_stream.specs.Codes.{value_of}
+use Rattle.station_stream.specs.declared.thread_frames.ThreadFrames.{ThreadFrames}
+use Rattle.station_stream.specs.Levels.{AreLevels}
+use Rattle.station_stream.specs.ThreadFrames.{bytes_of_frame, level_in_frame}
+use Rattle.station_stream.specs.Taken.{IsTaken, AreUnpacked}
+use Rattle.station_stream.proofs.PartLemmas.{get_or-before, get_or-inside}
+
+-- ---- bytes of levels
+
+-- one more byte
+pub IsTaken-set : (levels : List ℤ) (codes : List ℕ) (k code : ℕ) → k < length codes
+    → ((j : ℕ) → j < k → IsTaken (get_or codes j 0) (Some (get_or levels j (pos 0))))
+    → IsTaken code (Some (get_or levels k (pos 0)))
+    → (j : ℕ) → j < k + 1 → IsTaken (get_or (set codes k code) j 0) (Some (get_or levels j (pos 0)))
+IsTaken-set levels codes k code inside before is =
+    below_more _ k
+    (λ j h. let other : j ≢ k = omega arith in
+    subst (λ (n : ℕ). IsTaken n (Some (get_or levels j (pos 0)))) (sym (get_or-set_other codes k j code 0 other)) (before j h))
+    (subst (λ (n : ℕ). IsTaken n (Some (get_or levels k (pos 0)))) (sym (get_or-set_same codes k code 0 inside)) is)
+
+-- a byte that is 1 more than these two has both in it
+pub value_of-code : (code sector : ℕ) → code < 4 → sector < 16
+    → value_of (1 + 16 * code + sector) ≡ Some (turned (level_of 2 code) sector)
+value_of-code code sector four sixteen =
+    let some : ((1 + 16 * code + sector) == 0) ≡ false = grind (arith, nat_tests) in
+    let high : (1 + 16 * code + sector - 1) / 16 % 4 ≡ code = omega arith in
+    let low : (1 + 16 * code + sector - 1) % 16 ≡ sector = omega arith in
+    simp (some, high, low) refl
+
+-- the byte of a level to which a sector is added
+pub value_of-turned : (code sector : ℕ) (level : Option ℤ) → code ≢ 0 → sector < 16 → IsTaken code level
+    → value_of ((code + sector) % 256) ≡ option_map (λ x. turned x sector) level
+value_of-turned code sector None some sixteen taken = absurd (some taken)
+value_of-turned code sector (Some level) some sixteen taken =
+    let four : taken.0 < 4 = taken.1.0 in
+    let is : code ≡ 1 + 16 * taken.0 = taken.1.1.0 in
+    let sum : (code + sector) % 256 ≡ 1 + 16 * taken.0 + sector = omega (arith, four, is, sixteen) in
+    ap value_of sum ∙ value_of-code taken.0 sector four sixteen ∙ ap (λ (x : ℤ). Some (turned x sector)) (sym taken.1.1.1)
+
+-- ---- levels of a frame
+
+-- the level in a frame that a slot holds
+pub level_in_frame-there : (shape : ShapeFields) (f : ThreadFrames) (index i k : ℕ) → get_or f.there.items i false ≡ true
+    → level_in_frame shape f index i k
+    ≡ Some (level_at (drop (head_bytes shape.legacy) (bytes_of_frame shape f i)) shape.bits (chans_of shape) index k)
+level_in_frame-there shape f index i k there =
+    ap (λ (b : Bool). cond b (Some (level_at (drop (head_bytes shape.legacy) (bytes_of_frame shape f i)) shape.bits (chans_of shape) index k)) None) there
+
+-- in one that no slot holds
+pub level_in_frame-none : (shape : ShapeFields) (f : ThreadFrames) (index i k : ℕ) → get_or f.there.items i false ≡ false
+    → level_in_frame shape f index i k ≡ None
+level_in_frame-none shape f index i k none =
+    ap (λ (b : Bool). cond b (Some (level_at (drop (head_bytes shape.legacy) (bytes_of_frame shape f i)) shape.bits (chans_of shape) index k)) None) none
+
+-- what was unpacked from a frame that a slot holds
+pub AreUnpacked-from : (shape : ShapeFields) (f : ThreadFrames) (index i : ℕ) (bytes : List ℕ) (levels : List ℤ)
+    → get_or f.there.items i false ≡ true
+    → bytes ≡ bytes_of_frame shape f i
+    → ((k : ℕ) → k < length levels → get_or levels k (pos 0) ≡ level_at (drop (head_bytes shape.legacy) bytes) shape.bits (chans_of shape) index k)
+    → AreLevels levels
+    → AreUnpacked shape f index i levels
+AreUnpacked-from shape f index i bytes levels there is unpacked small = record {
+  same = λ k h. level_in_frame-there shape f index i k there
+      ∙ ap (λ (b : List ℕ). Some (level_at (drop (head_bytes shape.legacy) b) shape.bits (chans_of shape) index k)) (sym is)
+      ∙ ap Some (sym (unpacked k h));
+  small = small;
+}
+
+-- the bytes from the levels of a frame
+pub IsTaken-unpacked : (shape : ShapeFields) (f : ThreadFrames) (index i at : ℕ) (levels : List ℤ) (codes : List ℕ) (count : ℕ)
+    → AreUnpacked shape f index i levels
+    → at + count ≤ length levels
+    → ((k : ℕ) → k < count → IsTaken (get_or codes k 0) (Some (get_or (take (length levels - at) (drop at levels)) k (pos 0))))
+    → (k : ℕ) → k < count → IsTaken (get_or codes k 0) (level_in_frame shape f index i (at + k))
+IsTaken-unpacked shape f index i at levels codes count unpacked room taken k h =
+    subst (λ (level : Option ℤ). IsTaken (get_or codes k 0) level)
+    (ap (λ (l : List ℤ). Some (get_or l k (pos 0))) (take_rest levels at) ∙ ap Some (get_or-drop at levels k (pos 0)) ∙ sym (unpacked.same (at + k) (omega arith)))
+    (taken k h)
+
+-- ---- levels of the frames
+
+-- sample k of those from `next` on lies in the frame in which that one does
+in_row : (next size at k : ℕ) → 0 < size → at ≡ next % size → at + k < size → ((next + k) / size ≡ next / size) × ((next + k) % size ≡ at + k)
+in_row next size at k some is below =
+    let split : next + k ≡ next / size * size + (at + k) = omega (arith, is, div-add-mod' next size) in
+    (ap (λ (n : ℕ). n / size) split ∙ div-mul-add (next / size) size (at + k) below, ap (λ (n : ℕ). n % size) split ∙ mod-mul-add (next / size) size (at + k) below)
+
+-- the level of a sample by its frame and its place there
+abbrev pub level_past : ShapeFields → ThreadFrames → ℕ → ℕ → Option ℤ
+level_past shape f index n = level_in_frame shape f index (n / samples_per_frame shape) (n % samples_per_frame shape)
+
+-- the bytes of one more frame's part
+pub IsTaken-more : (shape : ShapeFields) (f : ThreadFrames) (index past done at count size n : ℕ) (codes part : List ℕ)
+    → size ≡ samples_per_frame shape
+    → 0 < size
+    → at ≡ (past + done) % size
+    → at + count ≤ size
+    → done + count ≤ length codes
+    → length part ≡ count
+    → ((k : ℕ) → k < done → IsTaken (get_or codes k 0) (level_past shape f index (past + k)))
+    → ((k : ℕ) → k < count → IsTaken (get_or part k 0) (level_in_frame shape f index ((past + done) / size) (at + k)))
+    → (k : ℕ) → k < done + count → IsTaken (get_or (put_mid done n codes part) k 0) (level_past shape f index (past + k))
+IsTaken-more shape f index past done at count size n codes part is some place room within long before taken k h =
+    ⊎_elim
+    (λ (early : k < done). subst (λ (code : ℕ). IsTaken code (level_past shape f index (past + k))) (sym (get_or-before codes part done n k 0 early (omega arith))) (before k early))
+    (λ (late : done ≤ k).
+    let there : done + (k - done) ≡ k = omega arith in
+    let sum : past + done + (k - done) ≡ past + k = omega arith in
+    let row = in_row (past + done) size at (k - done) some place (omega arith) in
+    let code : get_or (put_mid done n codes part) k 0 ≡ get_or part (k - done) 0 =
+    ap (λ (i : ℕ). get_or (put_mid done n codes part) i 0) (sym there) ∙ get_or-inside codes part done n (k - done) 0 (omega arith) (omega arith) in
+    let level : level_in_frame shape f index ((past + done) / size) (at + (k - done)) ≡ level_past shape f index (past + k) =
+    ap (λ (i : ℕ). level_in_frame shape f index i (at + (k - done))) (sym row.0)
+    ∙ ap (level_in_frame shape f index ((past + done + (k - done)) / size)) (sym row.1)
+    ∙ ap (λ (i : ℕ). level_in_frame shape f index (i / size) (i % size)) sum
+    ∙ ap (λ (m : ℕ). level_in_frame shape f index ((past + k) / m) ((past + k) % m)) is in
+    subst (λ (c : ℕ). IsTaken c (level_past shape f index (past + k))) (sym code)
+    (subst (λ (l : Option ℤ). IsTaken (get_or part (k - done) 0) l) level (taken (k - done) (omega arith))))
+    (cases_lt k done)

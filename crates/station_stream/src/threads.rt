@@ -1,0 +1,66 @@
+//! The frames of a sweep, by thread.
+use crate::sweep::Sweep;
+use crate::thread_frames::ThreadFrames;
+use crate::{StationPart, StreamFault};
+use dev_traits::Shelf;
+use frame_index::Index;
+use std::alloc::Global;
+
+/// The threads whose frames a sweep has asked for, and for each, at the same place, the frames.
+#[derive(Drop)]
+pub(crate) struct Threads {
+    pub sweep: Sweep,
+    pub numbers: Vec<u16>,
+    pub frames: Vec<ThreadFrames>,
+}
+
+impl Threads {
+    ghost use Rattle.std.specs.Prelude.{◌≡◌, ◌<◌, Option, IfOk, OnOk, length, slice_index};
+    ghost use Rattle.dev_traits.specs.Told.{WhereTold};
+    ghost use Rattle.frame_index.specs.Recording.{Shelved};
+    ghost use Rattle.station_stream.specs.declared.part.StationPart.{StationPart};
+    ghost use Rattle.station_stream.specs.Part.{IsIndexed};
+    ghost use Rattle.station_stream.specs.Threads.{AreThreads};
+    ghost use Rattle.station_stream.specs.Faults.{CountsReads};
+
+    /// Those of no thread yet.
+    pub(crate) fn new(alloc: Global, sweep: Sweep) -> Threads
+        ensures sweep { result.sweep ≡ sweep }
+        ensures none { (told : Option Shelved) (part : StationPart) → AreThreads told part result }
+    {
+        Threads {
+            sweep,
+            numbers: Vec::new(alloc),
+            frames: Vec::new(alloc),
+        }
+    }
+
+    /// The place of a thread's frames, which are read where they are not there yet.
+    pub(crate) fn place<F: Shelf>(
+        &mut self,
+        alloc: Global,
+        shelf: &mut F,
+        index: &Index,
+        part: &StationPart<'_>,
+        thread: u16,
+    ) -> Result<usize, StreamFault>
+        requires thread { thread < 1024 }
+        requires indexed { WhereTold (F.told shelf.old) (λ told. IsIndexed told part.now index.now) }
+        requires threads { AreThreads (F.told shelf.old) part.now self.old }
+        ensures same { F.told shelf.new ≡ F.told shelf.old }
+        ensures sweep { self.new.sweep ≡ self.old.sweep }
+        ensures threads { OnOk result (AreThreads (F.told shelf.old) part.now self.new) }
+        ensures inside { IfOk result (λ i. i < length self.new.frames.items) }
+        ensures thread { IfOk result (λ i. slice_index self.new.numbers.items i ≡ thread) }
+        ensures counts { CountsReads (F.faults shelf.old) (F.faults shelf.new) result }
+    {
+        if let Some(i) = self.numbers.iter().position(|number| *number == thread) {
+            return Ok(i);
+        }
+        let (first, last) = (self.sweep.first, self.sweep.last);
+        let frames = ThreadFrames::read(alloc, shelf, index, part, thread, first, last)?;
+        self.numbers.push(thread)?;
+        self.frames.push(frames)?;
+        Ok(self.frames.len() - 1)
+    }
+}

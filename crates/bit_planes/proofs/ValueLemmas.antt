@@ -1,0 +1,163 @@
+-- The values of words, of lists of words and of planes.
+use Rattle.std.proofs.Common.{◌≡◌, ℕ, ◌+◌, ◌-◌, ◌*◌, ◌/◌, ◌%◌, ◌^◌, ◌<◌, ◌≤◌, min, Bool, true, false, if◌then◌else◌, ◌==◌, ◌&&◌, int_le, int_lt, unsigned_abs, ℤ, pos, ◌+ℤ◌, ◌-ℤ◌, ◌≤ℤ◌, ◌<ℤ◌, List, [], ◌∷◌, ◌++◌, length, get_or, Some, None, inl, inr, refl, sym, ap, ap₂, ◌∙◌, arith}
+use Rattle.std.specs.Int.{bit_at}
+use Rattle.std.proofs.lemmas.Bool.{cases_lt}
+use Rattle.std.proofs.lemmas.Bool.Decides.{nat_tests}
+use Rattle.std.proofs.lemmas.Int.{ints}
+use Rattle.std.proofs.lemmas.List.{get_or_append_left, get_or_at, get_or_past, length-append}
+use Rattle.std.proofs.lemmas.Nat.Bits.{bit_at_above}
+use Rattle.corr_model.specs.Cell.{Value}
+use Rattle.bit_planes.specs.declared.word.Word.{Word}
+use Rattle.bit_planes.specs.Word.{component, word_value}
+use Rattle.bit_planes.specs.Planes.{PlanesFields, ArePlanes, no_word, listed_value, plane_value, plane_bit, part_bit}
+
+-- ---- words
+
+value_by : ℕ → ℤ → ℤ → Value
+value_by b re im = if b == 0 then None else Some (re, im)
+
+pub word_value-same : (w v : Word) (j k : ℕ) → bit_at w.there j ≡ bit_at v.there k
+    → component w.re j ≡ component v.re k → component w.im j ≡ component v.im k → word_value w j ≡ word_value v k
+unfolding value_by
+word_value-same w v j k e f g =
+    ap (λ b. value_by b (component w.re j) (component w.im j)) e
+    ∙ ap₂ (λ x y. value_by (bit_at v.there k) x y) f g
+
+pub word_value-past : (w : Word) (k j : ℕ) → w.there < 2 ^ k → k ≤ j → word_value w j ≡ None
+unfolding value_by
+word_value-past w k j h le =
+    ap (λ b. value_by b (component w.re j) (component w.im j)) (bit_at_above w.there k j h le)
+
+pub word_value-none : (j : ℕ) → word_value no_word j ≡ None
+word_value-none j = word_value-past no_word 0 j (omega arith) (omega arith)
+
+-- the bit of a plane past plane 0, the component's bit being known
+pub shown-value : (w : Word) (plane k : ℕ) (x : ℤ) → (plane ≡ 0 → ⊥)
+    → x ≡ (if (plane - 1) / 4 == 0 then component w.re k else component w.im k)
+    → (if bit_at w.there k == 0 then 0 else part_bit (plane - 1) x) ≡ plane_bit plane (word_value w k)
+shown-value w plane k x some e =
+    ap (λ y. if bit_at w.there k == 0 then 0 else part_bit (plane - 1) y) e ∙ both (bit_at w.there k == 0)
+  where
+    test : (plane == 0) ≡ false
+    test = grind (arith, nat_tests)
+
+    both : (b : Bool)
+        → (if b then 0 else part_bit (plane - 1) (if (plane - 1) / 4 == 0 then component w.re k else component w.im k))
+        ≡ plane_bit plane (if b then None else Some (component w.re k, component w.im k))
+    both true = refl
+    both false =
+        ap (λ t. if t then 1 else part_bit (plane - 1) (if (plane - 1) / 4 == 0 then component w.re k else component w.im k)) (sym test)
+
+pub first_part : {X : Type 0} (place : ℕ) (x y : X) → place < 4 → x ≡ (if place / 4 == 0 then x else y)
+first_part place x y h =
+    let test : (place / 4 == 0) ≡ true = grind (arith, nat_tests) in
+    ap (λ t. if t then x else y) (sym test)
+
+pub second_part : {X : Type 0} (place : ℕ) (x y : X) → 4 ≤ place → y ≡ (if place / 4 == 0 then x else y)
+second_part place x y h =
+    let test : (place / 4 == 0) ≡ false = grind (arith, nat_tests) in
+    ap (λ t. if t then x else y) (sym test)
+
+-- ---- lists of words
+
+pub listed_value-first : (words : List Word) (place s k : ℕ) → s ≡ place % 64 → s + k < 64
+    → word_value (get_or words (place / 64) no_word) (s + k) ≡ listed_value words (place + k)
+listed_value-first words place s k e h =
+    let word : place / 64 ≡ (place + k) / 64 = omega arith in
+    let at : s + k ≡ (place + k) % 64 = omega arith in
+    ap₂ (λ w i. word_value (get_or words w no_word) i) word at
+
+pub listed_value-second : (words : List Word) (place s k : ℕ) → s ≡ place % 64 → k < 64 → 64 ≤ s + k
+    → word_value (get_or words (place / 64 + 1) no_word) (s + k - 64) ≡ listed_value words (place + k)
+listed_value-second words place s k e h m =
+    let word : place / 64 + 1 ≡ (place + k) / 64 = omega arith in
+    let at : s + k - 64 ≡ (place + k) % 64 = omega arith in
+    ap₂ (λ w i. word_value (get_or words w no_word) i) word at
+
+pub listed_value-old : (words : List Word) (w : Word) (k : ℕ) → k / 64 < length words
+    → listed_value (words ++ w ∷ []) k ≡ listed_value words k
+listed_value-old words w k h = ap (λ x. word_value x (k % 64)) (get_or_append_left words (w ∷ []) no_word (k / 64) h)
+
+pub listed_value-new : (words : List Word) (w : Word) (k : ℕ) → k / 64 ≡ length words
+    → listed_value (words ++ w ∷ []) k ≡ word_value w (k % 64)
+listed_value-new words w k e = ap (λ x. word_value x (k % 64)) (get_or_at words w [] no_word (k / 64) (sym e))
+
+pub listed_value-past : (words : List Word) (w : Word) (k : ℕ) → length words < k / 64
+    → listed_value (words ++ w ∷ []) k ≡ listed_value words k
+listed_value-past words w k h =
+    ap (λ x. word_value x (k % 64))
+    (get_or_past (words ++ w ∷ []) (k / 64) no_word (omega (arith, length-append words (w ∷ [])))
+    ∙ sym (get_or_past words (k / 64) no_word (omega arith)))
+
+pub listed_value-low : (words : List Word) (i k : ℕ) → k < 64 → i ≡ k → word_value (get_or words 0 no_word) i ≡ listed_value words k
+listed_value-low words i k h e =
+    let word : 0 ≡ k / 64 = omega arith in
+    let at : i ≡ k % 64 = omega arith in
+    ap₂ (λ w j. word_value (get_or words w no_word) j) word at
+
+-- a word more, of the values from 64 * i on
+pub listed_value-more : (f : ℕ → Value) (words : List Word) (w : Word) (i size rest : ℕ) → length words ≡ i
+    → rest ≡ min (size - 64 * i) 64
+    → ((k : ℕ) → k < 64 * i → k < size → listed_value words k ≡ f k)
+    → ((k : ℕ) → k < rest → word_value w k ≡ f (64 * i + k))
+    → (k : ℕ) → k < 64 * (i + 1) → k < size → listed_value (words ++ w ∷ []) k ≡ f k
+listed_value-more f words w i size rest long few old new k h m =
+    elim (cases_lt k (64 * i)) [
+      | inl q ↦ listed_value-old words w k (omega arith) ∙ old k q m
+      | inr q ↦
+          let at : 64 * i + k % 64 ≡ k = omega arith in
+          listed_value-new words w k (omega arith) ∙ new (k % 64) (omega arith) ∙ ap f at
+    ]
+
+pub listed_value-none : (words : List Word) (w : Word) (i size rest : ℕ) → length words ≡ i
+    → rest ≡ min (size - 64 * i) 64
+    → ((k : ℕ) → size ≤ k → listed_value words k ≡ None)
+    → ((k : ℕ) → rest ≤ k → word_value w k ≡ None)
+    → (k : ℕ) → size ≤ k → listed_value (words ++ w ∷ []) k ≡ None
+listed_value-none words w i size rest long few old new k h =
+    elim (cases_lt (k / 64) i) [
+      | inl q ↦ listed_value-old words w k (omega arith) ∙ old k h
+      | inr q ↦
+          elim (cases_lt i (k / 64)) [
+            | inl p ↦ listed_value-past words w k (omega arith) ∙ old k h
+            | inr p ↦ listed_value-new words w k (omega arith) ∙ new (k % 64) (omega arith)
+          ]
+    ]
+
+-- ---- planes
+
+pub plane_value-inside : (p : PlanesFields) (n : ℤ) (k : ℕ) → p.from +ℤ pos k ≡ n → n <ℤ p.to
+    → plane_value p n ≡ listed_value p.words k
+plane_value-inside p n k e h =
+    let low : int_le p.from n ≡ true = grind (arith, ints) in
+    let high : int_lt n p.to ≡ true = grind (arith, ints) in
+    let place : unsigned_abs (n -ℤ p.from) ≡ k = omega (arith, ints) in
+    ap₂ (λ s t. if s && t then listed_value p.words (unsigned_abs (n -ℤ p.from)) else None) low high
+    ∙ ap (listed_value p.words) place
+
+pub plane_value-past : (p : PlanesFields) (n : ℤ) → p.to ≤ℤ n → plane_value p n ≡ None
+plane_value-past p n h =
+    let high : int_lt n p.to ≡ false = grind (arith, ints) in
+    ap (λ t. if int_le p.from n && t then listed_value p.words (unsigned_abs (n -ℤ p.from)) else None) high
+    ∙ neither (int_le p.from n)
+  where
+    neither : (s : Bool) → (if s && false then listed_value p.words (unsigned_abs (n -ℤ p.from)) else None) ≡ None
+    neither true = refl
+    neither false = refl
+
+pub plane_value-before : (p : PlanesFields) (n : ℤ) → n <ℤ p.from → plane_value p n ≡ None
+plane_value-before p n h =
+    let low : int_le p.from n ≡ false = grind (arith, ints) in
+    ap (λ s. if s && int_lt n p.to then listed_value p.words (unsigned_abs (n -ℤ p.from)) else None) low
+
+-- from the first sample on
+pub plane_value-listed : (p : PlanesFields) → ArePlanes p → (n : ℤ) (k : ℕ) → p.from +ℤ pos k ≡ n
+    → plane_value p n ≡ listed_value p.words k
+plane_value-listed p are n k e =
+    let size : ℕ = unsigned_abs (p.to -ℤ p.from) in
+    let order = are.order in
+    let whole : p.from +ℤ pos size ≡ p.to = omega (arith, ints, order) in
+    elim (cases_lt k size) [
+      | inl q ↦ plane_value-inside p n k e (omega (arith, ints))
+      | inr q ↦ plane_value-past p n (omega (arith, ints)) ∙ sym (are.past k (omega (arith, ints)))
+    ]

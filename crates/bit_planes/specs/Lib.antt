@@ -1,0 +1,4 @@
+pub mod Word
+pub mod Planes
+pub mod Filled
+pub mod Coded

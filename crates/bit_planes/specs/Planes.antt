@@ -1,0 +1,56 @@
+-- The values that planes hold, and the nine planes of bits that show them.
+use Rattle.std.specs.Prelude.{◌≡◌, ℕ, ◌-◌, ◌/◌, ◌%◌, ◌^◌, ◌==◌, ◌&&◌, ℤ, pos, ◌+ℤ◌, ◌-ℤ◌, ◌≤ℤ◌, int_le, int_lt, unsigned_abs, Bool, not, List, Some, None, slice_index_or, if◌then◌else◌}
+use Rattle.corr_model.specs.Cell.{Value}
+use Rattle.bit_planes.specs.declared.word.Word.{Word}
+use Rattle.bit_planes.specs.Word.{word_value}
+
+-- The samples from `from` up to, not including, `to`, and words of 64 values each from sample `from` on.
+pub record PlanesFields : Type 0 where
+  pub from : ℤ
+  pub to : ℤ
+  pub words : List Word
+
+abbrev pub no_word : Word
+no_word = record {
+  there = 0;
+  re = record { some = 0; minus = 0; three = 0 };
+  im = record { some = 0; minus = 0; three = 0 };
+}
+
+-- value k of a list of words, none past its end
+abbrev pub listed_value : List Word → ℕ → Value
+listed_value words k = word_value (slice_index_or words (k / 64) no_word) (k % 64)
+
+-- the value at sample n, none outside the range
+abbrev pub plane_value : PlanesFields → ℤ → Value
+plane_value p n =
+    if int_le p.from n && int_lt n p.to
+    then listed_value p.words (unsigned_abs (n -ℤ p.from))
+    else None
+
+-- Planes of a scan, which has at most 2^40 samples. Past the last sample the words show no value.
+pub record ArePlanes (p : PlanesFields) : Type 0 where
+  pub start : pos 0 ≤ℤ p.from
+  pub order : p.from ≤ℤ p.to
+  pub end : p.to ≤ℤ pos (2 ^ 40)
+  pub past : (k : ℕ) → p.to ≤ℤ (p.from +ℤ pos k) → listed_value p.words k ≡ None
+
+-- whether a ternary part of a component is not 0: of u + 2v, part 0 is u, which a magnitude of 1 or 3 has, and part 1 is v,
+-- which 3 alone has
+abbrev pub has_part : ℕ → ℤ → Bool
+has_part part x = if part == 0 then not (unsigned_abs x == 0) else (unsigned_abs x == 3)
+
+-- whether a component has the sign: 0 is plus and 1 is minus
+abbrev pub has_sign : ℕ → ℤ → Bool
+has_sign sign x = if sign == 0 then int_lt (pos 0) x else int_lt x (pos 0)
+
+-- the bit of a component in the plane of a part and a sign, 2t + s
+abbrev pub part_bit : ℕ → ℤ → ℕ
+part_bit place x = if has_part (place / 2 % 2) x && has_sign (place % 2) x then 1 else 0
+
+-- The bit of a value in plane 0, which says where there is one, and in plane 1 + 4c + 2t + s: whether part t of the real
+-- component (c is 0) or of the imaginary one (c is 1) is there with the sign s. Where there is no value each bit is 0.
+abbrev pub plane_bit : ℕ → Value → ℕ
+plane_bit plane None = 0
+plane_bit plane (Some v) =
+    if plane == 0 then 1 else part_bit (plane - 1) (if (plane - 1) / 4 == 0 then v.0 else v.1)

@@ -36,7 +36,7 @@ IsGrown-plus c d n m first second = record {
 }
 
 -- a product with a value that is there only inside the scan
-product-inside : (u w : Value) (b : Bool) → (if b then product_of u w else no_cell) ≡ product_of u (if b then w else None)
+pub product-inside : (u w : Value) (b : Bool) → (if b then product_of u w else no_cell) ≡ product_of u (if b then w else None)
 product-inside u w true = refl
 product-inside (Some a) w false = refl
 product-inside None w false = refl

@@ -1,2 +1,5 @@
 pub mod HeldLemmas
 pub mod PartsLemmas
+pub mod WordLemmas
+pub mod MaskLemmas
+pub mod PlaneLemmas

@@ -1,2 +1,4 @@
 pub mod Held
 pub mod Parts
+pub mod Words
+pub mod Planes

@@ -32,8 +32,8 @@ pub fn plain_lags<V: Values>(v: &V, pair: &Pair, from: u64, to: u64, samples: u6
     }
 }
 
-// Sets each cell to that of no pair.
-fn clear(out: &mut [Cell])
+/// Sets each cell to that of no pair.
+pub fn clear(out: &mut [Cell])
     ensures { (k : ℕ) (d : Cell) → k < length out.old → slice_index_or out.new k d ≡ no_cell }
 {
     for cell in out.iter_mut() {

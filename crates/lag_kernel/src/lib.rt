@@ -1,12 +1,19 @@
-//! The cells of all lags of a range of samples in one call. It stands on `corr_model` for values and cells. A block of the
-//! range is taken at a time: each value that its pairs need is asked for once, and all lags are summed from the components
-//! of the values that are held. The cells are those of the direct sums, for every range and every number of lags. No call
-//! takes memory. (Thompson, Moran and Swenson, chapter 8.)
+//! The cells of all lags of a range of samples in one call. It stands on `corr_model` for values and cells, and on
+//! `bit_planes` for values as bits. From values, a block of the range is taken at a time: each value that its pairs need is
+//! asked for once, and all lags are summed from the components of the values that are held. From planes, 64 samples are
+//! taken at a time, and what their pairs add is counted in bits. The cells are those of the direct sums, for every range and
+//! every number of lags. No call takes memory. (Thompson, Moran and Swenson, chapter 8.)
 #![tactic(auto)]
 
 mod block;
 mod lags;
+mod masks;
 mod parts;
+mod planes;
 mod sums;
+#[cfg(test)]
+mod tests;
+mod words;
 
 pub use lags::plain_lags;
+pub use planes::plane_lags;

@@ -7,3 +7,4 @@ pub mod Totals
 pub mod Board
 pub mod Fewer
 pub mod Streams
+pub mod PlaneValues

@@ -1,6 +1,6 @@
 -- What pairs of small values add up to.
 use Rattle.std.specs.Prelude.{if◌then◌else◌, IfSome}
-use Rattle.std.proofs.Common.{◌≡◌, ℕ, zero, suc, ◌+◌, ◌-◌, ◌*◌, ◌≤◌, ◌<◌, Bool, true, false, ℤ, pos, ◌+ℤ◌, ◌*ℤ◌, ◌≤ℤ◌, neg_ℤ, unsigned_abs, List, Some, None, sym, subst, arith, All}
+use Rattle.std.proofs.Common.{◌≡◌, ℕ, zero, suc, ◌+◌, ◌-◌, ◌*◌, ◌≤◌, ◌<◌, Bool, true, false, ℤ, pos, ◌+ℤ◌, ◌*ℤ◌, ◌≤ℤ◌, neg_ℤ, unsigned_abs, List, Some, None, ⊎_elim, sym, subst, arith, All}
 use Rattle.std.proofs.lemmas.Int.{ints, unsigned_abs-mul}
 use Rattle.std.proofs.lemmas.Nat.{mul-le}
 use Rattle.std.proofs.lemmas.List.FromFn.{length-map-range_with_len, get_or-map-range_with_len}
@@ -9,7 +9,7 @@ use Rattle.corr_model.specs.declared.cell.Pair.{Pair}
 use Rattle.corr_model.specs.Cell.{Value, Samples, no_cell, cell_plus, is_inside, product_of, product_at, sum_from, cell_in}
 use Rattle.corr_model.specs.Lags.{lag_of}
 use Rattle.corr_model.proofs.CellLemmas.{within_abs, cell_in-sum}
-use Rattle.station_stream.specs.Stream.{AreLevelled}
+use Rattle.station_stream.specs.Stream.{AreLevelled, IsLevelPart}
 use Rattle.epoch_run.specs.Sums.{pair_cells}
 use Rattle.epoch_run.specs.Levelled.{AllLevelled, IsWithin}
 
@@ -38,12 +38,19 @@ IsWithin-plus c d n m first second = record {
   count = omega (arith, first.count, second.count);
 }
 
+-- the component of a level is at most 3
+part-small : (x : ℤ) → IsLevelPart x → unsigned_abs x ≤ 3
+part-small x part =
+    ⊎_elim (λ (none : unsigned_abs x ≡ 0). omega (arith, none))
+    (λ odd. ⊎_elim (λ (one : unsigned_abs x ≡ 1). omega (arith, one)) (λ (three : unsigned_abs x ≡ 3). omega (arith, three)) odd)
+    part
+
 IsWithin-product_of : (x y : Value) → IfSome x AreLevelled → IfSome y AreLevelled → IsWithin (product_of x y) 1
 IsWithin-product_of (Some a) (Some b) h k =
-    let rr = product-nine a.0 b.0 h.0 k.0 in
-    let ii = product-nine a.1 b.1 h.1 k.1 in
-    let ir = product-nine a.1 b.0 h.1 k.0 in
-    let ri = product-nine a.0 b.1 h.0 k.1 in
+    let rr = product-nine a.0 b.0 (part-small a.0 h.0) (part-small b.0 k.0) in
+    let ii = product-nine a.1 b.1 (part-small a.1 h.1) (part-small b.1 k.1) in
+    let ir = product-nine a.1 b.0 (part-small a.1 h.1) (part-small b.0 k.0) in
+    let ri = product-nine a.0 b.1 (part-small a.0 h.0) (part-small b.1 k.1) in
     record {
       re_low = omega (arith, ints, rr.0, ii.0);
       re_high = omega (arith, ints, rr.1, ii.1);

@@ -1,4 +1,4 @@
--- Values whose components are at most 3, and what their pairs add up to.
+-- Values whose components have the magnitude 0, 1 or 3, and what their pairs add up to.
 use Rattle.std.specs.Prelude.{ℕ, ◌*◌, ◌≤◌, ℤ, pos, neg_ℤ, ◌≤ℤ◌, IfSome}
 use Rattle.corr_model.specs.declared.cell.Cell.{Cell}
 use Rattle.corr_model.specs.Cell.{Samples}
@@ -7,11 +7,11 @@ use Rattle.epoch_run.specs.Streamed.{streamed}
 use Rattle.epoch_run.specs.Sums.{IsSummed}
 use Rattle.epoch_run.specs.Amounts.{WorkFields}
 
--- each value of a stream is small
+-- each value of a stream is such
 abbrev pub IsLevelled : StreamFields → Type 0
 IsLevelled s = (chan : ℕ) (n : ℤ) → IfSome (windowed s chan n) AreLevelled
 
--- each value of a scan is small
+-- each value of a scan is such
 abbrev pub AllLevelled : Samples → Type 0
 AllLevelled z = (station chan : ℕ) (n : ℤ) → IfSome (z station chan n) AreLevelled
 

@@ -34,7 +34,7 @@ pub fn run_epoch<R: Threads + Sync, G: Gate + Sync>(
     ensures cells { IfOk result (λ sums. sums.cells ≡ cells_in_epoch (streamed streams.now) pairs.now samples plan.now) }
     ensures pieces { IfOk result (λ sums. sums.pieces ≡ pieces_in_epoch plan.now piece) }
 {
-    let work = Work::new(streams, pairs, samples, plan, piece)?;
+    let work = Work::new(alloc, streams, pairs, samples, plan, piece)?;
     let shares = u64::from(workers);
     let (board, seat) = work.board(alloc, shares)?;
     let mut team = make_team(alloc, &board, seat, shares, plan.lags)?;

@@ -1,29 +1,30 @@
 //! What the workers of an epoch read, and what a worker does.
-ghost use Rattle.std.specs.Prelude.{◌≡◌, ◌<◌, ◌≤◌, ◌+◌, ◌*◌, [], true, Some, None, length, slice_get, IfOk};
+ghost use Rattle.std.specs.Prelude.{◌≡◌, ◌<◌, ◌≤◌, ◌+◌, ◌-◌, ◌*◌, [], true, Some, None, length, slice_get, IfOk};
 ghost use Rattle.std.specs.List.{All};
 ghost use Rattle.piece_claim.specs.State.{new_seat};
 ghost use Rattle.piece_claim.specs.Moves.{CanDraw};
 ghost use Rattle.atomic_sums.specs.Seats.{seat_of};
 ghost use Rattle.piece_plan.specs.Pieces.{per_group, pieces_of};
 ghost use Rattle.epoch_run.specs.Streamed.{streamed};
-ghost use Rattle.epoch_run.specs.Sums.{IsSummed, cells_in_epoch, pieces_in_epoch};
+ghost use Rattle.epoch_run.specs.Sums.{IsSummed, cells_in_epoch, pair_cells, pieces_in_epoch};
 ghost use Rattle.epoch_run.specs.Amounts.{IsBoardOf, HaveAmounts, amounts_of, cut_of};
-ghost use Rattle.epoch_run.specs.Levelled.{AllLevelled};
+ghost use Rattle.epoch_run.specs.Planes.{HoldStreams};
+ghost use Rattle.epoch_run.specs.Levelled.{AllLevelled, IsWithin};
 ghost use Rattle.epoch_run.specs.Part.{IsPart};
 
 use crate::amounts::write_amounts;
-use crate::values::Streams;
+use crate::planes::StationPlanes;
 use atomic_sums::{BoardSeat, EpochSums, SumBoard};
 use corr_model::{Cell, Pair};
 use dev_traits::Gate;
-use lag_kernel::plain_lags;
+use lag_kernel::plane_lags;
 use piece_plan::{EpochPlan, Piece, PiecePlan};
 use station_stream::Stream;
 use std::alloc::{AllocError, Global};
 use std::marker::Model;
 
 /// What the workers of an epoch read: the streams of its stations, the pair of each group in the order of the groups' numbers,
-/// the scan's length in samples, the epoch, and the most samples in a piece.
+/// the scan's length in samples, the epoch, the most samples in a piece, and the planes of the streams' channels.
 #[derive(Drop)]
 pub struct Work<'a> {
     streams: &'a [Stream],
@@ -31,6 +32,8 @@ pub struct Work<'a> {
     samples: u64,
     epoch: &'a EpochPlan,
     piece: u64,
+    planes: StationPlanes,
+    ghost held: { HoldStreams planes streams.now },
 }
 
 impl<'a> Model for Work<'a> {
@@ -58,8 +61,9 @@ impl<'a> Model for Work<'a> {
 
 impl<'a> Work<'a> {
     /// What the workers of an epoch read. In a pair `a` and `b` are places in `streams`, and `x` and `y` are channels of
-    /// these.
+    /// these. It makes the planes of all their channels, and takes the memory for them.
     pub fn new(
+        alloc: Global,
         streams: &'a [Stream],
         pairs: &'a [Pair],
         samples: u64,
@@ -76,12 +80,14 @@ impl<'a> Work<'a> {
         }) }
     {
         are_levelled(streams);
+        let planes = StationPlanes::build(alloc, streams)?;
         Ok(Work {
             streams,
             pairs,
             samples,
             epoch: plan,
             piece,
+            planes,
         })
     }
 
@@ -121,6 +127,19 @@ impl<'a> Work<'a> {
         self.pairs[(first + u64::from(piece.baseline)) as usize]
     }
 
+    // Sets `cells` to those of a pair over the samples of a piece.
+    fn sum_piece(&self, piece: &Piece, pair: &Pair, cells: &mut [Cell])
+        requires part { IsPart self.now piece.now }
+        requires cells { length cells.old ≡ self.now.epoch.lags }
+        ensures cells { cells.new ≡ pair_cells (streamed self.now.streams) self.now.samples self.now.epoch.lags piece.now.from piece.now.to pair.now }
+        ensures few { length cells.new ≤ 1024 }
+        ensures within { All (λ c. IsWithin c (piece.now.to - piece.now.from)) cells.new }
+    {
+        let first = self.planes.channel(pair.a, pair.x);
+        let second = self.planes.channel(pair.b, pair.y);
+        plane_lags(first, second, piece.from, piece.to, self.samples, cells);
+    }
+
     // Sets `amounts` to those of piece `n`, from its cells, which are left in `cells`.
     fn amounts(&self, n: u64, cells: &mut [Cell], amounts: &mut [u64])
         requires piece { n < self.now.epoch.products * self.now.epoch.baselines * per_group (cut_of self.now) }
@@ -131,10 +150,7 @@ impl<'a> Work<'a> {
     {
         let piece = self.piece_at(n);
         let pair = self.pair_of(&piece);
-        let streams = Streams {
-            streams: self.streams,
-        };
-        plain_lags(&streams, &pair, piece.from, piece.to, self.samples, cells);
+        self.sum_piece(&piece, &pair, cells);
         write_amounts(cells, piece.to - piece.from, amounts);
     }
 
@@ -160,7 +176,7 @@ impl<'a> Work<'a> {
     }
 }
 
-// Each value of the streams has components of at most 3.
+// Each value of the streams has components of magnitude 0, 1 or 3.
 fn are_levelled(streams: &[Stream])
     ensures { AllLevelled (streamed streams.now) }
 {

@@ -1,0 +1,7 @@
+pub mod SumLemmas
+pub mod BitLemmas
+pub mod LaneLemmas
+pub mod ByteLemmas
+pub mod ProductLemmas
+pub mod CopyLemmas
+pub mod StretchLemmas

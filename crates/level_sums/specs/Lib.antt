@@ -1,0 +1,4 @@
+pub mod Levels
+pub mod Weights
+pub mod Counts
+pub mod Held

@@ -1,0 +1,101 @@
+//! The sums by planes are those of a loop over the pairs.
+ghost use Rattle.std.specs.Prelude.{◌<◌, ◌≤◌, ◌+◌};
+
+use super::*;
+use std::test::*;
+
+// Two planes of 2,560 samples, the one of the high bits and the one of the low bits.
+#[derive(Clone, Copy)]
+struct Codes {
+    high: [u64; 40],
+    low: [u64; 40],
+}
+
+fn mixed_words(mut seed: u64) -> [u64; 40] {
+    let mut words = [0; 40];
+    for word in words.iter_mut() {
+        seed = seed
+            .wrapping_mul(6_364_136_223_846_793_005)
+            .wrapping_add(1_442_695_040_888_963_407);
+        *word = seed ^ seed >> 29;
+    }
+    words
+}
+
+fn mixed_codes(seed: u64) -> Codes {
+    Codes {
+        high: mixed_words(seed),
+        low: mixed_words(seed ^ 0xabcd),
+    }
+}
+
+// The level of sample `n` by its code.
+fn level(codes: &Codes, n: u64) -> i64
+    requires { n < 2560 }
+{
+    let word = (n / 64) as usize;
+    let place = n % 64;
+    let code = 2 * ((codes.high[word] >> place) % 2) + (codes.low[word] >> place) % 2;
+    2 * code as i64 - 3
+}
+
+fn plain_sum(a: &Codes, i: u64, b: &Codes, j: u64, count: u64) -> i64
+    requires first { i + count ≤ 2560 }
+    requires second { j + count ≤ 2560 }
+{
+    let mut sum = 0_i64;
+    for k in 0..count {
+        sum = sum.wrapping_add(level(a, i + k).wrapping_mul(level(b, j + k)));
+    }
+    sum
+}
+
+// The same two stations in both forms.
+#[derive(Drop)]
+struct Both {
+    a: Codes,
+    b: Codes,
+    planes: LevelPlanes,
+    copies: LevelCopies,
+}
+
+impl Both {
+    fn agree(&self, i: u64, j: u64, count: u64) -> bool
+        requires first { i + count ≤ 2560 }
+        requires second { j + count ≤ 2560 }
+    {
+        let inside = i + count <= self.planes.samples() && j + count <= self.copies.samples();
+        inside
+            && stretch_sum(&self.planes, i, &self.copies, j, count)
+                == plain_sum(&self.a, i, &self.b, j, count)
+    }
+}
+
+// Every place in a word at either station, and lengths from none to more than a block of 32 words.
+#[test]
+fn sums_of_stretches(rt: HostRuntime) -> Result<(), Fail> {
+    let alloc = rt.alloc();
+    let (a, b) = (mixed_codes(1), mixed_codes(2));
+    let high = Vec::from_array(alloc, a.high)?;
+    let low = Vec::from_array(alloc, a.low)?;
+    let planes = LevelPlanes::new(alloc, high, low)?;
+    let copies = LevelCopies::new(alloc, &b.high, &b.low)?;
+    let both = Both {
+        a,
+        b,
+        planes,
+        copies,
+    };
+    assert_eq!(rt; both.planes.samples(), 2560);
+    assert_eq!(rt; both.copies.samples(), 2560);
+    assert!(rt; both.agree(0, 0, 2560));
+    assert!(rt; both.agree(2560, 2560, 0));
+    for place in 0..64_u64 {
+        assert!(rt; both.agree(place, 63 - place, 2433 + place));
+        assert!(rt; both.agree(2560 - place, 5, place));
+        for m in 0..6_u64 {
+            assert!(rt; both.agree(place, 64 * m + 7 * place % 64, 37 * m + place));
+        }
+    }
+    Ok(())
+}

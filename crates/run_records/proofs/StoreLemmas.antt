@@ -29,10 +29,10 @@ use Rattle.vis_writer.specs.declared.fault.WriteFault.{WriteFault}
 use Rattle.vis_writer.specs.declared.fault.WriteFault.TheVariants.{Source, Sink}
 use Rattle.vis_writer.specs.Cells as counts
 use Rattle.vis_writer.specs.Cells.{CellsOf, IsFull, cells_at, widest}
-use Rattle.vis_writer.specs.OneScanLaws.{scan-cells, scan-seen}
 use Rattle.vis_writer.specs.Texts.{integration_at, text_at}
 use Rattle.vis_writer.specs.Writes.{Composes, Writes, SourceGoes, of_sink}
 use Rattle.vis_writer.proofs.FileText.{text_at-some, widest-at}
+use Rattle.vis_writer.proofs.PlanCounts.{scan-cells, scan-seen}
 use Rattle.vis_writer.proofs.WritesLemmas.{where_then, where_both, where_always, Writes-none, Writes-then, Writes-same, Writes-sunk, Writes-filled, Writes-failed, Writes-next, Writes-cut}
 use Rattle.run_records.specs.Kept.{cells_in_body, kept_cells}
 use Rattle.run_records.proofs.GrowsLemmas.{grows-none, grows-failed, grows-then, grows-cut, grows-sunk}

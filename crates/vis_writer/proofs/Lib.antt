@@ -2,7 +2,6 @@ pub mod Rows
 pub mod FileText
 pub mod WritesLemmas
 pub mod FileLemmas
-pub mod FillLemmas
 pub mod PlanHead
 pub mod PlanText
-pub mod OneScanLemmas
+pub mod PlanCounts

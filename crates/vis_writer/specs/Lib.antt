@@ -2,4 +2,3 @@ pub mod Cells
 pub mod Writes
 pub mod PlanCells
 pub mod Texts
-pub mod OneScanLaws

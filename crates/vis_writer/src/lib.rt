@@ -8,16 +8,12 @@
 mod fault;
 mod head;
 pub mod laws;
-mod one_scan;
-mod plan_cells;
 mod records;
 mod source;
 mod writer;
 
 pub use fault::WriteFault;
 pub use head::head_of_plan;
-pub use one_scan::OneScan;
-pub use plan_cells::fill_integration;
 pub use records::{record_count, widest};
 pub use source::CellSource;
-pub use writer::{sunk, write_integration_at, write_records, write_scan_at};
+pub use writer::{sunk, write_integration_at, write_records};

@@ -48,8 +48,8 @@ fn write_scans<C: CellSource, S: Sink>(
     Ok(())
 }
 
-/// Appends the records of one scan of the head, by its number. `buffer` has room for the cells of an integration.
-pub fn write_scan_at<C: CellSource, S: Sink>(
+// Appends the records of one scan of the head, by its number.
+fn write_scan_at<C: CellSource, S: Sink>(
     head: &VisHead,
     number: u32,
     source: &mut C,

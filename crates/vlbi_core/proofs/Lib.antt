@@ -1,4 +1,3 @@
-pub mod ScanLemmas
 pub mod PlainLemmas
 pub mod OrderLemmas
 pub mod ExtendLemmas

@@ -1,23 +1,28 @@
--- The record file of a plan, written scan by scan from a shelf.
-use Rattle.std.specs.Prelude.{option_map, IfErr}
-use Rattle.std.proofs.Common.{◌≡◌, ℕ, List, Option, Some, None, Result, Ok, Err, refl, ap, subst, ◌∙◌}
+-- The record file of a plan, written integration by integration from a shelf.
+use Rattle.std.specs.Prelude.{option_map, slice_get, IfErr}
+use Rattle.std.proofs.Common.{◌≡◌, ℕ, List, Option, Some, None, Result, Ok, Err, refl, sym, ap, subst, ◌∙◌}
 use Rattle.dev_traits.specs.Told.{WhereTold}
-use Rattle.corr_model.specs.Cell.{Samples}
+use Rattle.sink_text.specs.Appends.{Appends}
+use Rattle.corr_model.specs.declared.cell.Cell.{Cell}
 use Rattle.corr_model.specs.Files.{Files}
 use Rattle.corr_model.specs.Records.{Head, vis_text}
+use Rattle.job_plan.specs.declared.plan.ScanPlan.{ScanPlan}
 use Rattle.job_plan.specs.declared.plan.Plan.{Plan}
 use Rattle.job_plan.specs.Values.{rotated}
-use Rattle.job_plan.specs.Output.{head_of, output}
+use Rattle.job_plan.specs.Output.{head_of, integration_cells, output}
 use Rattle.station_stream.specs.declared.fault.StreamFault.{StreamFault}
 use Rattle.station_stream.specs.declared.fault.StreamFault.TheVariants.{Read, Memory}
+use Rattle.station_stream.specs.Faults.{CountsFault}
+use Rattle.vis_records.specs.declared.writer.SinkFault.{SinkFault}
 use Rattle.vis_writer.specs.declared.fault.WriteFault.{WriteFault}
 use Rattle.vis_writer.specs.declared.fault.WriteFault.TheVariants.{Source, Sink}
-use Rattle.vis_writer.specs.Cells.{IsFull, all_cells}
-use Rattle.vis_writer.specs.PlanCells.{cells_by, cells_from}
-use Rattle.vis_writer.specs.OneScanLaws.{plan_full}
-use Rattle.vis_writer.specs.Texts.{text_at}
-use Rattle.vis_writer.specs.Writes.{Composes, Writes, Appended, SinkCounts, SourceGoes}
+use Rattle.vis_writer.specs.Cells.{CellsOf, IsFull, all_cells}
+use Rattle.vis_writer.specs.PlanCells.{cells_from}
+use Rattle.vis_writer.specs.Texts.{integration_at}
+use Rattle.vis_writer.specs.Writes.{Composes, Writes, Appended, SinkCounts, SourceGoes, of_sink}
+use Rattle.vis_writer.proofs.PlanCounts.{plan_full, cells-at}
 use Rattle.vis_writer.proofs.PlanText.{output-numbered}
+use Rattle.vis_writer.proofs.WritesLemmas.{Writes-same, Writes-sunk, Writes-failed}
 use Rattle.run_notes.specs.Counted.{CountsReads, CountsWrites}
 use Rattle.vlbi_core.specs.Steps.{IsOfOutput}
 use Rattle.vlbi_core.specs.Shelf.{ShelfState, state, head_at, cells_at, stays, fails}
@@ -34,35 +39,36 @@ pub shelf-full : (plan : Plan) (told : Option Files) (faults : ℕ) → WhereTol
 shelf-full plan None faults = tt
 shelf-full plan (Some files) faults = plan_full plan (rotated plan files)
 
--- the records of one scan
-pub Writes-values : (plan : Plan) (told told' : Option Files) (faults faults' : ℕ) (head : Head) (number : ℕ) (z : Samples) (old new : Option (List ℕ)) (before now : ℕ)
-    (result : Result (Unit {0}) (WriteFault StreamFault))
-    → told' ≡ told → faults' ≡ faults
-    → WhereTold told (λ files. text_at head (cells_by plan (λ _. z)) number ≡ text_at head (cells_from plan files) number)
-    → Appended old (text_at head (cells_by plan (λ _. z)) number) new result
-    → SinkCounts before now result
-    → IfErr result (λ fault. fault ≡ Sink)
-    → Writes (head_at plan) (cells_at plan) stays fails (λ of. text_at head of number) (state told faults) (state told' faults') old new before now result
-Writes-values plan told told' faults faults' head number z old new before now result same kept text appended counts stage = record {
-  appended = by told text;
-  counts = counts;
-  goes = going result stage;
-  same_head = refl;
-  same_cells = ap (option_map (cells_from plan)) same;
-}
+-- the records of an integration, whose cells were summed
+pub Writes-summed : (plan : Plan) (told told' : Option Files) (faults faults' : ℕ) (head : Head) (number m : ℕ) (scan : ScanPlan) (cells : List Cell)
+    (old new : Option (List ℕ)) (before now : ℕ) (written : Result (Unit {0}) SinkFault)
+    → slice_get plan.scans number ≡ Some scan → told' ≡ told → faults' ≡ faults
+    → WhereTold told (λ files. cells ≡ integration_cells plan (rotated plan files scan) scan m)
+    → Appends old new (integration_at head number m cells) before now written
+    → Writes (head_at plan) (cells_at plan) stays fails (λ of. integration_at head number m (of number m)) (state told faults) (state told' faults') old new before now (of_sink written)
+Writes-summed plan told told' faults faults' head number m scan cells old new before now written there same kept summed appends =
+    subst
+    (λ (s : ShelfState). Writes (head_at plan) (cells_at plan) stays fails (λ of. integration_at head number m (of number m)) (state told faults) s old new before now (of_sink written))
+    whole
+    (Writes-same (head_at plan) (cells_at plan) stays fails stays-composes (λ of. integration_at head number m cells) (λ of. integration_at head number m (of number m))
+    (state told faults) (state told faults) old new before now (by told summed)
+    (Writes-sunk (head_at plan) (cells_at plan) stays fails stays-composes written (integration_at head number m cells) (state told faults) old new before now appends))
   where
-    by : (o : Option Files) → WhereTold o (λ files. text_at head (cells_by plan (λ _. z)) number ≡ text_at head (cells_from plan files) number)
-        → WhereTold (option_map (cells_from plan) o) (λ of. Appended old (text_at head of number) new result)
-    by None same = tt
-    by (Some files) same = subst (λ (t : List ℕ). Appended old t new result) same appended
+    whole : state told faults ≡ state told' faults'
+    whole = λ i. state (sym same i) (sym kept i)
 
-    whole : state told' faults' ≡ state told faults
-    whole = λ i. state (same i) (kept i)
+    by : (o : Option Files) → WhereTold o (λ files. cells ≡ integration_cells plan (rotated plan files scan) scan m)
+        → WhereTold (option_map (cells_from plan) o) (λ of. integration_at head number m cells ≡ integration_at head number m (of number m))
+    by None is = tt
+    by (Some files) is = ap (integration_at head number m) (is ∙ sym (cells-at plan (rotated plan files) number m scan there))
 
-    going : (r : Result (Unit {0}) (WriteFault StreamFault)) → IfErr r (λ fault. fault ≡ Sink) → SourceGoes stays fails (state told faults) (state told' faults') r
-    going (Ok x) stage = whole
-    going (Err Sink) stage = whole
-    going (Err (Source fault)) stage = absurd cc
+-- nothing, where they could not be read
+pub Writes-unread : (plan : Plan) (told told' : Option Files) (faults faults' : ℕ) (text : CellsOf → List ℕ) (old : Option (List ℕ)) (before : ℕ) (fault : StreamFault)
+    → told' ≡ told → CountsFault faults faults' fault
+    → Writes {T = Unit {0}} (head_at plan) (cells_at plan) stays fails text (state told faults) (state told' faults') old old before before (Err (Source fault))
+Writes-unread plan told told' faults faults' text old before fault same cause =
+    Writes-failed (head_at plan) (cells_at plan) stays fails stays-composes fault text (state told faults) (state told' faults') old before
+    (same, cause) refl (ap (option_map (cells_from plan)) same)
 
 -- ---- what a whole file says of the call that answers for it
 

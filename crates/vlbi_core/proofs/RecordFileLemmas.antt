@@ -23,7 +23,7 @@ use Rattle.job_epochs.proofs.SmallValues.{rotated-small, at-place}
 use Rattle.job_epochs.proofs.RangeCells.{AllSmall, part-fits, cell_in-IsGrown}
 use Rattle.vis_records.specs.Content.{IsRecordFile}
 use Rattle.vlbi_core.specs.Sample.{content_for}
-use Rattle.vis_writer.specs.OneScanLaws.{length-rows}
+use Rattle.vis_writer.proofs.Rows.{length-rows}
 use Rattle.vis_writer.proofs.PlanHead.{head_is}
 
 -- ---- each cell has its 64 bits

@@ -1,5 +1,5 @@
 //! The correlator: the top call `run`, and what it is made of. It stands on `run_words` for the words, on `run_ready` for what
-//! comes before the output, on `scan_values` for the values of a scan, on `run_journal` for the sums of a job in its journal, on
+//! comes before the output, on `plain_sums` for the cells of an integration, on `run_journal` for the sums of a job in its journal, on
 //! `vis_writer` and `run_records` for the records, on `run_summary` for summaries, on `run_dump` for a record file that is shown, on
 //! `sample_gen` and `gen_summary` for a generated job and its totals, and on `run_notes` for statuses and notes.
 //!

@@ -1,31 +1,34 @@
-//! The record file of a plan, on one thread: the values of one scan at a time are read, summed and written.
-ghost use Rattle.std.specs.Prelude.{◌≡◌, ◌≤◌, ◌<◌, length, IsSome, IfErr};
+//! The record file of a plan, on one thread: each integration is summed epoch by epoch, and its records are written before the
+//! next one is read.
+ghost use Rattle.std.specs.Prelude.{◌≡◌, ◌≤◌, ◌<◌, Some, flat_map, length, slice_get, IsSome, IfErr};
+ghost use Rattle.std.specs.List.{range_with_len};
 ghost use Rattle.dev_traits.specs.Told.{WhereTold};
 ghost use Rattle.corr_model.specs.Records.{vis_text};
-ghost use Rattle.job_plan.specs.Output.{head_of, output};
+ghost use Rattle.job_plan.specs.Output.{head_of, integrations_of, output};
+ghost use Rattle.job_plan.specs.Ranges.{IsPlan, IsScanPlan};
+ghost use Rattle.job_epochs.specs.Added.{width_of};
 ghost use Rattle.run_words.specs.Orders.{AreTexts};
 ghost use Rattle.run_ready.specs.Outcome.{job_names, PlanOf};
 ghost use Rattle.run_notes.specs.Counted.{CountsReads, CountsWrites};
-ghost use Rattle.station_stream.specs.Recorded.{AreRecorded};
+ghost use Rattle.station_stream.specs.Recorded.{AreNamed, AreRecorded};
 ghost use Rattle.vis_writer.specs.Cells.{all_cells, widest};
-ghost use Rattle.vis_writer.specs.PlanCells.{cells_by};
-ghost use Rattle.vis_writer.specs.Texts.{text_at, scans_text};
-ghost use Rattle.vis_writer.specs.Writes.{Writes, Appended, SinkCounts};
+ghost use Rattle.vis_writer.specs.Texts.{integration_at, text_at, scans_text};
+ghost use Rattle.vis_writer.specs.Writes.{Writes, Appended};
 ghost use Rattle.vlbi_core.specs.Shelf.{ShelfState, state, head_at, cells_at, stays, fails};
 ghost use Rattle.vlbi_core.specs.Faults.{refusal_of, answer_with};
 ghost use Rattle.vlbi_core.specs.Steps.{Tells, IsOfFilesOrOutput, IsOfOutput, MatchDue};
 
-use corr_model::{Cell, Values};
+use corr_model::Cell;
 use dev_traits::{Shelf, Sink};
-use job_plan::Plan0;
+use job_plan::{Plan, ScanPlan};
+use plain_sums::sum_integration;
 use run_notes::Refusal;
 use run_ready::{Ready, prepare};
 use run_words::Order;
-use scan_values::ScanValues;
-use station_stream::StreamFault;
+use station_stream::{Recording, StreamFault};
 use std::alloc::Global;
 use vis_records::{VisHead, write_end, write_head};
-use vis_writer::{OneScan, WriteFault, head_of_plan, record_count, sunk, widest, write_scan_at};
+use vis_writer::{WriteFault, head_of_plan, record_count, sunk, widest, write_integration_at};
 
 /// Correlates the job of an order, and keeps nothing of it but the output.
 pub fn plain_job<F: Shelf, S: Sink>(
@@ -47,7 +50,7 @@ pub fn plain_job<F: Shelf, S: Sink>(
     write_plan(alloc, &ready, shelf, out)
 }
 
-// Appends the record file of a plan. All memory but that of a scan's values is taken before the first byte.
+// Appends the record file of a plan. All memory but that of an integration's values and sums is taken before the first byte.
 fn write_plan<F: Shelf, S: Sink>(
     alloc: Global,
     ready: &Ready,
@@ -126,7 +129,7 @@ fn write_scans<F: Shelf, S: Sink>(
     Ok(())
 }
 
-// Reads the values of a scan, by its number, and appends its records.
+// Appends the records of a scan, by its number.
 fn write_scan<F: Shelf, S: Sink>(
     alloc: Global,
     ready: &Ready,
@@ -144,40 +147,83 @@ fn write_scan<F: Shelf, S: Sink>(
 {
     let plan = ready.plan.plan();
     let scan = &plan.scans.items()[number as usize];
-    let values = match ScanValues::load(
+    write_integrations(
         alloc,
-        shelf,
         plan,
         scan,
         &ready.recordings,
-        0,
-        scan.samples,
-    ) {
-        Ok(values) => values,
-        Err(fault) => return Err(WriteFault::Source(fault)),
-    };
-    write_values(&ready.plan, head, number, &values, buffer, out)
+        head,
+        number,
+        buffer,
+        shelf,
+        out,
+    )
 }
 
-// Appends the records of a scan, by its number, from its values.
-fn write_values<V: Values, S: Sink>(
-    plan: &Plan0,
+// Appends the records of each integration of a scan, whose number this is.
+fn write_integrations<F: Shelf, S: Sink>(
+    alloc: Global,
+    plan: &Plan,
+    scan: &ScanPlan,
+    recordings: &[Recording],
     head: &VisHead,
     number: u32,
-    values: &V,
     buffer: &mut [Cell],
+    shelf: &mut F,
     out: &mut S,
 ) -> Result<(), WriteFault<StreamFault>>
+    requires plan { IsPlan plan.now }
+    requires scan { slice_get plan.now.scans number ≡ Some scan.now }
+    requires named { AreNamed plan.now.stations recordings.now }
+    requires recorded { WhereTold (F.told shelf.old) (λ files. AreRecorded files plan.now.stations recordings.now) }
     requires head { head.now ≡ head_of plan.now }
-    requires inside { number < length plan.now.scans }
     requires room { widest head.now ≤ length buffer.old }
-    ensures appended { Appended (S.told out.old) (text_at head.now (cells_by plan.now (λ _. V.samples values.now)) number) (S.told out.new) result }
-    ensures counts { SinkCounts (S.faults out.old) (S.faults out.new) result }
-    ensures stage { IfErr result (λ fault. fault ≡ WriteFault.Sink) }
+    ensures { Writes (head_at plan.now) (cells_at plan.now) stays fails (λ of. flat_map (λ m. integration_at head.now number m (of number m)) (range_with_len 0 (integrations_of plan.now scan.now))) (state (F.told shelf.old) (F.faults shelf.old)) (state (F.told shelf.new) (F.faults shelf.new)) (S.told out.old) (S.told out.new) (S.faults out.old) (S.faults out.new) result }
 {
-    let mut source = OneScan { plan, values };
-    match write_scan_at(head, number, &mut source, buffer, out) {
-        Ok(()) => Ok(()),
-        Err(_) => Err(WriteFault::Sink),
+    for m in 0..scan.samples.div_ceil(plan.integration) {
+        write_integration(
+            alloc, plan, scan, recordings, head, number, m, buffer, shelf, out,
+        )?;
     }
+    Ok(())
+}
+
+// Sums integration `m` of a scan, and appends its records.
+fn write_integration<F: Shelf, S: Sink>(
+    alloc: Global,
+    plan: &Plan,
+    scan: &ScanPlan,
+    recordings: &[Recording],
+    head: &VisHead,
+    number: u32,
+    m: u64,
+    buffer: &mut [Cell],
+    shelf: &mut F,
+    out: &mut S,
+) -> Result<(), WriteFault<StreamFault>>
+    requires plan { IsPlan plan.now }
+    requires scan { slice_get plan.now.scans number ≡ Some scan.now }
+    requires inside { m < integrations_of plan.now scan.now }
+    requires named { AreNamed plan.now.stations recordings.now }
+    requires recorded { WhereTold (F.told shelf.old) (λ files. AreRecorded files plan.now.stations recordings.now) }
+    requires head { head.now ≡ head_of plan.now }
+    requires room { widest head.now ≤ length buffer.old }
+    ensures { Writes (head_at plan.now) (cells_at plan.now) stays fails (λ of. integration_at head.now number m (of number m)) (state (F.told shelf.old) (F.faults shelf.old)) (state (F.told shelf.new) (F.faults shelf.new)) (S.told out.old) (S.told out.new) (S.faults out.old) (S.faults out.new) result }
+{
+    let count = cell_count(plan, scan);
+    let cells = &mut buffer[..count];
+    match sum_integration(alloc, shelf, plan, scan, recordings, m, cells) {
+        Ok(()) => sunk(write_integration_at(head, number, m, cells, out)),
+        Err(fault) => Err(WriteFault::Source(fault)),
+    }
+}
+
+// How many cells an integration of a scan has.
+fn cell_count(plan: &Plan, scan: &ScanPlan) -> usize
+    requires plan { IsPlan plan.now }
+    requires scan { IsScanPlan plan.now scan.now }
+    ensures { result ≡ width_of plan.now scan.now }
+{
+    let records = plan.products.items().len() * scan.baselines.items().len();
+    records * plan.lags as usize
 }

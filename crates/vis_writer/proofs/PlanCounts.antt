@@ -1,7 +1,7 @@
 -- The cells of a plan are as many as its head says.
-use Rattle.std.specs.Prelude.{◌≡◌, ℕ, zero, suc, ◌*◌, ◌<◌, List, [], ◌∷◌, length, map, flat_map, slice_get, Option, Some, None, refl}
+use Rattle.std.specs.Prelude.{◌≡◌, ℕ, zero, suc, ◌*◌, ◌<◌, List, [], ◌∷◌, length, map, slice_get, Option, Some, None, refl}
 use Rattle.std.specs.Option.{option_map, option_map_or}
-use Rattle.std.proofs.Common.{sym, ap, ◌∙◌, arith, length-append}
+use Rattle.std.proofs.Common.{sym, ap, ◌∙◌, arith}
 use Rattle.std.proofs.lemmas.List.{length-map}
 use Rattle.std.proofs.lemmas.List.FromFn.{length-map-range_with_len}
 use Rattle.std.proofs.lemmas.Option.{slice_get-map, slice_get_within}
@@ -14,16 +14,7 @@ use Rattle.corr_model.specs.Records.{HeadScan}
 use Rattle.vis_writer.specs.Cells.{IsFull, integrations_at, integrations_of, cells_at}
 use Rattle.vis_writer.specs.Cells as counts
 use Rattle.vis_writer.specs.PlanCells.{cells_by, pair_of}
-use Rattle.vis_writer.specs.Writes.{Composes}
-
--- rows of one length
-pub length-rows : {A B : Type 0} (f : A → List B) (w : ℕ) (xs : List A) → ((x : A) → length (f x) ≡ w)
-    → length (flat_map f xs) ≡ length xs * w
-length-rows f w [] each = omega arith
-length-rows f w (x ∷ xs) each =
-    let one = each x in
-    let more = length-rows f w xs each in
-    length-append (f x) (flat_map f xs) ∙ omega (arith, one, more)
+use Rattle.vis_writer.proofs.Rows.{length-rows}
 
 length-integration_cells : (plan : Plan) (z : Samples) (scan : ScanPlan) (m : ℕ)
     → length (integration_cells plan z scan m) ≡ length plan.products * (length scan.baselines * plan.lags)
@@ -43,7 +34,7 @@ pub scan-seen : (plan : Plan) (number : ℕ) (scan : ScanPlan) → slice_get pla
     → slice_get (head_of plan).scans number ≡ Some (head_scan scan)
 scan-seen plan number scan there = slice_get-map head_scan plan.scans number ∙ ap (option_map head_scan) there
 
-pub scan-within : (plan : Plan) (number m : ℕ) → m < integrations_at (head_of plan) number → number < length plan.scans
+scan-within : (plan : Plan) (number m : ℕ) → m < integrations_at (head_of plan) number → number < length plan.scans
 scan-within plan number m inside = by (slice_get plan.scans number) refl
   where
     by : (o : Option ScanPlan) → slice_get plan.scans number ≡ o → number < length plan.scans
@@ -53,11 +44,6 @@ scan-within plan number m inside = by (slice_get plan.scans number) refl
         ap (λ (o : Option HeadScan). option_map_or (integrations_of (head_of plan)) o 0)
         (slice_get-map head_scan plan.scans number ∙ ap (option_map head_scan) there) in
         absurd (omega (arith, inside, none))
-
-pub scan-integrations : (plan : Plan) (number : ℕ) (scan : ScanPlan) → slice_get plan.scans number ≡ Some scan
-    → integrations_at (head_of plan) number ≡ integrations_of (head_of plan) (head_scan scan)
-scan-integrations plan number scan there =
-    ap (λ (o : Option HeadScan). option_map_or (integrations_of (head_of plan)) o 0) (scan-seen plan number scan there)
 
 pub scan-cells : (plan : Plan) (number : ℕ) (scan : ScanPlan) → slice_get plan.scans number ≡ Some scan
     → cells_at (head_of plan) number ≡ length plan.products * (length scan.baselines * plan.lags)
@@ -85,10 +71,3 @@ plan_full plan values = λ number m inside. by number m inside (slice_get plan.s
         ∙ length-integration_cells plan (values scan) scan m
         ∙ sym (scan-cells plan number scan there)
     by number m inside None there = absurd (some-within plan.scans number (scan-within plan number m inside) there)
-
-pub one_scan_composes : {C F : Type 0} → Composes {C = C} {F = F} (λ old new. new ≡ old) (λ old new fault. ⊥)
-one_scan_composes = record {
-  none = λ source. refl;
-  both = λ old mid new first second. second ∙ first;
-  last = λ old mid new fault first second. second;
-}

@@ -7,7 +7,7 @@ use Rattle.std.proofs.lemmas.List.Concat.{flat_map-append}
 use Rattle.std.proofs.lemmas.Grind.{fold-append}
 use Rattle.std.proofs.lemmas.Option.{slice_get_within, get_or_from_slice_get}
 use Rattle.std.proofs.lemmas.Slice.Eq.{bytes_eq-Decides}
-use Rattle.vex_reader.specs.File.{named, names, put}
+use Rattle.named_list.specs.Named.{named, names, put}
 use Rattle.vex_schedule.specs.declared.scan.Chan.{Chan}
 use Rattle.job_join.specs.declared.stands.Here.{Here}
 use Rattle.job_join.specs.Standing.{Stand, is_among}

@@ -1,7 +1,7 @@
 -- What a job and a schedule that are not refused give the plan.
 use Rattle.std.proofs.Common.{◌≡◌, ℕ, ◌/◌, ◌%◌, ◌^◌, ◌<◌, ◌≤◌, true, List, map, filter, All, None, ap, sym, ◌∙◌, subst}
 use Rattle.std.proofs.lemmas.List.Elements.{All-weaker}
-use Rattle.vex_reader.specs.File.{names}
+use Rattle.named_list.specs.Named.{names}
 use Rattle.job_plan.specs.declared.plan.StationPlan.{StationPlan}
 use Rattle.job_plan.specs.declared.plan.ProductPlan.{ProductPlan}
 use Rattle.job_plan.specs.declared.plan.ScanPlan.{ScanPlan}

@@ -5,7 +5,7 @@ use Rattle.std.proofs.lemmas.Bool.{not-false, eqb-true, ltb-true}
 use Rattle.std.proofs.lemmas.List.{length-map}
 use Rattle.std.proofs.lemmas.List.Elements.{All-head, All-tail, All-map, All-weaker}
 use Rattle.vdif_frame.specs.Shape.{IsShape, samples_per_frame}
-use Rattle.vex_reader.specs.File.{named}
+use Rattle.named_list.specs.Named.{named}
 use Rattle.job_plan.specs.Ranges.{IsRecorded, IsStation, IsProductPlan}
 use Rattle.job_text.specs.declared.places.ChanPlace.{ChanPlace}
 use Rattle.job_text.specs.Job.{JobFields, StationFields}

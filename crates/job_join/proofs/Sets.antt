@@ -4,7 +4,7 @@ use Rattle.std.specs.List.{list_any}
 use Rattle.std.proofs.lemmas.List.{get_or-map, length-map, map_more}
 use Rattle.std.proofs.lemmas.Option.{slice_get_within, get_or_from_slice_get}
 use Rattle.std.proofs.lemmas.Slice.Eq.{bytes_eq-Decides}
-use Rattle.vex_reader.specs.File.{named, names, put}
+use Rattle.named_list.specs.Named.{named, names, put}
 
 -- what stands under a name after one more is put there
 pub named-put : {A : Type 0} (xs : List (List ℕ × A)) (name q : List ℕ) (thing : A) → named (put xs name thing) q ≡ cond (bytes_eq name q) (Some thing) (named xs q)

@@ -1,8 +1,9 @@
 -- The plan of a job and a schedule, or why they do not go together.
+use Rattle.read_steps.specs.Steps as steps
 use Rattle.std.specs.Prelude.{◌≡◌, ◌⊎◌, ℕ, ◌/◌, nat_lt, unsigned_abs, List, [], ◌∷◌, length, map, filter, bytes_eq, Option, None, Some, option_map, unwrap_or, Result, Ok, Err}
 use Rattle.std.specs.List.{position}
 use Rattle.vdif_frame.specs.Shape.{samples_per_frame}
-use Rattle.vex_reader.specs.File.{named}
+use Rattle.named_list.specs.Named.{named}
 use Rattle.vex_schedule.specs.declared.scan.Chan.{Chan}
 use Rattle.vex_schedule.specs.declared.scan.Scan.{Scan}
 use Rattle.job_plan.specs.declared.plan.Recorded.{Recorded}
@@ -113,5 +114,4 @@ joined job scans = by (refusal_of job scans)
 
 -- what a call answers is the wanted answer, or want of memory
 abbrev pub Gives : Result Plan JoinFault → Result Plan JoinFault → Type 0
-Gives (Ok plan) wanted = wanted ≡ Ok plan
-Gives (Err fault) wanted = (fault ≡ Memory) ⊎ (wanted ≡ Err fault)
+Gives = steps.Gives Memory (λ x. x)

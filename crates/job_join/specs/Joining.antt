@@ -1,6 +1,6 @@
 -- A job and the scans of a schedule, as the program joins them.
 use Rattle.std.specs.Prelude.{◌≡◌, ℕ, List, [], ◌∷◌, map, max, fold, Option, option_map}
-use Rattle.vex_reader.specs.File.{names}
+use Rattle.named_list.specs.Named.{names}
 use Rattle.vex_schedule.specs.declared.scan.Scan.{Scan}
 use Rattle.job_text.specs.Job.{JobFields}
 use Rattle.job_text.specs.Ranges.{IsJob}

@@ -1,7 +1,7 @@
 //! The channels of a job, and its scans in which they differ.
 ghost use Rattle.std.specs.Prelude.{◌≡◌, ◌∷◌, [], ℕ, List, slice_get, flat_map, option_copied, IfOk, OnOk};
 ghost use Rattle.std.specs.List.{list_any, position};
-ghost use Rattle.vex_reader.specs.File.{names, put};
+ghost use Rattle.named_list.specs.Named.{names, put};
 ghost use Rattle.job_join.specs.declared.places.Place.{Place};
 ghost use Rattle.job_join.specs.declared.stands.Here.{Here};
 ghost use Rattle.job_join.specs.Channels.{first_uses, chan_with, same_side, is_same_band, differ, are_different};
@@ -10,8 +10,8 @@ ghost use Rattle.job_join.specs.Places.{stands_of, visit_of, chans_under, has_ot
 use crate::places::Place;
 use crate::stands::Here;
 use job_text::Pairs;
+use named_list::Named;
 use std::alloc::{AllocError, Global};
-use vex_reader::Named;
 use vex_schedule::{Chan, Pass};
 
 // Puts the channels of a product behind those that are there.

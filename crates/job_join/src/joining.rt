@@ -13,8 +13,8 @@ use crate::places::{Place, places_of, unknown_station};
 use crate::rates::{rate_differs, rate_of};
 use crate::takes::unknown_scan;
 use job_text::Job;
+use named_list::Named;
 use std::alloc::{AllocError, Global};
-use vex_reader::Named;
 use vex_schedule::Scan;
 
 /// A job, the scans of a schedule with the job's stations in them, the channels of the job's products in the order of

@@ -1,7 +1,7 @@
 //! The lists of a plan.
 ghost use Rattle.std.specs.Prelude.{◌≡◌, ◌<◌, ◌/◌, ◌^◌, ◌++◌, ◌∷◌, [], ℕ, List, map, length, bytes_eq, unwrap_or, if◌then◌else◌, IfOk, OnOk};
 ghost use Rattle.std.specs.List.{All, position};
-ghost use Rattle.vex_reader.specs.File.{named, names};
+ghost use Rattle.named_list.specs.Named.{named, names};
 ghost use Rattle.vdif_frame.specs.Shape.{samples_per_frame};
 ghost use Rattle.job_text.specs.Job.{StationFields};
 ghost use Rattle.job_text.specs.Ranges.{shape_of};
@@ -15,8 +15,8 @@ use crate::parts::{products, stations};
 use crate::plans::{station_plan, stay_plan};
 use crate::stands::Here;
 use job_plan::{BaselinePlan, ProductPlan, StationPlan, StayPlan};
+use named_list::Named;
 use std::alloc::{AllocError, Global};
-use vex_reader::Named;
 
 /// The stations of a plan.
 pub(crate) fn station_plans(alloc: Global, j: &Joining) -> Result<Vec<StationPlan>, AllocError>

@@ -1,12 +1,12 @@
 //! Names that stand in a set.
 ghost use Rattle.std.specs.Prelude.{◌≡◌, ◌||◌, ℕ, List, bytes_eq, is_some, OnOk, IfOk};
 ghost use Rattle.std.specs.List.{list_any};
-ghost use Rattle.vex_reader.specs.File.{named};
+ghost use Rattle.named_list.specs.Named.{named};
 ghost use Rattle.vex_schedule.specs.declared.scan.Scan.{Scan};
 ghost use Rattle.vex_schedule.specs.declared.scan.Pass.{Pass};
 
+use named_list::Named;
 use std::alloc::{AllocError, Global};
-use vex_reader::Named;
 use vex_schedule::{Pass, Scan};
 
 /// Puts a name into a set.

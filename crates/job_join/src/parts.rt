@@ -1,10 +1,10 @@
 //! The parts of a job.
 ghost use Rattle.std.specs.Prelude.{◌≡◌, ◌<◌};
-ghost use Rattle.vex_reader.specs.File.{names};
+ghost use Rattle.named_list.specs.Named.{names};
 ghost use Rattle.job_text.specs.Ranges.{IsJob};
 
 use job_text::{Job, Pairs, Station};
-use vex_reader::Named;
+use named_list::Named;
 
 /// The stations, in the order of their lines.
 pub(crate) fn stations(job: &Job) -> &[Station]

@@ -1,7 +1,7 @@
 //! The scans of a schedule, with the job's stations in them.
 ghost use Rattle.std.specs.Prelude.{◌≡◌, ◌||◌, ℕ, List, bytes_eq, is_some, not, map, IfOk, OnOk};
 ghost use Rattle.std.specs.List.{list_any, position};
-ghost use Rattle.vex_reader.specs.File.{named};
+ghost use Rattle.named_list.specs.Named.{named};
 ghost use Rattle.vex_schedule.specs.Sound.{IsScan, AreScans};
 ghost use Rattle.job_text.specs.Job.{StationFields};
 ghost use Rattle.job_join.specs.declared.places.Place.{Place};
@@ -12,8 +12,8 @@ use crate::parts::{stations, takes};
 use crate::stands::{Here, stands_in, station_numbers};
 use crate::takes::is_taken;
 use job_text::{Job, Station};
+use named_list::Named;
 use std::alloc::{AllocError, Global};
-use vex_reader::Named;
 use vex_schedule::Scan;
 
 /// A scan of the schedule: whether the job takes it, and the job's stations in it, in the job's order.

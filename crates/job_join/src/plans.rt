@@ -1,7 +1,7 @@
 //! The parts of a plan.
 ghost use Rattle.std.specs.Prelude.{◌≡◌, ◌<◌, ◌/◌, ◌^◌, ℕ, List, map, bytes_eq, option_copied, IfOk};
 ghost use Rattle.std.specs.List.{position};
-ghost use Rattle.vex_reader.specs.File.{named, names};
+ghost use Rattle.named_list.specs.Named.{named, names};
 ghost use Rattle.vdif_frame.specs.Shape.{samples_per_frame};
 ghost use Rattle.job_text.specs.Ranges.{shape_of};
 ghost use Rattle.job_join.specs.Spans.{first_sample, end_sample};
@@ -16,9 +16,9 @@ use crate::stands::{Here, number};
 use item_list::ItemList;
 use job_plan::{Band, Recorded, StationPlan, StayPlan};
 use job_text::Station;
+use named_list::Named;
 use num_time::Name;
 use std::alloc::{AllocError, Global};
-use vex_reader::Named;
 use vex_schedule::{Chan, Pass};
 
 // Where a station records a channel.

@@ -2,7 +2,7 @@
 ghost use Rattle.std.specs.Prelude.{◌≡◌, ◌++◌, [], true, map, filter, unsigned_abs, if◌then◌else◌, IfOk, OnOk};
 ghost use Rattle.std.specs.List.{All};
 ghost use Rattle.num_time.specs.Times.{IsSecond};
-ghost use Rattle.vex_reader.specs.File.{names};
+ghost use Rattle.named_list.specs.Named.{names};
 ghost use Rattle.job_join.specs.Standing.{taken};
 ghost use Rattle.job_join.specs.Joined.{scan_plan};
 ghost use Rattle.job_join.specs.Joining.{scans_of, IsJoining};

@@ -1,13 +1,13 @@
 //! The scans that a job takes.
 ghost use Rattle.std.specs.Prelude.{◌≡◌, IfOk};
-ghost use Rattle.vex_reader.specs.File.{names};
+ghost use Rattle.named_list.specs.Named.{names};
 ghost use Rattle.job_join.specs.Standing.{is_taken, unknown_scan};
 
 use crate::names::scan_names;
 use crate::parts::takes;
 use job_text::Job;
+use named_list::Named;
 use std::alloc::{AllocError, Global};
-use vex_reader::Named;
 use vex_schedule::Scan;
 
 /// The first take that names no scan.

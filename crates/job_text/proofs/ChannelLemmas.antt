@@ -3,7 +3,7 @@ use Rattle.std.proofs.Common.{◌≡◌, ℕ, zero, suc, ◌<◌, Bool, true, fa
 use Rattle.std.specs.List.{All}
 use Rattle.std.proofs.lemmas.List.Folds.{list_any-append}
 use Rattle.std.proofs.lemmas.List.Elements.{All-head, All-tail, All-push, All-set}
-use Rattle.vex_reader.specs.File.{named, put}
+use Rattle.named_list.specs.Named.{named, put}
 use Rattle.job_text.specs.declared.places.ChanPlace.{ChanPlace}
 use Rattle.job_text.specs.Job.{StationFields}
 use Rattle.job_text.specs.Ranges.{IsName, IsStationOf, IsChanOf}

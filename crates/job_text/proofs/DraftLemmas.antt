@@ -1,7 +1,7 @@
 -- Rows that a draft takes.
 use Rattle.std.proofs.Common.{◌≡◌, ◌⊎◌, ℕ, ◌++◌, Bool, true, false, not, ◌&&◌, List, [], ◌∷◌, Option, Some, None, Result, Ok, Err, is_some, option_to_list, refl, sym, ap, ◌∙◌}
 use Rattle.job_lines.specs.declared.word.Word.TheVariants.{Lags, Integration, Epoch, Knot, Auto, Station, File, Chan, Clock, Poly, Product, Take, Rate, Scan, Band}
-use Rattle.vex_reader.specs.File.{named, names, put}
+use Rattle.named_list.specs.Named.{named, names, put}
 use Rattle.job_text.specs.declared.fault.JobKind.{JobKind}
 use Rattle.job_text.specs.declared.fault.JobKind.TheVariants.{Unknown, Double, Memory}
 use Rattle.job_text.specs.declared.places.ScanSpan.{ScanSpan}

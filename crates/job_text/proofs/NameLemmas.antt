@@ -5,7 +5,7 @@ use Rattle.std.specs.List.{list_any}
 use Rattle.std.proofs.lemmas.Cmp.{nat_list_eq_equiv}
 use Rattle.std.proofs.lemmas.Slice.Eq.{bytes_eq-Decides}
 use Rattle.std.proofs.lemmas.List.{map_push}
-use Rattle.vex_reader.specs.File.{named, names, put}
+use Rattle.named_list.specs.Named.{named, names, put}
 
 pub same_name : (name : List ℕ) → bytes_eq name name ≡ true
 same_name = nat_list_eq_equiv.refl

@@ -1,4 +1,5 @@
 -- The job of a text, or the first fault.
+use Rattle.read_steps.specs.Steps as steps
 use Rattle.std.specs.Prelude.{◌≡◌, ◌⊎◌, ℕ, ◌+◌, Bool, ◌&&◌, ◌||◌, not, nat_lt, if◌then◌else◌, is_some, List, [], ◌∷◌, ◌++◌, length, filter_map, option_to_list, Option, Some, None, unwrap_or, ok_or, Result, Ok, Err}
 use Rattle.std.specs.Str.Lines.{lines}
 use Rattle.job_lines.specs.Rows.{Row, row_of}
@@ -69,8 +70,7 @@ out_of_memory = record { kind = Memory; line = 0 }
 
 -- what a call answers is the wanted answer, or want of memory
 abbrev pub Gives : Result JobFields JobFault → Result JobFields JobFault → Type 0
-Gives (Ok job) wanted = wanted ≡ Ok job
-Gives (Err fault) wanted = (fault ≡ out_of_memory) ⊎ (wanted ≡ Err fault)
+Gives = steps.Gives out_of_memory (λ x. x)
 
 -- the lines of a text were read: this is what they say; or one was refused, and its fault is the first
 abbrev pub Reads : Bool → List (List ℕ) → Result (Unit {0}) JobFault → Said → Type 0

@@ -3,7 +3,7 @@ use Rattle.std.specs.Prelude.{ℕ, ◌^◌, Bool, false, not, ◌&&◌, if◌the
 use Rattle.std.specs.Option.{option_map_or}
 use Rattle.std.specs.List.{list_any}
 use Rattle.std.specs.Ordering.{int_eq}
-use Rattle.vex_reader.specs.File.{named}
+use Rattle.named_list.specs.Named.{named}
 use Rattle.job_lines.specs.Words.{word_of, is_inline, needed, further, are_written}
 use Rattle.job_lines.specs.Rows.{is_clean, fields_of}
 use Rattle.job_lines.specs.declared.word.Word.{Word}

@@ -1,7 +1,7 @@
 -- The places of stations by their keys.
 use Rattle.std.specs.Prelude.{◌≡◌, ℕ, ◌<◌, List, length, slice_index_or, Some, is_some}
 use Rattle.std.specs.List.{All}
-use Rattle.vex_reader.specs.File.{named}
+use Rattle.named_list.specs.Named.{named}
 use Rattle.job_text.specs.Job.{StationFields}
 use Rattle.job_text.specs.Ranges.{IsStationOf}
 use Rattle.job_text.specs.Faults.{has_channel}

@@ -7,7 +7,7 @@ use Rattle.job_lines.specs.declared.word.Word.TheVariants.{Product, Scan}
 use Rattle.job_text.specs.Values.{field, scan_in}
 use Rattle.job_text.specs.Said.{Said}
 use Rattle.job_text.specs.Ranges.{IsName, IsSpan, AreDistinct}
-use Rattle.vex_reader.specs.File.{names}
+use Rattle.named_list.specs.Named.{names}
 
 -- the numbers are in their ranges, and so is what the scans and the bands say
 pub record IsSaid (said : Said) : Type 0 where

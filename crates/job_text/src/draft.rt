@@ -1,7 +1,7 @@
 //! What the lines of a job so far say.
 ghost use Rattle.std.specs.Prelude.{◌≡◌, ◌&&◌, true, ◌++◌, [], map, is_some, IfSome, OnOk, option_map, option_to_list};
 ghost use Rattle.std.specs.Str.{IsUtf8};
-ghost use Rattle.vex_reader.specs.File.{named};
+ghost use Rattle.named_list.specs.Named.{named};
 ghost use Rattle.job_lines.specs.declared.word.Word.TheVariants.{Lags, Integration, Epoch, Knot, Auto, Station, File, Chan, Clock, Poly, Product, Take, Rate, Scan, Band as BandWord};
 ghost use Rattle.std.specs.List.{All};
 ghost use Rattle.job_text.specs.Ranges.{IsName, IsSpan, IsStationOf, IsJob, AreDistinct};
@@ -21,10 +21,10 @@ use crate::places::{Band, ScanSpan};
 use crate::stations::Stations;
 use crate::values::{band_in, epoch_in, field, integration_in, knot_in, lags_in, rate_in, scan_in};
 use job_lines::Word;
+use named_list::Named;
 use std::alloc::Global;
 use std::marker::Model;
 use std::mem;
-use vex_reader::Named;
 
 /// What the lines of a job so far say. After a fault it is not used again.
 #[derive(Drop)]
@@ -43,7 +43,7 @@ pub(crate) struct Draft {
 }
 
 impl Model for Draft {
-    ghost use Rattle.vex_reader.specs.File.{names};
+    ghost use Rattle.named_list.specs.Named.{names};
     ghost use Rattle.job_text.specs.Said.{Said};
 
     ghost Value = { Said };

@@ -6,9 +6,9 @@ use crate::job::Job;
 use crate::places::{Band, ScanSpan};
 use crate::station::Station;
 use item_list::ItemList;
+use named_list::Named;
 use num_time::Name;
 use std::alloc::{AllocError, Global};
-use vex_reader::Named;
 use vex_schedule::{Chan, ChanList, Pass, Scan, ScanList};
 
 // A band as a channel.

@@ -2,8 +2,8 @@
 use crate::pairs::Pairs;
 use crate::places::{Band, ScanSpan};
 use crate::stations::Stations;
+use named_list::Named;
 use std::marker::Model;
-use vex_reader::Named;
 
 /// A job: the number of lags, the samples of an integration and of an epoch and from one knot of a delay
 /// to the next, and whether a station is correlated with itself. A job that states its scans itself has a
@@ -26,7 +26,7 @@ pub struct Job {
 }
 
 impl Model for Job {
-    ghost use Rattle.vex_reader.specs.File.{names};
+    ghost use Rattle.named_list.specs.Named.{names};
     ghost use Rattle.job_text.specs.Job.{JobFields};
     ghost use Rattle.job_text.specs.Ranges.{IsJob};
 

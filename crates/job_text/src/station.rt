@@ -3,7 +3,7 @@ ghost use Rattle.std.specs.Prelude.{◌≡◌, ◌^◌, ◌≤◌, ◌++◌, ◌
 ghost use Rattle.job_text.specs.Values.{field, station_in};
 ghost use Rattle.job_text.specs.Faults.{is_taken, chan_fault, clock_fault, poly_fault};
 ghost use Rattle.job_text.specs.Growing.{Takes, with_file, with_chan, with_clock, with_poly};
-ghost use Rattle.vex_reader.specs.File.{named};
+ghost use Rattle.named_list.specs.Named.{named};
 ghost use Rattle.num_time.specs.Times.{IsSecond};
 ghost use Rattle.std.specs.Str.{IsUtf8};
 ghost use Rattle.corr_model.specs.Delay.{IsClock};
@@ -16,11 +16,11 @@ use crate::frame::frame_in;
 use crate::places::ChanPlace;
 use crate::values::{chan_in, clock_in, field, poly_in, second_of};
 use delay_poly::{PolyEntry, PolyList};
+use named_list::Named;
 use num_time::Name;
 use station_clock::{ClockEntry, ClockList};
 use std::alloc::{AllocError, Global};
 use std::marker::Model;
-use vex_reader::Named;
 
 /// A station: its key, and what all its frames have alike. `bits` is the number of bits in a sample,
 /// the number of channels two to the power `chans_log2`, `frame_bytes` a frame's length with its header.

@@ -10,9 +10,9 @@ ghost use Rattle.job_text.specs.Growing.{Grows, changed, with_file, with_chan, w
 use crate::fault::JobKind;
 use crate::station::Station;
 use crate::values::field;
+use named_list::Named;
 use std::alloc::{AllocError, Global};
 use std::marker::Model;
-use vex_reader::Named;
 
 /// The stations of a job, in the order of their lines. Each is found by its key.
 #[derive(Drop)]

@@ -7,10 +7,11 @@ use Rattle.std.proofs.lemmas.List.Elements.{All-map}
 use Rattle.vex_reader.specs.declared.file.Block.{Block}
 use Rattle.vex_reader.specs.declared.file.VexFile.{VexFile}
 use Rattle.vex_reader.specs.Counts.{HasAtMostScans}
-use Rattle.vex_reader.specs.File.{named}
+use Rattle.named_list.specs.Named.{named}
 use Rattle.vex_schedule.specs.declared.fault.SchedKind.TheVariants.{NoSched}
 use Rattle.vex_schedule.specs.declared.scan.Scan.{Scan}
-use Rattle.vex_schedule.specs.Answers.{◌>>=◌, given}
+use Rattle.read_steps.specs.Steps.{◌>>=◌}
+use Rattle.vex_schedule.specs.Answers.{given}
 use Rattle.vex_schedule.specs.Schedule.{schedule_of, scans_of}
 use Rattle.job_plan.specs.declared.plan.ScanPlan.{ScanPlan}
 use Rattle.job_plan.specs.declared.plan.StationPlan.{StationPlan}

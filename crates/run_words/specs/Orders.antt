@@ -1,4 +1,5 @@
 -- The order that words give, or the first fault.
+use Rattle.read_steps.specs.Steps as steps
 use Rattle.std.specs.Prelude.{◌≡◌, ◌⊎◌, ⊤, ℕ, ◌^◌, ◌-◌, List, [], ◌∷◌, Option, Result, Ok, Err, IfSome, codes, bytes_eq, if◌then◌else◌}
 use Rattle.std.specs.Option.{option_map_or}
 use Rattle.std.specs.Str.{IsUtf8}
@@ -81,8 +82,7 @@ order_of (command ∷ words) = order_after command words
 
 -- the answer is the wanted one, or want of memory
 abbrev pub Gives : {X : Type 0} → Result X WordsFault → Result X WordsFault → Type 0
-Gives (Ok x) wanted = wanted ≡ Ok x
-Gives (Err fault) wanted = (fault ≡ Memory) ⊎ (wanted ≡ Err fault)
+Gives = steps.Gives Memory (λ x. x)
 
 -- the names of an order are texts
 abbrev pub AreTexts : Order → Type 0

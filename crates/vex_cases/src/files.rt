@@ -1,7 +1,8 @@
 //! Files, as they are printed.
 
+use named_list::Named;
 use std::alloc::{AllocError, Global};
-use vex_reader::{Item, Named, Statement, VexFile};
+use vex_reader::{Item, Statement, VexFile};
 
 /// A text, with bytes that are no printable ASCII as `\x` and two digits.
 pub fn put_text(alloc: Global, out: &mut String, text: &[u8]) -> Result<(), AllocError> {

@@ -5,17 +5,20 @@ use Rattle.vex_reader.specs.declared.file.Item.{Item}
 use Rattle.vex_reader.specs.declared.file.Block.{Block}
 use Rattle.vex_reader.specs.declared.file.Statement.{Statement}
 use Rattle.vex_reader.specs.declared.file.VexFile.{VexFile}
-use Rattle.vex_reader.specs.File.{named}
+use Rattle.named_list.specs.Named.{named}
 use Rattle.vex_schedule.specs.declared.fault.SchedKind.TheVariants.{NoSched, DoubleStatement, UnknownRef, BadValue, StationTwice, BadRange}
 use Rattle.vex_schedule.specs.declared.fault.SchedFault.{SchedFault}
 use Rattle.vex_schedule.specs.declared.scan.Chan.{Chan}
-use Rattle.vex_schedule.specs.Answers.{fault, given, in_turn}
+use Rattle.read_steps.specs.Steps.{in_turn}
+use Rattle.vex_schedule.specs.Answers.{fault, given}
 use Rattle.vex_schedule.specs.Statements.{has_key, only, is_setup}
 use Rattle.vex_schedule.specs.Values.{is_name, word_at, only_word, start_in, rate_in, stay_in, chan_in}
 use Rattle.vex_schedule.specs.Schedule.{is_in_order, def_of, start_of, mode_of, stay_of, stays_of, setup_rate, chan_of, chans_of, setup_in, setup_at, setup_of, pass_of, passes_of, scan_of, scans_of, schedule_of}
 use Rattle.vex_laws.specs.Stands.{HasScan}
 use Rattle.vex_laws.specs.Causes.{Observes, SetsUp, IsSetup, WantsOne, one_start, one_mode, one_ref, one_rate, HasForm, start_form, mode_form, station_form, ref_form, rate_form, chan_form, mode_def, ref_def, IsBadForm, IsCause, HasCause}
-use Rattle.vex_laws.proofs.Steps.{Stay, with_chans, with_rate, mode_named, mode_said, setup_named, with_setup, with_passes, with_stays, with_mode, with_second, Contains-middle, given-ok, only-ok, bind-ok, bind-faults, given-faults, only-faults, in_turn-faults, says_again}
+use Rattle.read_steps.proofs.StepLemmas.{bind-ok}
+use Rattle.vex_schedule.proofs.Given.{given-ok}
+use Rattle.vex_laws.proofs.Steps.{Stay, with_chans, with_rate, mode_named, mode_said, setup_named, with_setup, with_passes, with_stays, with_mode, with_second, Contains-middle, only-ok, bind-faults, given-faults, only-faults, in_turn-faults, says_again}
 
 -- a station that was read, and a channel, are what their statements say
 stay-says : (before : List Stay) (s : Statement) (stay : Stay) → stay_of before s ≡ Ok stay → stay_in s.values ≡ Some stay

@@ -6,11 +6,12 @@ use Rattle.vex_reader.specs.declared.file.Item.{Item}
 use Rattle.vex_reader.specs.declared.file.Block.{Block}
 use Rattle.vex_reader.specs.declared.file.Statement.{Statement}
 use Rattle.vex_reader.specs.declared.file.VexFile.{VexFile}
-use Rattle.vex_reader.specs.File.{named}
+use Rattle.named_list.specs.Named.{named}
 use Rattle.vex_schedule.specs.declared.fault.SchedKind.{SchedKind}
 use Rattle.vex_schedule.specs.declared.fault.SchedKind.TheVariants.{NoSched, UnknownRef, BadValue}
 use Rattle.vex_schedule.specs.declared.fault.SchedFault.{SchedFault}
-use Rattle.vex_schedule.specs.Answers.{◌>>=◌, fault, given, in_turn, seen}
+use Rattle.read_steps.specs.Steps.{◌>>=◌, in_turn, seen}
+use Rattle.vex_schedule.specs.Answers.{fault, given}
 use Rattle.vex_schedule.specs.Statements.{has_key, only, covers, is_some_text, is_setup}
 use Rattle.vex_schedule.specs.Values.{is_name, word_at, only_word, start_in, rate_in}
 use Rattle.vex_schedule.specs.Schedule.{def_of, start_of, mode_of, stay_of, stays_of, setup_rate, chan_of, chans_of, setup_in, setup_at, setup_of, pass_of, passes_of, scan_of, scans_of, schedule_of}

@@ -21,7 +21,7 @@ use Rattle.vex_reader.specs.declared.shape.ItemKind.{ItemKind}
 use Rattle.vex_reader.specs.declared.shape.ItemKind.TheVariants.{Def, Scan}
 use Rattle.vex_reader.specs.declared.shape.Shape.{Shape}
 use Rattle.vex_reader.specs.declared.shape.Shape.TheVariants.{Blank, Block as BlockShape, Begin, End, Entry, Other, Bad}
-use Rattle.vex_reader.specs.File.{named}
+use Rattle.named_list.specs.Named.{named}
 use Rattle.vex_reader.specs.Shapes.{is_sign}
 use Rattle.vex_reader.specs.Reading.{Place, Before, Outside, InBlock, InItem, State, start, is_revision, is_kind, block_at, items_of, double, fault_at, fault_of, after, closed, ended, place_of, shape_at, unless, reading_from, reading}
 use Rattle.vex_laws.specs.Places.{EndWithSemicolon, BeginsStatement, IsLexPlace, IsPlace, HasPlacedFault}

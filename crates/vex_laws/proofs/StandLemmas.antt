@@ -13,7 +13,9 @@ use Rattle.vex_schedule.specs.Schedule.{def_of, mode_of}
 use Rattle.vex_schedule.specs.Laws.{IsTheOne}
 use Rattle.vex_laws.specs.Stands.{HasScan, HasItem, BeginsAt, HasPlace}
 use Rattle.vex_laws.specs.Causes.{Observes, SetsUp, IsSetup, WantsOne, one_start, one_mode, one_ref, one_rate, HasForm, start_form, mode_form, station_form, ref_form, rate_form, chan_form, NamesDef, mode_def, ref_def, IsCause}
-use Rattle.vex_laws.proofs.Steps.{mode_named, mode_said, given-ok, bind-ok, Contains-middle, Contains-first, Contains-behind, Contains-one}
+use Rattle.read_steps.proofs.StepLemmas.{bind-ok}
+use Rattle.vex_schedule.proofs.Given.{given-ok}
+use Rattle.vex_laws.proofs.Steps.{mode_named, mode_said, Contains-middle, Contains-first, Contains-behind, Contains-one}
 use Rattle.vex_laws.proofs.CauseLemmas.{cause_at_place}
 
 Contains-filter : {A : Type 0} (p : A → Bool) (xs : List A) (y : A) → Contains (filter p xs) y → Contains xs y

@@ -13,7 +13,9 @@ use Rattle.vex_schedule.specs.declared.fault.SchedFault.{SchedFault}
 use Rattle.vex_schedule.specs.declared.scan.Chan.{Chan}
 use Rattle.vex_schedule.specs.declared.scan.Pass.{Pass}
 use Rattle.vex_schedule.specs.declared.scan.Scan.{Scan}
-use Rattle.vex_schedule.specs.Answers.{◌>>=◌, fault, given, in_turn}
+use Rattle.read_steps.specs.Steps.{◌>>=◌, in_turn}
+use Rattle.read_steps.proofs.StepLemmas.{bind-ok}
+use Rattle.vex_schedule.specs.Answers.{fault, given}
 use Rattle.vex_schedule.specs.Statements.{only}
 use Rattle.vex_schedule.specs.Values.{only_word, stay_in}
 use Rattle.vex_schedule.specs.Schedule.{def_of, mode_of, stays_of, chans_of, Part, setup_in, passes_of}
@@ -75,19 +77,11 @@ Contains-none : {A : Type 0} (y : A) → Contains [] y → ⊥
 Contains-none y there = let less = there.1 in omega arith
 
 -- what a step gave
-pub given-ok : {A : Type 0} (o : Option A) (kind : SchedKind) (at : ℕ) (x : A) → given o kind at ≡ Ok x → o ≡ Some x
-given-ok (Some y) kind at x is = cc
-given-ok None kind at x is = absurd cc
-
 pub only-ok : (at : ℕ) (xs : List Statement) (x : Statement) → only at xs ≡ Ok x → xs ≡ x ∷ []
 unfolding only
 only-ok at [] x is = absurd cc
 only-ok at (y ∷ []) x is = cc
 only-ok at (y ∷ z ∷ more) x is = absurd cc
-
-pub bind-ok : {A B : Type 0} (r : Result A SchedFault) (f : A → Result B SchedFault) (y : B) → (r >>= f) ≡ Ok y → (x : A) × (r ≡ Ok x) × (f x ≡ Ok y)
-bind-ok (Ok x) f y is = (x, refl, is)
-bind-ok (Err e) f y is = absurd cc
 
 module _ (P : SchedFault → Type 0) where
   -- each fault has a property, where each step's has

@@ -20,12 +20,12 @@ use Rattle.vex_reader.specs.declared.shape.ItemKind.{ItemKind}
 use Rattle.vex_reader.specs.declared.shape.ItemKind.TheVariants.{Def, Scan}
 use Rattle.vex_reader.specs.declared.shape.Shape.{Shape}
 use Rattle.vex_reader.specs.declared.shape.Shape.TheVariants.{Blank, Block as BlockShape, Begin, End, Entry, Other, Bad}
-use Rattle.vex_reader.specs.File.{named, put}
+use Rattle.named_list.specs.Named.{named, put}
 use Rattle.vex_reader.specs.Grammar.{Answers}
 use Rattle.vex_reader.specs.Counts.{HasAtMostScans}
 use Rattle.vex_reader.specs.Shapes.{is_sign}
 use Rattle.vex_reader.specs.Reading.{Place, Before, Outside, InBlock, InItem, State, start, empty_block, block_at, changed, with_loose, with_item, after_at, after, closed, ended, place_of, shape_at, fault_of, unless, reading_from, reading}
-use Rattle.vex_reader.proofs.NamedLemmas.{named-put_at}
+use Rattle.named_list.proofs.NamedLemmas.{named-put_at}
 
 -- each token has a byte of its own
 tokens_fit_from : (text : List ℕ) (from : ℕ) (tokens : List Token) → All (λ token. 0 < token.len) tokens → All (λ token. token.at + token.len ≤ length text) tokens

@@ -1,4 +1,3 @@
-pub mod NamedLemmas
 mod PartLemmas
 mod ReadingLemmas
 mod AnswerLemmas

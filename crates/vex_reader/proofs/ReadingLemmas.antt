@@ -7,10 +7,10 @@ use Rattle.vex_lex.specs.declared.token.TokenKind.TheVariants.{Semicolon}
 use Rattle.vex_reader.specs.declared.fault.VexFault.{VexFault}
 use Rattle.vex_reader.specs.declared.file.Block.{Block}
 use Rattle.vex_reader.specs.declared.file.VexFile.{VexFile}
-use Rattle.vex_reader.specs.File.{put}
+use Rattle.named_list.specs.Named.{put}
 use Rattle.vex_reader.specs.Shapes.{is_sign}
 use Rattle.vex_reader.specs.Reading.{State, block_at, empty_block, changed, fault_of, after, ended, place_of, shape_at, unless, if_last, reading_from}
-use Rattle.vex_reader.proofs.NamedLemmas.{named-put, put-put}
+use Rattle.named_list.proofs.NamedLemmas.{named-put, put-put}
 use Rattle.vex_reader.proofs.PartLemmas.{some_token, slice_split-last}
 
 -- the block that is open

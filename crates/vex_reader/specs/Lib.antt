@@ -1,5 +1,4 @@
 pub mod Fault
-pub mod File
 pub mod Shapes
 pub mod Reading
 pub mod ReadingState

@@ -14,7 +14,7 @@ use Rattle.vex_reader.specs.declared.shape.ItemKind.{ItemKind}
 use Rattle.vex_reader.specs.declared.shape.ItemKind.TheVariants.{Def, Scan}
 use Rattle.vex_reader.specs.declared.shape.Shape.{Shape}
 use Rattle.vex_reader.specs.declared.shape.Shape.TheVariants.{Blank, Block as BlockShape, Begin, End, Entry, Other, Bad}
-use Rattle.vex_reader.specs.File.{named, put}
+use Rattle.named_list.specs.Named.{named, put}
 use Rattle.vex_reader.specs.Shapes.{mark_of, shape_of, is_sign}
 
 -- Where a text's reading stands: no statement has counted yet; before any block; in the block of a name; in a def or scan

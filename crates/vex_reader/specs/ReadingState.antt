@@ -4,7 +4,7 @@ use Rattle.vex_reader.specs.declared.file.Block.{Block}
 use Rattle.vex_reader.specs.declared.reading.Reading.{Reading}
 use Rattle.vex_reader.specs.declared.reading.Place.{Place as ProgramPlace}
 use Rattle.vex_reader.specs.declared.reading.Place.TheVariants.{Before as AtBefore, Outside as AtOutside, InBlock as AtBlock, InItem as AtItem}
-use Rattle.vex_reader.specs.File.{put}
+use Rattle.named_list.specs.Named.{put}
 use Rattle.vex_reader.specs.Reading.{Place, Before, Outside, InBlock, InItem, State}
 
 -- The place, with the open block by its name.

@@ -1,6 +1,6 @@
 // What a text stands for.
-use crate::named::Named;
 use item_list::ItemList;
+use named_list::Named;
 use num_time::Name;
 
 /// A value: its words and quoted texts in their order, none where it is blank. A quoted text has both its quotes, so

@@ -1,16 +1,16 @@
 // What the statements of a text say, one after another.
 ghost use Rattle.std.specs.Prelude.{◌≡◌, ◌<◌, IfOk, MatchResult, Result};
 ghost use Rattle.vex_reader.specs.Fault.{out_of_memory};
-ghost use Rattle.vex_reader.specs.File.{put};
+ghost use Rattle.named_list.specs.Named.{put};
 ghost use Rattle.vex_reader.specs.Reading.{State, Outside, InBlock, InItem, start, is_one_word, is_revision, items_of, double, outside_fault, block_fault, item_fault, fault_of, with_loose, with_item, with_statement, empty_block, changed, after, after_at, closed, ended};
 ghost use Rattle.vex_reader.specs.Grammar.{Answers};
 ghost use Rattle.vex_reader.specs.ReadingState.{state_of};
 
 use crate::fault::{VexFault, VexKind};
 use crate::file::{Block, Item, Statement, VexFile};
-use crate::named::Named;
 use crate::shape::{ItemKind, Shape};
 use item_list::ItemList;
+use named_list::Named;
 use num_time::Name;
 use std::alloc::{AllocError, Global};
 use vex_lex::Token;

@@ -10,8 +10,8 @@ use Rattle.std.proofs.lemmas.Option.{get_or_from_slice_get}
 use Rattle.std.proofs.lemmas.Slice.Eq.{bytes_eq-Decides}
 use Rattle.vex_reader.specs.declared.file.Item.{Item}
 use Rattle.vex_reader.specs.declared.file.Statement.{Statement}
-use Rattle.vex_reader.specs.File.{named, put}
-use Rattle.vex_reader.proofs.NamedLemmas.{named-put_at}
+use Rattle.named_list.specs.Named.{named, put}
+use Rattle.named_list.proofs.NamedLemmas.{named-put_at}
 use Rattle.vex_schedule.specs.declared.covering.Found.{Found}
 use Rattle.vex_schedule.specs.declared.covering.Found.TheVariants.{Nowhere, Once, Often}
 use Rattle.vex_schedule.specs.declared.covering.Covering.{Covering}

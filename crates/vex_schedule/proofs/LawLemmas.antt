@@ -9,7 +9,7 @@ use Rattle.std.proofs.lemmas.Slice.Eq.{bytes_eq-Decides}
 use Rattle.vex_reader.specs.declared.file.Item.{Item}
 use Rattle.vex_reader.specs.declared.file.Statement.{Statement}
 use Rattle.vex_reader.specs.declared.file.VexFile.{VexFile}
-use Rattle.vex_reader.specs.File.{named}
+use Rattle.named_list.specs.Named.{named}
 use Rattle.vex_schedule.specs.declared.fault.SchedKind.{SchedKind}
 use Rattle.vex_schedule.specs.declared.fault.SchedKind.TheVariants.{NoSched, DoubleStatement, UnknownRef, BadValue, StationTwice, BadRange}
 use Rattle.vex_schedule.specs.declared.fault.SchedFault.{SchedFault}
@@ -17,28 +17,16 @@ use Rattle.vex_schedule.specs.declared.scan.Chan.{Chan}
 use Rattle.vex_schedule.specs.declared.scan.Pass.{Pass}
 use Rattle.vex_schedule.specs.declared.scan.Scan.{Scan}
 use Rattle.vex_schedule.specs.declared.stay.Stay.{Stay}
-use Rattle.vex_schedule.specs.Answers.{◌>>=◌, fault, given, in_turn}
+use Rattle.read_steps.specs.Steps.{◌>>=◌, in_turn}
+use Rattle.read_steps.proofs.StepLemmas.{bind-ok, bind-to}
+use Rattle.vex_schedule.proofs.Given.{given-ok, given-to}
+use Rattle.vex_schedule.specs.Answers.{fault, given}
 use Rattle.vex_schedule.specs.Statements.{has_key, only, is_setup}
 use Rattle.vex_schedule.specs.Values.{is_name, word_at, only_word, offset_at, start_in, rate_in, stay_in, chan_in}
 use Rattle.vex_schedule.specs.Schedule.{is_in_order, def_of, start_of, mode_of, stay_of, stays_of, setup_rate, chan_of, chans_of, Part, setup_in, setup_at, setup_of, pass_of, passes_of, scan_of, scans_of, schedule_of}
 use Rattle.vex_schedule.specs.Laws.{IsStart, IsMode, IsStayOf, IsSetupOf, IsPassOf, IsScanOf, AreScansOf, LaterValuesDoNotCount}
 use Rattle.vex_schedule.proofs.Names.{names-push}
 use Rattle.vex_schedule.proofs.Reading.{stay_of-new, chan_of-new}
-
--- a step that gives something, and the step behind it
-bind-from : {A B : Type 0} (r : Result A SchedFault) (f : A → Result B SchedFault) (y : B) → (r >>= f) ≡ Ok y → (x : A) × (r ≡ Ok x) × (f x ≡ Ok y)
-bind-from (Ok x) f y is = (x, refl, is)
-bind-from (Err e) f y is = absurd cc
-
-bind-to : {A B : Type 0} (r : Result A SchedFault) (f : A → Result B SchedFault) (x : A) (y : B) → r ≡ Ok x → f x ≡ Ok y → (r >>= f) ≡ Ok y
-bind-to r f x y one two = rw one two
-
-given-from : {A : Type 0} (o : Option A) (kind : SchedKind) (at : ℕ) (x : A) → given o kind at ≡ Ok x → o ≡ Some x
-given-from (Some y) kind at x is = cc
-given-from None kind at x is = absurd cc
-
-given-to : {A : Type 0} (o : Option A) (kind : SchedKind) (at : ℕ) (x : A) → o ≡ Some x → given o kind at ≡ Ok x
-given-to o kind at x is = rw is refl
 
 only-from : (at : ℕ) (xs : List Statement) (x : Statement) → only at xs ≡ Ok x → xs ≡ x ∷ []
 unfolding only
@@ -61,7 +49,7 @@ turns-from : {A B : Type 0} (read : List B → A → Result B SchedFault) (befor
     → (ys : List B) × (all ≡ before ++ ys) × Turns read before xs ys
 turns-from read before [] all is = ([], (let same : before ≡ all = cc in sym same ∙ sym (append-nil before)), tt)
 turns-from {A} {B} read before (x ∷ xs) all is =
-    let first = bind-from (read before x) (λ y. in_turn read (before ++ y ∷ []) xs) all is in
+    let first = bind-ok (read before x) (λ y. in_turn read (before ++ y ∷ []) xs) all is in
     let behind = turns-from read (before ++ first.0 ∷ []) xs all first.2 in
     (first.0 ∷ behind.0, behind.1 ∙ append_assoc before (first.0 ∷ []) behind.0, (first.1, behind.2))
 
@@ -156,8 +144,8 @@ module _ {A B : Type 0} (R : A → B → Type 0) (xs : List A) (ys : List B) whe
 start-from : (scan : Item) (second : ℤ) → start_of scan ≡ Ok second → IsStart scan second
 unfolding start_of
 start-from scan second is =
-    let s = bind-from (only scan.at (filter (has_key (codes "start")) scan.statements)) (λ st. given (start_in st.values) BadValue st.at) second is in
-    record { statement = s.0; one = only-from scan.at (filter (has_key (codes "start")) scan.statements) s.0 s.1; says = given-from (start_in s.0.values) BadValue s.0.at second s.2 }
+    let s = bind-ok (only scan.at (filter (has_key (codes "start")) scan.statements)) (λ st. given (start_in st.values) BadValue st.at) second is in
+    record { statement = s.0; one = only-from scan.at (filter (has_key (codes "start")) scan.statements) s.0 s.1; says = given-ok (start_in s.0.values) BadValue s.0.at second s.2 }
 
 start-to : (scan : Item) (second : ℤ) → IsStart scan second → start_of scan ≡ Ok second
 unfolding start_of
@@ -172,14 +160,14 @@ module _ (file : VexFile) where
   mode-from : (scan mode : Item) → mode_of file scan ≡ Ok mode → IsMode file scan mode
   unfolding mode_of mode_name
   mode-from scan mode is =
-      let s = bind-from (only scan.at (filter (has_key (codes "mode")) scan.statements)) mode_name mode is in
-      let n = bind-from (given (only_word s.0.values) BadValue s.0.at) (λ name. given (def_of file (codes "$MODE") name) UnknownRef s.0.at) mode s.2 in
+      let s = bind-ok (only scan.at (filter (has_key (codes "mode")) scan.statements)) mode_name mode is in
+      let n = bind-ok (given (only_word s.0.values) BadValue s.0.at) (λ name. given (def_of file (codes "$MODE") name) UnknownRef s.0.at) mode s.2 in
       record {
         statement = s.0;
         one = only-from scan.at (filter (has_key (codes "mode")) scan.statements) s.0 s.1;
         name = n.0;
-        says = given-from (only_word s.0.values) BadValue s.0.at n.0 n.1;
-        there = given-from (def_of file (codes "$MODE") n.0) UnknownRef s.0.at mode n.2;
+        says = given-ok (only_word s.0.values) BadValue s.0.at n.0 n.1;
+        there = given-ok (def_of file (codes "$MODE") n.0) UnknownRef s.0.at mode n.2;
       }
 
   mode-to : (scan mode : Item) → IsMode file scan mode → mode_of file scan ≡ Ok mode
@@ -193,9 +181,9 @@ module _ (file : VexFile) where
 stay-from : (before : List Stay) (s : Statement) (stay : Stay) → stay_of before s ≡ Ok stay → IsStayOf s stay × (list_any (λ (other : Stay). bytes_eq other.key stay.key) before ≡ false)
 unfolding stay_of
 stay-from before s stay is =
-    let b = bind-from (given (stay_in s.values) BadValue s.at)
+    let b = bind-ok (given (stay_in s.values) BadValue s.at)
     (λ st. cond (list_any (λ (other : Stay). bytes_eq other.key st.key) before) (Err (fault StationTwice s.at)) (cond (not (is_in_order st)) (Err (fault BadRange s.at)) (Ok st))) stay is in
-    by b.0 (given-from (stay_in s.values) BadValue s.at b.0 b.1) (list_any (λ (other : Stay). bytes_eq other.key b.0.key) before) (is_in_order b.0) refl refl b.2
+    by b.0 (given-ok (stay_in s.values) BadValue s.at b.0 b.1) (list_any (λ (other : Stay). bytes_eq other.key b.0.key) before) (is_in_order b.0) refl refl b.2
   where
     by : (st : Stay) → stay_in s.values ≡ Some st → (t o : Bool) → list_any (λ (other : Stay). bytes_eq other.key st.key) before ≡ t → is_in_order st ≡ o
         → cond t (Err (fault StationTwice s.at)) (cond (not o) (Err (fault BadRange s.at)) (Ok st)) ≡ Ok stay
@@ -210,9 +198,9 @@ stay-from before s stay is =
 chan-from : (before : List Chan) (s : Statement) (chan : Chan) → chan_of before s ≡ Ok chan → (chan_in s.values ≡ Some chan) × (list_any (λ (other : Chan). bytes_eq other.id chan.id) before ≡ false)
 unfolding chan_of
 chan-from before s chan is =
-    let b = bind-from (given (chan_in s.values) BadValue s.at)
+    let b = bind-ok (given (chan_in s.values) BadValue s.at)
     (λ c. cond (list_any (λ (other : Chan). bytes_eq other.id c.id) before) (Err (fault DoubleStatement s.at)) (Ok c)) chan is in
-    by b.0 (given-from (chan_in s.values) BadValue s.at b.0 b.1) (list_any (λ (other : Chan). bytes_eq other.id b.0.id) before) refl b.2
+    by b.0 (given-ok (chan_in s.values) BadValue s.at b.0 b.1) (list_any (λ (other : Chan). bytes_eq other.id b.0.id) before) refl b.2
   where
     by : (c : Chan) → chan_in s.values ≡ Some c → (t : Bool) → list_any (λ (other : Chan). bytes_eq other.id c.id) before ≡ t
         → cond t (Err (fault DoubleStatement s.at)) (Ok c) ≡ Ok chan → (chan_in s.values ≡ Some chan) × (list_any (λ (other : Chan). bytes_eq other.id chan.id) before ≡ false)
@@ -230,9 +218,9 @@ unfolding setup_in setup_rate chans_of
 setup-from def part is =
     let rates = filter (has_key (codes "sample_rate")) def.statements in
     let defs = filter (has_key (codes "chan_def")) def.statements in
-    let r = bind-from (setup_rate def) (λ rate. chans_of def >>= λ chans. Ok (record { rate = rate; chans = chans })) part is in
-    let k = bind-from (chans_of def) (λ chans. Ok (record { rate = r.0; chans = chans })) part r.2 in
-    let s = bind-from (only def.at rates) (λ st. given (rate_in st.values) BadValue st.at) r.0 r.1 in
+    let r = bind-ok (setup_rate def) (λ rate. chans_of def >>= λ chans. Ok (record { rate = rate; chans = chans })) part is in
+    let k = bind-ok (chans_of def) (λ chans. Ok (record { rate = r.0; chans = chans })) part r.2 in
+    let s = bind-ok (only def.at rates) (λ st. given (rate_in st.values) BadValue st.at) r.0 r.1 in
     let z = apart-from IsChanOf defs k.0 chan_of (λ chan. chan.id) chan-from k.1 in
     let made : Part = record { rate = r.0; chans = k.0 } in
     let same : made ≡ part = cc in
@@ -240,7 +228,7 @@ setup-from def part is =
     subst P same (record {
       statement = s.0;
       one = only-from def.at rates s.0 s.1;
-      says = given-from (rate_in s.0.values) BadValue s.0.at r.0 s.2;
+      says = given-ok (rate_in s.0.values) BadValue s.0.at r.0 s.2;
       each = z.0;
       differ = z.1;
     })
@@ -262,19 +250,19 @@ module _ (file : VexFile) where
     pass-from stay pass is =
         let refs = filter (is_setup stay.key) mode.statements in
         let made : Part → Pass = λ (setup : Part). record { key = stay.key; from_us = stay.from_us; to_us = stay.to_us; samples = None; rate = setup.rate; chans = setup.chans } in
-        let p = bind-from (setup_of file mode stay.key) (λ setup. Ok (record { key = stay.key; from_us = stay.from_us; to_us = stay.to_us; samples = None; rate = setup.rate; chans = setup.chans })) pass is in
-        let r = bind-from (only mode.at refs) (setup_at file) p.0 p.1 in
-        let n = bind-from (given (word_at r.0.values 0) BadValue r.0.at) (λ name. given (def_of file (codes "$FREQ") name) UnknownRef r.0.at >>= setup_in) p.0 r.2 in
-        let d = bind-from (given (def_of file (codes "$FREQ") n.0) UnknownRef r.0.at) setup_in p.0 n.2 in
+        let p = bind-ok (setup_of file mode stay.key) (λ setup. Ok (record { key = stay.key; from_us = stay.from_us; to_us = stay.to_us; samples = None; rate = setup.rate; chans = setup.chans })) pass is in
+        let r = bind-ok (only mode.at refs) (setup_at file) p.0 p.1 in
+        let n = bind-ok (given (word_at r.0.values 0) BadValue r.0.at) (λ name. given (def_of file (codes "$FREQ") name) UnknownRef r.0.at >>= setup_in) p.0 r.2 in
+        let d = bind-ok (given (def_of file (codes "$FREQ") n.0) UnknownRef r.0.at) setup_in p.0 n.2 in
         let same : made p.0 ≡ pass = cc in
         let P : Pass → Type 0 = λ z. IsPassOf file mode stay z in
         subst P same (record {
           ref = r.0;
           one = only-from mode.at refs r.0 r.1;
           name = n.0;
-          says = given-from (word_at r.0.values 0) BadValue r.0.at n.0 n.1;
+          says = given-ok (word_at r.0.values 0) BadValue r.0.at n.0 n.1;
           def = d.0;
-          there = given-from (def_of file (codes "$FREQ") n.0) UnknownRef r.0.at d.0 d.1;
+          there = given-ok (def_of file (codes "$FREQ") n.0) UnknownRef r.0.at d.0 d.1;
           setup = setup-from d.0 p.0 d.2;
           station = refl;
           starts = refl;
@@ -316,11 +304,11 @@ module _ (file : VexFile) where
   unfolding scan_of stays_of passes_of first_step
   scan-from entry scan is =
       let stations = filter (has_key (codes "station")) entry.1.statements in
-      let f = bind-from (first_step entry.0 entry.1)
+      let f = bind-ok (first_step entry.0 entry.1)
       (λ second. mode_of file entry.1 >>= λ mode. stays_of entry.1 >>= λ stays. passes_of file mode stays >>= λ passes. Ok (record { name = entry.0; second = second; passes = passes })) scan is in
-      let m = bind-from (mode_of file entry.1) (λ mode. stays_of entry.1 >>= λ stays. passes_of file mode stays >>= λ passes. Ok (record { name = entry.0; second = f.0; passes = passes })) scan f.2 in
-      let s = bind-from (stays_of entry.1) (λ stays. passes_of file m.0 stays >>= λ passes. Ok (record { name = entry.0; second = f.0; passes = passes })) scan m.2 in
-      let p = bind-from (passes_of file m.0 s.0) (λ passes. Ok (record { name = entry.0; second = f.0; passes = passes })) scan s.2 in
+      let m = bind-ok (mode_of file entry.1) (λ mode. stays_of entry.1 >>= λ stays. passes_of file mode stays >>= λ passes. Ok (record { name = entry.0; second = f.0; passes = passes })) scan f.2 in
+      let s = bind-ok (stays_of entry.1) (λ stays. passes_of file m.0 stays >>= λ passes. Ok (record { name = entry.0; second = f.0; passes = passes })) scan m.2 in
+      let p = bind-ok (passes_of file m.0 s.0) (λ passes. Ok (record { name = entry.0; second = f.0; passes = passes })) scan s.2 in
       let first = first-from entry.0 entry.1 f.0 f.1 in
       let z = apart-from IsStayOf stations s.0 stay_of (λ stay. stay.key) stay-from s.1 in
       let made : Scan = record { name = entry.0; second = f.0; passes = p.0 } in
@@ -360,10 +348,10 @@ module _ (file : VexFile) where
   unfolding schedule_of scans_of
   scans-by_relation scans = (
     λ is.
-        let b = bind-from (given (named file.blocks (codes "$SCHED")) NoSched 0) (λ sched. scans_of file sched.scans) scans is in
+        let b = bind-ok (given (named file.blocks (codes "$SCHED")) NoSched 0) (λ sched. scans_of file sched.scans) scans is in
         record {
           block = b.0;
-          there = given-from (named file.blocks (codes "$SCHED")) NoSched 0 b.0 b.1;
+          there = given-ok (named file.blocks (codes "$SCHED")) NoSched 0 b.0 b.1;
           each = each-from (IsScanOf file) b.0.scans scans (λ entry. scan_of file entry.0 entry.1) scan-from b.2;
         },
     λ h. bind-to (given (named file.blocks (codes "$SCHED")) NoSched 0) (λ sched. scans_of file sched.scans) h.block scans

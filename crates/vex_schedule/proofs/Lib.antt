@@ -2,6 +2,6 @@ pub mod Lists
 pub mod Names
 pub mod Setups
 pub mod Reading
-pub mod Turns
+pub mod Given
 pub mod Coverings
 pub mod LawLemmas

@@ -1,6 +1,6 @@
 -- Names that differ, and the names beside a list of things.
 use Rattle.std.proofs.Common.{◌≡◌, ◌≢◌, ℕ, ◌<◌, true, false, List, [], ◌∷◌, ◌++◌, length, map, get_or, AllPairs, bytes_eq, is_some, None, Some, cond, Bool, ◌||◌, arith, sym, ap, refl, ◌∙◌}
-use Rattle.vex_reader.specs.File.{named, names, put}
+use Rattle.named_list.specs.Named.{named, names, put}
 use Rattle.std.specs.List.{list_any}
 use Rattle.std.proofs.lemmas.List.{map_push, get_or-map, length-map}
 use Rattle.std.proofs.lemmas.List.Folds.{list_any_at}

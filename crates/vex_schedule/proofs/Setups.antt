@@ -9,7 +9,8 @@ use Rattle.vex_reader.specs.declared.file.VexFile.{VexFile}
 use Rattle.vex_schedule.specs.declared.fault.SchedKind.TheVariants.{UnknownRef}
 use Rattle.vex_schedule.specs.declared.fault.SchedFault.{SchedFault}
 use Rattle.vex_schedule.specs.declared.part.Setup.{Setup}
-use Rattle.vex_schedule.specs.Answers.{◌>>=◌, seen, given}
+use Rattle.read_steps.specs.Steps.{◌>>=◌, seen}
+use Rattle.vex_schedule.specs.Answers.{given}
 use Rattle.vex_schedule.specs.Statements.{only, is_setup}
 use Rattle.vex_schedule.specs.Values.{word_at}
 use Rattle.vex_schedule.specs.Schedule.{defs_in, def_of, setup_in, setup_at, setup_of}

@@ -4,7 +4,7 @@ use Rattle.std.specs.List.{list_any}
 use Rattle.vex_reader.specs.declared.file.Item.{Item}
 use Rattle.vex_reader.specs.declared.file.Statement.{Statement}
 use Rattle.vex_reader.specs.declared.file.VexFile.{VexFile}
-use Rattle.vex_reader.specs.File.{named}
+use Rattle.named_list.specs.Named.{named}
 use Rattle.vex_schedule.specs.declared.covering.Found.{Found}
 use Rattle.vex_schedule.specs.declared.covering.Found.TheVariants.{Nowhere, Once, Often}
 use Rattle.vex_schedule.specs.declared.covering.Covering.{Covering}

@@ -5,7 +5,7 @@ use Rattle.vex_reader.specs.declared.file.Item.{Item}
 use Rattle.vex_reader.specs.declared.file.Block.{Block}
 use Rattle.vex_reader.specs.declared.file.Statement.{Statement}
 use Rattle.vex_reader.specs.declared.file.VexFile.{VexFile}
-use Rattle.vex_reader.specs.File.{named}
+use Rattle.named_list.specs.Named.{named}
 use Rattle.vex_schedule.specs.declared.scan.Chan.{Chan}
 use Rattle.vex_schedule.specs.declared.scan.Pass.{Pass}
 use Rattle.vex_schedule.specs.declared.scan.Scan.{Scan}

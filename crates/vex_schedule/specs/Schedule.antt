@@ -6,14 +6,15 @@ use Rattle.std.specs.Option.{option_map_or}
 use Rattle.vex_reader.specs.declared.file.Item.{Item}
 use Rattle.vex_reader.specs.declared.file.Statement.{Statement}
 use Rattle.vex_reader.specs.declared.file.VexFile.{VexFile}
-use Rattle.vex_reader.specs.File.{named}
+use Rattle.named_list.specs.Named.{named}
 use Rattle.vex_schedule.specs.declared.fault.SchedKind.TheVariants.{NoSched, DoubleStatement, UnknownRef, BadValue, StationTwice, BadRange}
 use Rattle.vex_schedule.specs.declared.fault.SchedFault.{SchedFault}
 use Rattle.vex_schedule.specs.declared.scan.Chan.{Chan}
 use Rattle.vex_schedule.specs.declared.scan.Pass.{Pass}
 use Rattle.vex_schedule.specs.declared.scan.Scan.{Scan}
 use Rattle.vex_schedule.specs.declared.stay.Stay.{Stay}
-use Rattle.vex_schedule.specs.Answers.{◌>>=◌, fault, given, in_turn}
+use Rattle.read_steps.specs.Steps.{◌>>=◌, in_turn}
+use Rattle.vex_schedule.specs.Answers.{fault, given}
 use Rattle.vex_schedule.specs.Statements.{has_key, only, is_setup}
 use Rattle.vex_schedule.specs.Values.{is_name, word_at, only_word, start_in, rate_in, stay_in, chan_in}
 

@@ -3,7 +3,7 @@ use Rattle.std.specs.Prelude.{◌≡◌, List, map, codes, Result}
 use Rattle.vex_reader.specs.declared.file.VexFile.{VexFile}
 use Rattle.vex_schedule.specs.declared.fault.SchedFault.{SchedFault}
 use Rattle.vex_schedule.specs.declared.part.Setup.{Setup}
-use Rattle.vex_schedule.specs.Answers.{seen}
+use Rattle.read_steps.specs.Steps.{seen}
 use Rattle.vex_schedule.specs.Schedule.{Part, defs_in, setup_in}
 
 -- what a setup gives a station

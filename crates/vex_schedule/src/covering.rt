@@ -2,15 +2,16 @@
 //! stand in scans of that mode.
 ghost use Rattle.std.specs.Prelude.{◌≡◌, ◌≤◌, ◌<◌, ℕ, List, [], ◌∷◌, length, drop, filter, slice_get, codes, Some, IfOk, IfErr, IfSome, OnOk};
 ghost use Rattle.std.specs.List.{list_any};
-ghost use Rattle.vex_schedule.specs.Answers.{seen};
+ghost use Rattle.read_steps.specs.Steps.{seen};
 ghost use Rattle.vex_schedule.specs.Statements.{is_just, is_setup, only};
 ghost use Rattle.vex_schedule.specs.Covering.{is_to_freq, covers_each, covers_by, noted, noted_if, found_in, IsOnlyAt, IsCovering, AreCoverings};
 
 use crate::fault::SchedFault;
 use crate::statements::{is_some_text, only_setup};
 use crate::values::sole;
+use named_list::Named;
 use std::alloc::{AllocError, Global};
-use vex_reader::{Item, Named, Statement, Value, VexFile};
+use vex_reader::{Item, Statement, Value, VexFile};
 
 /// Where among some statements one was found: nowhere, at one place, or at more than one.
 #[derive(Clone, Copy)]

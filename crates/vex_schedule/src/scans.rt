@@ -1,7 +1,7 @@
 //! The scans of a file.
 ghost use Rattle.std.specs.Prelude.{◌≡◌, All, map, length, codes, IfOk, IfSome};
 ghost use Rattle.num_time.specs.Times.{IsSecond};
-ghost use Rattle.vex_reader.specs.File.{named, names};
+ghost use Rattle.named_list.specs.Named.{named, names};
 ghost use Rattle.vex_schedule.specs.Answers.{Gives};
 ghost use Rattle.vex_schedule.specs.Covering.{IsCovering, AreCoverings};
 ghost use Rattle.vex_schedule.specs.Schedule.{start_of, pass_of, passes_of, scan_of, scans_of, schedule_of};
@@ -18,9 +18,10 @@ use crate::statements::only_with;
 use crate::stay::{Stay, stays_of};
 use crate::values::{is_name, start_in};
 use item_list::ItemList;
+use named_list::Named;
 use num_time::Name;
 use std::alloc::Global;
-use vex_reader::{Item, Named, VexFile};
+use vex_reader::{Item, VexFile};
 
 // The second at which a scan starts.
 #[tactic(auto, unfolding(crate::specs::Schedule::start_of))]

@@ -1,8 +1,9 @@
 //! Modes and setups: which def of `$FREQ` a station has, its sample rate and its channels.
 ghost use Rattle.std.specs.Prelude.{◌≡◌, ◌≢◌, ◌<◌, List, None, All, AllPairs, map, option_copied, option_map, length, slice_get, IfOk, IfErr, IfSome, IfNone};
-ghost use Rattle.vex_reader.specs.File.{named, names};
+ghost use Rattle.named_list.specs.Named.{named, names};
 ghost use Rattle.vex_schedule.specs.declared.scan.Chan.{Chan};
-ghost use Rattle.vex_schedule.specs.Answers.{seen, out_of_memory, Gives};
+ghost use Rattle.read_steps.specs.Steps.{seen};
+ghost use Rattle.vex_schedule.specs.Answers.{out_of_memory, Gives};
 ghost use Rattle.vex_schedule.specs.Schedule.{defs_in, def_of, mode_of, setup_of, setup_rate, chan_of, chans_of, setup_in};
 ghost use Rattle.vex_schedule.specs.Covering.{IsCovering, AreCoverings};
 ghost use Rattle.vex_schedule.specs.Setups.{part_of, AreSetups};
@@ -15,8 +16,9 @@ use crate::part::Setup;
 use crate::scan::Chan;
 use crate::statements::{first_with, only_with};
 use crate::values::{chan_in, only_word, rate_in, word_at};
+use named_list::Named;
 use std::alloc::Global;
-use vex_reader::{Item, Named, Statement, VexFile};
+use vex_reader::{Item, Statement, VexFile};
 
 // The def of a name in a block.
 #[tactic(auto, unfolding(crate::specs::Schedule::def_of))]

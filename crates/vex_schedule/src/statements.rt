@@ -1,7 +1,7 @@
 //! The statements under a key, and those that set up a station.
 ghost use Rattle.std.specs.Prelude.{◌≡◌, filter, option_copied, option_map};
 ghost use Rattle.std.specs.List.{list_any};
-ghost use Rattle.vex_schedule.specs.Answers.{seen};
+ghost use Rattle.read_steps.specs.Steps.{seen};
 ghost use Rattle.vex_schedule.specs.Statements.{has_key, only, is_some_text, is_just, covers, is_setup, Finds};
 
 use crate::fault::{SchedFault, SchedKind};

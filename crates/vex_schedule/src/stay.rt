@@ -1,6 +1,6 @@
 //! The stations of a scan.
 ghost use Rattle.std.specs.Prelude.{◌≡◌, ◌≢◌, List, None, All, AllPairs, map, IfOk};
-ghost use Rattle.vex_reader.specs.File.{named, names};
+ghost use Rattle.named_list.specs.Named.{named, names};
 ghost use Rattle.vex_schedule.specs.declared.stay.Stay.{Stay};
 ghost use Rattle.vex_schedule.specs.Answers.{Gives};
 ghost use Rattle.vex_schedule.specs.Schedule.{is_in_order, stay_of, stays_of};
@@ -9,9 +9,10 @@ ghost use Rattle.vex_schedule.specs.Sound.{IsStay};
 use crate::fault::{SchedFault, SchedKind};
 use crate::statements::first_with;
 use crate::values::stay_in;
+use named_list::Named;
 use num_time::Name;
 use std::alloc::Global;
-use vex_reader::{Item, Named, Statement};
+use vex_reader::{Item, Statement};
 
 /// A station, when it starts and when it stops, in microseconds from the scan's start on.
 #[derive(Drop)]

@@ -1,6 +1,6 @@
 use Rattle.std.proofs.Common.{ap, ◌∙◌, arith}
 use Rattle.std.proofs.lemmas.List.{take_all}
-use Rattle.vex_reader.specs.File.{names}
+use Rattle.named_list.specs.Named.{names}
 use Rattle.job_join.proofs.ChannelsLemmas.{used, used-turn, names-used}
 use Rattle.job_join.proofs.channels.channels_of.Goals as goal
 

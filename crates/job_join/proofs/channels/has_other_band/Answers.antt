@@ -1,7 +1,7 @@
 use Rattle.std.proofs.Common.{◌≡◌, ◌<◌, ◌&&◌, true, Bool, ℕ, List, [], length, get_or, ap, sym, ◌∙◌, rules, arith}
 use Rattle.std.specs.List.{list_any}
 use Rattle.std.proofs.lemmas.List.{length-map}
-use Rattle.vex_reader.specs.File.{names}
+use Rattle.named_list.specs.Named.{names}
 use Rattle.job_join.specs.Channels.{differ}
 use Rattle.job_join.specs.Places.{stands_of, chans_under}
 use Rattle.job_join.proofs.Firsts.{any-found, any-skip}

@@ -1,6 +1,6 @@
 use Rattle.std.proofs.Common.{◌≡◌, drop}
 use Rattle.std.specs.List.{list_any}
-use Rattle.vex_reader.specs.File.{names}
+use Rattle.named_list.specs.Named.{names}
 use Rattle.job_join.specs.Channels.{differ}
 use Rattle.job_join.specs.Places.{stands_of, chans_under}
 use Rattle.job_join.proofs.channels.has_other_band.Given as goal

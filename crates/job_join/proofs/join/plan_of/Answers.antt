@@ -1,5 +1,5 @@
 use Rattle.std.proofs.Common.{◌≡◌, ℕ, ◌<◌, ◌≤◌, ◌^◌, length, ap, sym, ◌∙◌, subst, arith}
-use Rattle.vex_reader.specs.File.{names}
+use Rattle.named_list.specs.Named.{names}
 use Rattle.job_plan.specs.Ranges.{IsPlan}
 use Rattle.job_join.specs.declared.joining.Joining.{Joining}
 use Rattle.job_join.specs.Channels.{channels_of}

@@ -1,6 +1,6 @@
 use Rattle.std.proofs.Common.{◌≡◌, ◌^◌, ◌∷◌, [], ◌++◌, ℕ, List, map, bytes_eq, unwrap_or, ap, ◌∙◌, arith}
 use Rattle.std.proofs.lemmas.List.{take_all}
-use Rattle.vex_reader.specs.File.{names}
+use Rattle.named_list.specs.Named.{names}
 use Rattle.job_plan.specs.declared.plan.ProductPlan.{ProductPlan}
 use Rattle.job_join.specs.Joined.{product_plan, number_of}
 use Rattle.job_join.proofs.PlansLemmas.{map-turn, position-few}

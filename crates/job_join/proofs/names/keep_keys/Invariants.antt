@@ -1,6 +1,6 @@
 use Rattle.std.proofs.Common.{◌≡◌, ◌||◌, ℕ, List, take, bytes_eq, is_some}
 use Rattle.std.specs.List.{list_any}
-use Rattle.vex_reader.specs.File.{named}
+use Rattle.named_list.specs.Named.{named}
 use Rattle.vex_schedule.specs.declared.scan.Pass.{Pass}
 use Rattle.job_join.proofs.names.keep_keys.Given as goal
 

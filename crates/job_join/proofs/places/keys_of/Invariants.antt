@@ -1,6 +1,6 @@
 use Rattle.std.proofs.Common.{◌≡◌, ℕ, List, take, is_some}
 use Rattle.std.specs.List.{list_any}
-use Rattle.vex_reader.specs.File.{named}
+use Rattle.named_list.specs.Named.{named}
 use Rattle.job_join.specs.declared.places.Place.{Place}
 use Rattle.job_join.specs.Places.{visit_of, has_key}
 use Rattle.job_join.proofs.places.keys_of.Given as goal

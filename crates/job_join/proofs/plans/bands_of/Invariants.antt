@@ -1,5 +1,5 @@
 use Rattle.std.proofs.Common.{◌≡◌, map, take}
-use Rattle.vex_reader.specs.File.{names}
+use Rattle.named_list.specs.Named.{names}
 use Rattle.job_join.specs.Channels.{chan_with}
 use Rattle.job_join.specs.Joined.{band_of}
 use Rattle.job_join.proofs.plans.bands_of.Given as goal

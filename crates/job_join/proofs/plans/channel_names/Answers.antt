@@ -1,6 +1,6 @@
 use Rattle.std.proofs.Common.{◌++◌, ◌∷◌, [], List, ℕ, take, ap, ◌∙◌, arith}
 use Rattle.std.proofs.lemmas.List.{take_all, length-map, map-id}
-use Rattle.vex_reader.specs.File.{names}
+use Rattle.named_list.specs.Named.{names}
 use Rattle.job_join.proofs.Sets.{map-names}
 use Rattle.job_join.proofs.plans.channel_names.Goals as goal
 

@@ -1,5 +1,5 @@
 use Rattle.std.proofs.Common.{◌≡◌, ℕ, List, map, take}
-use Rattle.vex_reader.specs.File.{names}
+use Rattle.named_list.specs.Named.{names}
 use Rattle.job_join.proofs.plans.channel_names.Given as goal
 
 abbrev pub invariant-loop-i : goal.invariant-loop-i

@@ -2,7 +2,7 @@ use Rattle.std.proofs.Common.{◌≡◌, ◌<◌, ℕ, List, cond, Some, None, b
 use Rattle.std.specs.List.{position}
 use Rattle.std.specs.Option.{option_or}
 use Rattle.std.proofs.lemmas.List.{take_all, length-map}
-use Rattle.vex_reader.specs.File.{names}
+use Rattle.named_list.specs.Named.{names}
 use Rattle.job_join.proofs.Sets.{get_or-names}
 use Rattle.job_join.proofs.StandsLemmas.{position-more}
 use Rattle.job_join.proofs.plans.channel_numbers.Goals as goal

@@ -1,6 +1,6 @@
 use Rattle.std.proofs.Common.{◌≡◌, ℕ, List, take, bytes_eq}
 use Rattle.std.specs.List.{position}
-use Rattle.vex_reader.specs.File.{named, names}
+use Rattle.named_list.specs.Named.{named, names}
 use Rattle.job_join.proofs.plans.channel_numbers.Given as goal
 
 abbrev pub invariant-loop-i : goal.invariant-loop-i

@@ -1,5 +1,5 @@
 use Rattle.std.proofs.Common.{◌≡◌, map, take}
-use Rattle.vex_reader.specs.File.{names}
+use Rattle.named_list.specs.Named.{names}
 use Rattle.job_join.specs.Joined.{recorded_of}
 use Rattle.job_join.proofs.plans.recorded_all.Given as goal
 

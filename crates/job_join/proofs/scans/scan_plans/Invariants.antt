@@ -1,5 +1,5 @@
 use Rattle.std.proofs.Common.{◌≡◌, map, filter, take}
-use Rattle.vex_reader.specs.File.{names}
+use Rattle.named_list.specs.Named.{names}
 use Rattle.job_join.specs.declared.places.Place.{Place}
 use Rattle.job_join.specs.Joined.{scan_plan}
 use Rattle.job_join.specs.Planned.{has_baseline}

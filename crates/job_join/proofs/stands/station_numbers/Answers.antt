@@ -2,7 +2,7 @@ use Rattle.std.proofs.Common.{◌≡◌, ℕ, List, cond, Some, None, bytes_eq, 
 use Rattle.std.specs.List.{position}
 use Rattle.std.specs.Option.{option_or}
 use Rattle.std.proofs.lemmas.List.{take_all}
-use Rattle.vex_reader.specs.File.{named}
+use Rattle.named_list.specs.Named.{named}
 use Rattle.job_text.specs.Job.{StationFields}
 use Rattle.job_join.proofs.StandsLemmas.{position-more}
 use Rattle.job_join.proofs.stands.station_numbers.Goals as goal

@@ -1,6 +1,6 @@
 use Rattle.std.proofs.Common.{◌≡◌, ℕ, List, take, bytes_eq}
 use Rattle.std.specs.List.{position}
-use Rattle.vex_reader.specs.File.{named}
+use Rattle.named_list.specs.Named.{named}
 use Rattle.job_text.specs.Job.{StationFields}
 use Rattle.job_join.proofs.stands.station_numbers.Given as goal
 

@@ -1,6 +1,6 @@
 use Rattle.std.proofs.Common.{◌≡◌, drop, not, bytes_eq}
 use Rattle.std.specs.List.{list_any, position, position_from}
-use Rattle.vex_reader.specs.File.{names}
+use Rattle.named_list.specs.Named.{names}
 use Rattle.vex_schedule.specs.declared.scan.Scan.{Scan}
 use Rattle.job_join.proofs.takes.unknown_scan.Given as goal
 

@@ -1,8 +1,8 @@
 use Rattle.std.proofs.Common.{◌≡◌, ◌∙◌, ap, List, ℕ, unwrap_or}
 use Rattle.vex_reader.specs.declared.file.Block.{Block}
-use Rattle.vex_reader.specs.File.{named, put}
+use Rattle.named_list.specs.Named.{named, put}
 use Rattle.vex_reader.specs.Reading.{State, InBlock, block_at}
-use Rattle.vex_reader.proofs.NamedLemmas.{put-put}
+use Rattle.named_list.proofs.NamedLemmas.{put-put}
 use Rattle.vex_reader.proofs.reading.open_block.Goals as goal
 
 pub returns : goal.returns

@@ -6,7 +6,8 @@ use Rattle.vex_reader.specs.declared.file.Item.{Item}
 use Rattle.vex_schedule.specs.Schedule.{scan_of, scans_of}
 use Rattle.vex_schedule.specs.Sound.{IsScan}
 use Rattle.vex_schedule.proofs.Lists.{drop-there, map-take_more}
-use Rattle.vex_schedule.proofs.Turns.{in_turn-read, in_turn-ends}
+use Rattle.read_steps.proofs.StepLemmas.{in_turn-read, in_turn-ends}
+use Rattle.vex_schedule.specs.Answers.{out_of_memory}
 use Rattle.vex_schedule.proofs.scans.scans_of.Goals as goal
 
 pub returns-in_err-scan-clause-value : goal.returns-in_err-scan-clause-value
@@ -16,7 +17,7 @@ returns-in_err-scan-clause-value c =
     let i : ℕ = c.loop-i.i in
     let entry : List ℕ × Item = (c.at.result.0.now, c.at.result.1.now) in
     let less : i < length items = omega arith in
-    rw (p.1, p.2) (in_turn-ends (λ before scan. scan_of c.args.file.now scan.0 scan.1) c.loop-i.scans.items (drop i items) (drop (i + 1) items) entry c.in_err-scan.field-0.0 (scans_of c.args.file.now items)
+    rw (p.1, p.2) (in_turn-ends out_of_memory (λ before scan. scan_of c.args.file.now scan.0 scan.1) c.loop-i.scans.items (drop i items) (drop (i + 1) items) entry c.in_err-scan.field-0.0 (scans_of c.args.file.now items)
     (drop-there items i entry less c.at.ensures.entry) c.in_err-scan.ensures.value c.loop-i.invariant.so_far)
 
 pub loop-i-preserved : goal.loop-i-preserved

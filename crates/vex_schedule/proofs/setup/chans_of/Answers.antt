@@ -5,7 +5,7 @@ use Rattle.vex_schedule.specs.Statements.{has_key}
 use Rattle.vex_schedule.specs.Schedule.{chan_of, chans_of}
 use Rattle.vex_schedule.specs.Sound.{IsChan}
 use Rattle.vex_schedule.proofs.Names.{names-push, beside, beside-push}
-use Rattle.vex_schedule.proofs.Turns.{in_turn-read}
+use Rattle.read_steps.proofs.StepLemmas.{in_turn-read}
 use Rattle.vex_schedule.proofs.setup.chans_of.Goals as goal
 
 pub loop-statement-preserved : goal.loop-statement-preserved

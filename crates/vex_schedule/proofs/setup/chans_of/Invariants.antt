@@ -1,6 +1,6 @@
 use Rattle.std.proofs.Common.{◌≡◌, ◌≢◌, filter, length, map, codes, All, AllPairs}
-use Rattle.vex_reader.specs.File.{names}
-use Rattle.vex_schedule.specs.Answers.{in_turn}
+use Rattle.named_list.specs.Named.{names}
+use Rattle.read_steps.specs.Steps.{in_turn}
 use Rattle.vex_schedule.specs.Statements.{has_key}
 use Rattle.vex_schedule.specs.Schedule.{chan_of, chans_of}
 use Rattle.vex_schedule.specs.Sound.{IsChan}

@@ -1,5 +1,5 @@
 use Rattle.std.proofs.Common.{rules, ◌≡◌, ◌∙◌, ap, Some, Ok, filter, sym, arith}
-use Rattle.vex_schedule.specs.Answers.{seen}
+use Rattle.read_steps.specs.Steps.{seen}
 use Rattle.vex_schedule.specs.Setups.{part_of}
 use Rattle.vex_schedule.specs.Statements.{only, is_setup}
 use Rattle.vex_schedule.specs.Values.{word_at}

@@ -1,6 +1,6 @@
 use Rattle.std.proofs.Common.{ℕ, List, ◌<◌, length, arith}
 use Rattle.vex_reader.specs.declared.file.Item.{Item}
-use Rattle.vex_schedule.specs.Answers.{seen}
+use Rattle.read_steps.specs.Steps.{seen}
 use Rattle.vex_schedule.specs.Schedule.{setup_in}
 use Rattle.vex_schedule.specs.Setups.{part_of}
 use Rattle.vex_schedule.proofs.Lists.{same-push}

@@ -1,5 +1,5 @@
 use Rattle.std.proofs.Common.{◌≡◌, map, take}
-use Rattle.vex_schedule.specs.Answers.{seen}
+use Rattle.read_steps.specs.Steps.{seen}
 use Rattle.vex_schedule.specs.Schedule.{setup_in}
 use Rattle.vex_schedule.specs.Setups.{part_of}
 use Rattle.vex_schedule.proofs.setup.setups_of.Given as goal

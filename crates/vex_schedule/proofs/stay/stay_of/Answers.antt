@@ -1,6 +1,6 @@
 use Rattle.std.proofs.Common.{rules, ◌≡◌, Some, true, false, bytes_eq, arith, is_some, ◌∙◌, inr}
 use Rattle.std.specs.List.{list_any}
-use Rattle.vex_reader.specs.File.{named}
+use Rattle.named_list.specs.Named.{named}
 use Rattle.vex_schedule.specs.declared.stay.Stay.{Stay}
 use Rattle.vex_schedule.specs.Values.{stay_in}
 use Rattle.vex_schedule.specs.Schedule.{is_in_order}

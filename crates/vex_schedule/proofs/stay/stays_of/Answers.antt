@@ -5,7 +5,7 @@ use Rattle.vex_schedule.specs.Statements.{has_key}
 use Rattle.vex_schedule.specs.Schedule.{stay_of, stays_of}
 use Rattle.vex_schedule.specs.Sound.{IsStay}
 use Rattle.vex_schedule.proofs.Names.{names-push, beside, beside-push}
-use Rattle.vex_schedule.proofs.Turns.{in_turn-read}
+use Rattle.read_steps.proofs.StepLemmas.{in_turn-read}
 use Rattle.vex_schedule.proofs.stay.stays_of.Goals as goal
 
 pub loop-statement-preserved : goal.loop-statement-preserved

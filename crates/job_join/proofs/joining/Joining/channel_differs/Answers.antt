@@ -1,6 +1,6 @@
 use Rattle.std.proofs.Common.{option_map, ap, ◌∙◌}
 use Rattle.std.specs.List.{position}
-use Rattle.vex_reader.specs.File.{names}
+use Rattle.named_list.specs.Named.{names}
 use Rattle.job_join.specs.declared.fault.JoinFault.TheVariants.{ChannelDiffers}
 use Rattle.job_join.specs.declared.joining.Joining.{Joining}
 use Rattle.job_join.specs.declared.places.Place.{Place}

@@ -1,5 +1,5 @@
 use Rattle.std.proofs.Common.{inr, map, refl, sym, ap, ◌∙◌}
-use Rattle.vex_reader.specs.File.{names}
+use Rattle.named_list.specs.Named.{names}
 use Rattle.job_text.specs.Values.{field}
 use Rattle.job_text.proofs.NameLemmas.{named-none, names-put}
 use Rattle.job_text.proofs.DraftLemmas.{row_fault-take, grown-Take}

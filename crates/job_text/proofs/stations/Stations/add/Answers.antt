@@ -1,5 +1,5 @@
 use Rattle.std.proofs.Common.{◌≡◌, None, length, rules}
-use Rattle.vex_reader.specs.File.{named}
+use Rattle.named_list.specs.Named.{named}
 use Rattle.job_text.proofs.StationLemmas.{new_key}
 use Rattle.job_text.proofs.ChannelLemmas.{AreIndexed-push}
 use Rattle.job_text.proofs.stations.Stations.add.Goals as goal

@@ -1,5 +1,5 @@
 use Rattle.std.proofs.Common.{◌≡◌, ◌∙◌}
-use Rattle.vex_reader.specs.File.{named}
+use Rattle.named_list.specs.Named.{named}
 use Rattle.job_text.proofs.StationLemmas.{place_there, place_none_by}
 use Rattle.job_text.proofs.stations.Stations.place.Goals as goal
 

@@ -1,4 +1,4 @@
--- What a text stands for: things by their names.
+-- Things by their names.
 use Rattle.std.specs.Prelude.{ℕ, List, [], ◌∷◌, map, Option, None, Some, bytes_eq, if◌then◌else◌}
 
 -- What stands under a name, none where it is not there.

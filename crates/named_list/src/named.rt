@@ -1,6 +1,6 @@
-// Things by their names.
+//! Things by their names.
 ghost use Rattle.std.specs.Prelude.{◌≡◌, ◌≢◌, ◌<◌, [], None, Some, IfSome, IfNone, IfOk, OnOk, OnErr, option_copied, option_map, length, slice_get, is_some, AllPairs};
-ghost use Rattle.vex_reader.specs.File.{named, names, put};
+ghost use Rattle.named_list.specs.Named.{named, names, put};
 
 use indexmap::IndexMap;
 use std::alloc::{AllocError, Global};

@@ -10,7 +10,7 @@ use Rattle.std.proofs.lemmas.Cmp.{nat_list_eq_equiv}
 use Rattle.std.proofs.lemmas.Slice.Eq.{bytes_eq-Decides}
 use Rattle.std.proofs.lemmas.Map.Made.{AllPairs-from_IsDistinct}
 use Rattle.indexmap.specs.IndexMap.{insert_entry}
-use Rattle.vex_reader.specs.File.{named, names, put}
+use Rattle.named_list.specs.Named.{named, names, put}
 
 module _ {A : Type 0} where
   abbrev pub things : List (Vec ℕ × A) → List (List ℕ × A)

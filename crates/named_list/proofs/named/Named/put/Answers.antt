@@ -1,7 +1,7 @@
 use Rattle.std.proofs.Common.{◌≡◌, ◌∙◌, ap, rules}
-use Rattle.vex_reader.specs.File.{named, put}
-use Rattle.vex_reader.proofs.NamedLemmas.{things, things-insert_entry, lookup-things}
-use Rattle.vex_reader.proofs.named.Named.put.Goals as goal
+use Rattle.named_list.specs.Named.{named, put}
+use Rattle.named_list.proofs.NamedLemmas.{things, things-insert_entry, lookup-things}
+use Rattle.named_list.proofs.named.Named.put.Goals as goal
 
 pub returns-clause-put : goal.returns-clause-put
 returns-clause-put g c =

@@ -1,6 +1,6 @@
 use Rattle.std.proofs.Common.{◌∙◌, sym}
-use Rattle.vex_reader.proofs.NamedLemmas.{lookup-things}
-use Rattle.vex_reader.proofs.named.Named.at.Goals as goal
+use Rattle.named_list.proofs.NamedLemmas.{lookup-things}
+use Rattle.named_list.proofs.named.Named.at.Goals as goal
 
 pub returns-clause-under_its_name : goal.returns-clause-under_its_name
 returns-clause-under_its_name g c =

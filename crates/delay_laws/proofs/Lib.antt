@@ -1,0 +1,3 @@
+pub mod StretchLemmas
+pub mod OnlyLemmas
+pub mod ListLemmas

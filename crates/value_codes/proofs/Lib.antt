@@ -1,0 +1,4 @@
+pub mod ByteLemmas
+pub mod DirectionLemmas
+pub mod LaneLemmas
+pub mod TakeLemmas

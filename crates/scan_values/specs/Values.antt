@@ -1,5 +1,5 @@
 -- The values that the streams of a scan's stations hold.
-use Rattle.std.specs.Prelude.{◌≡◌, ℕ, ◌==◌, ℤ, pos, option_and_then, slice_get}
+use Rattle.std.specs.Prelude.{◌≡◌, ℕ, ◌==◌, pos, option_and_then, slice_get}
 use Rattle.std.specs.List.{position}
 use Rattle.corr_model.specs.Cell.{Samples}
 use Rattle.station_stream.specs.Stream.{StreamFields, windowed}

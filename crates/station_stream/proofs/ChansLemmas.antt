@@ -1,6 +1,7 @@
 -- The bytes of a station's channels, one channel after the other.
-use Rattle.std.proofs.Common.{◌≡◌, ◌≢◌, ◌∙◌, sym, ap, subst, ℕ, ◌+◌, ◌≤◌, ◌<◌, List, [], length, take, drop, ◌++◌, get_or, set, map, min, max, Option, Some, None, option_and_then, Vec, Global, below_more, arith}
+use Rattle.std.proofs.Common.{◌≡◌, ◌≢◌, ◌∙◌, sym, ap, subst, ℕ, ◌+◌, ◌≤◌, ◌<◌, ⊎_elim, List, [], length, take, drop, ◌++◌, get_or, set, map, min, max, Option, Some, None, option_and_then, Vec, Global, below_more, arith}
 use Rattle.std.specs.Vec.{with_items}
+use Rattle.std.proofs.lemmas.Bool.{cases_eq}
 use Rattle.std.proofs.lemmas.List.{length-map, length-set, take-append-le, take_all, map-set, get_or-set_same, get_or-set_other}
 use Rattle.std.proofs.lemmas.Option.{slice_get-get_or}
 use Rattle.dev_traits.specs.Told.{WhereTold}
@@ -11,6 +12,7 @@ use Rattle.station_stream.specs.declared.part.StationPart.{StationPart}
 use Rattle.station_stream.specs.declared.window.Window.{Window}
 use Rattle.station_stream.specs.Part.{chan_at}
 use Rattle.station_stream.specs.Filled.{AreFilled, AllFilled, AllZeros}
+use Rattle.station_stream.specs.Stream.{AreWhole}
 use Rattle.station_stream.proofs.FillLemmas.{AreFilled-zeros}
 
 -- the channel at a place that there is
@@ -77,3 +79,30 @@ take-kept old new n e f =
 -- the items of a list of bytes that was written over
 pub with_items-kept : (v : Vec ℕ Global) (codes : List ℕ) → length codes ≡ length v.items → (with_items v codes).items ≡ codes
 with_items-kept v codes same = take-kept v.items codes v.len v.ok.0 same
+
+-- ---- a byte for each sample, where there are bytes
+
+-- those of a channel that was filled
+whole-filled : (told : Option Shelved) (part : StationPart) (chan : Option StationChan) (w : Window) (upto : ℕ) (codes : List ℕ)
+    → AreFilled told part chan w upto codes → length codes ≢ 0 → length codes ≡ w.count
+whole-filled told part None w upto codes filled some = absurd (some (ap length filled))
+whole-filled told part (Some chan) w upto codes filled some = filled.long
+
+-- and those of each
+pub AreWhole-filled : (told : Option Shelved) (part : StationPart) (w : Window) (upto : ℕ) (chans : List (Vec ℕ Global))
+    → AllFilled told part w upto chans → AreWhole w.count chans
+AreWhole-filled told part w upto chans filled = λ i d h.
+    whole-filled told part (chan_at part.chans.now i) w upto (get_or chans i d).items (filled i d h)
+
+-- as many bytes in one list's stead
+pub AreWhole-set : (count : ℕ) (chans : List (Vec ℕ Global)) (i : ℕ) (v d : Vec ℕ Global) → i < length chans
+    → length v.items ≡ length (get_or chans i d).items → AreWhole count chans → AreWhole count (set chans i v)
+AreWhole-set count chans i v d inside same whole = λ k e h.
+    let below : k < length chans = omega (arith, h, length-set chans i v) in
+    ⊎_elim
+    (λ (here : k ≡ i).
+    subst (λ (x : Vec ℕ Global). length x.items ≢ 0 → length x.items ≡ count) (sym (ap (λ (j : ℕ). get_or (set chans i v) j e) here ∙ get_or-set_same chans i v e inside))
+    (subst (λ (n : ℕ). n ≢ 0 → n ≡ count) (sym same) (whole i d inside)))
+    (λ (other : k ≢ i).
+    subst (λ (x : Vec ℕ Global). length x.items ≢ 0 → length x.items ≡ count) (sym (get_or-set_other chans i k v e other)) (whole k e below))
+    (cases_eq k i)

@@ -16,9 +16,9 @@ use Rattle.station_stream.specs.declared.chan.StationChan.{StationChan}
 use Rattle.station_stream.specs.declared.part.StationPart.{StationPart}
 use Rattle.station_stream.specs.declared.window.Window.{Window}
 use Rattle.station_stream.specs.Part.{chan_sample, chan_value}
-use Rattle.station_stream.specs.Codes.{value_of}
+use Rattle.value_codes.specs.Codes.{value_of}
 use Rattle.station_stream.specs.Sweep.{recorded_at}
-use Rattle.station_stream.specs.Taken.{IsTaken}
+use Rattle.value_codes.specs.Taken.{IsTaken}
 use Rattle.station_stream.specs.Filled.{AreTaken, IsFilled, AreFilled, AreZeros}
 use Rattle.station_stream.specs.Window.{value_in, AreValues}
 use Rattle.station_stream.proofs.PartLemmas.{get_or-before, get_or-inside, get_or-behind, length-written}

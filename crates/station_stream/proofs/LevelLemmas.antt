@@ -1,44 +1,44 @@
--- The levels of codes of one or two bits.
-use Rattle.std.proofs.Common.{◌≡◌, ◌∙◌, refl, sym, ap, subst, ℕ, zero, suc, ◌^◌, ◌≤◌, ◌<◌, ◌⊎◌, ⊎_elim, true, ℤ, pos, List, length, get_or, arith}
-use Rattle.std.proofs.lemmas.List.{get_or_default}
-use Rattle.std.proofs.lemmas.Nat.{mod_below, pow_pos}
-use Rattle.std.proofs.lemmas.Bool.Decides.{nat_tests}
-use Rattle.vdif_frame.specs.Shape.{ShapeFields, IsShape}
-use Rattle.sample_unpack.specs.Level.{level_of, level_at, code_at, bit_of}
-use Rattle.station_stream.specs.Levels.{is_level, AreLevels}
+-- The samples of a channel in the data array of a slot.
+use Rattle.std.proofs.Common.{◌≡◌, ◌∙◌, ap, subst, ℕ, ◌+◌, ◌-◌, ◌*◌, ◌≤◌, ◌<◌, ℤ, List, length, take, drop, get_or, Some, arith}
+use Rattle.std.proofs.lemmas.List.{length-drop, take_rest}
+use Rattle.std.proofs.lemmas.Nat.{div-add-mod', mul-le}
+use Rattle.vdif_frame.specs.Shape.{ShapeFields, IsShape, head_bytes, chans_of, samples_per_frame}
+use Rattle.sample_unpack.specs.Level.{level_at, bit_of}
+use Rattle.value_codes.specs.Taken.{IsTaken}
 
--- the levels of one bit, and of two
-level_of_one : (code : ℕ) → code < 2 → is_level (level_of 1 code) ≡ true
-level_of_one zero h = refl
-level_of_one (suc zero) h = refl
-level_of_one (suc (suc n)) h = absurd (omega arith)
+-- a sample's bits end where the next one's begin, and those of the last one at the end
+bits_within : (n spf chans chan bits : ℕ) → n < spf → chan < chans → bit_of bits chans chan n + bits ≤ spf * (bits * chans)
+bits_within n spf chans chan bits before there =
+    let row : (n + 1) * chans ≡ n * chans + chans = grind arith in
+    let first : n * chans + chan + 1 ≤ spf * chans = omega (arith, there, row, mul-le (n + 1) chans spf chans (omega (arith, before)) (omega arith)) in
+    let sum : (n * chans + chan) * bits + bits ≡ (n * chans + chan + 1) * bits = grind arith in
+    let all : spf * chans * bits ≡ spf * (bits * chans) = grind arith in
+    omega (arith, sum, all, mul-le (n * chans + chan + 1) bits (spf * chans) bits first (omega arith))
 
-level_of_two : (code : ℕ) → code < 4 → is_level (level_of 2 code) ≡ true
-level_of_two zero h = refl
-level_of_two (suc zero) h = refl
-level_of_two (suc (suc zero)) h = refl
-level_of_two (suc (suc (suc zero))) h = refl
-level_of_two (suc (suc (suc (suc n)))) h = absurd (omega arith)
+-- the samples of a frame lie in its data array
+pub bit_of-slot : (s : ShapeFields) (slot : List ℕ) (head bits chans chan at count : ℕ) → IsShape s
+    → length slot ≡ s.frame_bytes → head ≡ head_bytes s.legacy → bits ≡ s.bits → chans ≡ chans_of s
+    → chan < chans_of s → at + count ≤ samples_per_frame s
+    → (i : ℕ) → i < count → bit_of bits chans chan (at + i) + bits ≤ 8 * length (take (length slot - head) (drop head slot))
+bit_of-slot s slot head bits chans chan at count shape long head_is bits_is chans_is there room i before =
+    let within : bit_of s.bits (chans_of s) chan (at + i) + s.bits ≤ samples_per_frame s * (s.bits * chans_of s) =
+    bits_within (at + i) (samples_per_frame s) (chans_of s) chan s.bits (omega (arith, room, before)) there in
+    let all : samples_per_frame s * (s.bits * chans_of s) ≡ 8 * (s.frame_bytes - head_bytes s.legacy) =
+    omega (arith, shape.whole, div-add-mod' (8 * (s.frame_bytes - head_bytes s.legacy)) (s.bits * chans_of s)) in
+    let size : length (take (length slot - head) (drop head slot)) ≡ s.frame_bytes - head_bytes s.legacy =
+    ap length (take_rest slot head) ∙ length-drop head slot ∙ omega (arith, long, head_is) in
+    let same : bit_of bits chans chan (at + i) + bits ≡ bit_of s.bits (chans_of s) chan (at + i) + s.bits = cc in
+    omega (arith, within, all, size, same)
 
--- a sample of at most two bits has one or two
-one_or_two : (s : ShapeFields) → IsShape s → s.bits ≤ 2 → (s.bits ≡ 1) ⊎ (s.bits ≡ 2)
-one_or_two s h small = grind (arith, nat_tests, h.bits)
-
--- a sample of a data array has such a level
-is_level-level_at : (bits : ℕ) (array : List ℕ) (chans index i : ℕ) → (bits ≡ 1) ⊎ (bits ≡ 2) → is_level (level_at array bits chans index i) ≡ true
-is_level-level_at bits array chans index i width =
-    ⊎_elim
-    (λ (one : bits ≡ 1). subst (λ (b : ℕ). is_level (level_at array b chans index i) ≡ true) (sym one)
-    (level_of_one (code_at array 1 (bit_of 1 chans index i)) (mod_below _ (2 ^ 1) (pow_pos 1))))
-    (λ (two : bits ≡ 2). subst (λ (b : ℕ). is_level (level_at array b chans index i) ≡ true) (sym two)
-    (level_of_two (code_at array 2 (bit_of 2 chans index i)) (mod_below _ (2 ^ 2) (pow_pos 2))))
-    width
-
--- what is unpacked are levels
-pub AreLevels-unpacked : (shape : ShapeFields) (bits : ℕ) (array : List ℕ) (chans index : ℕ) (before levels : List ℤ) → IsShape shape → shape.bits ≤ 2 → bits ≡ shape.bits
-    → length levels ≡ length before
-    → ((i : ℕ) → i < length before → get_or levels i (pos 0) ≡ level_at array bits chans index i)
-    → AreLevels levels
-AreLevels-unpacked shape bits array chans index before levels is small same kept unpacked = λ k d h.
-    ap is_level (get_or_default levels k d (pos 0) h ∙ unpacked k (omega arith))
-    ∙ is_level-level_at bits array chans index k (subst (λ (b : ℕ). (b ≡ 1) ⊎ (b ≡ 2)) (sym same) (one_or_two shape is small))
+-- the codes of a data array's levels are those of the slot's
+pub IsTaken-array : (s : ShapeFields) (slot codes : List ℕ) (head bits chans chan at count : ℕ)
+    → head ≡ head_bytes s.legacy → bits ≡ s.bits → chans ≡ chans_of s
+    → ((k : ℕ) → k < count → IsTaken (get_or codes k 0) (Some (level_at (take (length slot - head) (drop head slot)) bits chans chan (at + k))))
+    → (k : ℕ) → k < count → IsTaken (get_or codes k 0) (Some (level_at (drop (head_bytes s.legacy) slot) s.bits (chans_of s) chan (at + k)))
+IsTaken-array s slot codes head bits chans chan at count head_is bits_is chans_is taken k h =
+    subst (λ (level : ℤ). IsTaken (get_or codes k 0) (Some level))
+    (ap (λ (array : List ℕ). level_at array bits chans chan (at + k)) (take_rest slot head)
+    ∙ ap (λ (n : ℕ). level_at (drop n slot) bits chans chan (at + k)) head_is
+    ∙ ap (λ (n : ℕ). level_at (drop (head_bytes s.legacy) slot) n chans chan (at + k)) bits_is
+    ∙ ap (λ (n : ℕ). level_at (drop (head_bytes s.legacy) slot) s.bits n chan (at + k)) chans_is)
+    (taken k h)

@@ -7,7 +7,7 @@ use Rattle.fringe_rotator.specs.Table.{cosines, cos3, sin3}
 use Rattle.sample_unpack.specs.Level.{level_of}
 use Rattle.corr_model.specs.Cell.{Value}
 use Rattle.corr_model.specs.Rotated.{turned}
-use Rattle.station_stream.specs.Codes.{value_of}
+use Rattle.value_codes.specs.Codes.{value_of}
 use Rattle.station_stream.specs.Stream.{StreamFields, windowed, IsLevelPart, AreLevelled}
 
 -- each number of the list is -1, 0 or 1

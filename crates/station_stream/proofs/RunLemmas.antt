@@ -10,7 +10,7 @@ use Rattle.delay_line.specs.Stretch.{IsStretch}
 use Rattle.delay_track.specs.Runs.{IsRun}
 use Rattle.station_stream.specs.declared.thread_frames.ThreadFrames.{ThreadFrames}
 use Rattle.station_stream.specs.ThreadFrames.{Reach, level_in_frames}
-use Rattle.station_stream.specs.Taken.{IsTaken}
+use Rattle.value_codes.specs.Taken.{IsTaken}
 use Rattle.station_stream.proofs.PartLemmas.{get_or-before, get_or-inside, in_part}
 use Rattle.station_stream.proofs.TakenLemmas.{level_past}
 

@@ -1,32 +1,19 @@
 -- Levels as bytes: the byte of a level, and those of the frames of a thread.
-use Rattle.std.proofs.Common.{◌≡◌, ◌∙◌, refl, sym, ap, subst, ℕ, ◌+◌, ◌-◌, ◌*◌, ◌/◌, ◌%◌, ◌<◌, ◌≤◌, ◌≢◌, ◌==◌, ⊎_elim, below_more, set, option_map, Bool, true, false, cond, ℤ, pos, List, length, take, drop, get_or, Option, Some, None, arith}
+use Rattle.std.proofs.Common.{◌≡◌, ◌∙◌, refl, sym, ap, subst, ℕ, ◌+◌, ◌-◌, ◌*◌, ◌/◌, ◌%◌, ◌<◌, ◌≤◌, ◌≢◌, ◌==◌, ⊎_elim, option_map, false, ℤ, List, length, get_or, Option, Some, None, arith}
 use Rattle.std.proofs.lemmas.Bool.{cases_lt}
 use Rattle.std.proofs.lemmas.Bool.Decides.{nat_tests}
 use Rattle.std.proofs.lemmas.Nat.{div-add-mod', div-mul-add, mod-mul-add}
-use Rattle.std.proofs.lemmas.List.{get_or-drop, take_rest, get_or-set_same, get_or-set_other}
 use borrow.Rule.Slice.PartMut.{put_mid}
-use Rattle.vdif_frame.specs.Shape.{ShapeFields, head_bytes, chans_of, samples_per_frame}
-use Rattle.sample_unpack.specs.Level.{level_of, level_at}
+use Rattle.vdif_frame.specs.Shape.{ShapeFields, samples_per_frame}
+use Rattle.sample_unpack.specs.Level.{level_of}
 use Rattle.corr_model.specs.Rotated.{turned}
-use Rattle.station_stream.specs.Codes.{value_of}
+use Rattle.value_codes.specs.Codes.{value_of}
 use Rattle.station_stream.specs.declared.thread_frames.ThreadFrames.{ThreadFrames}
-use Rattle.station_stream.specs.Levels.{AreLevels}
-use Rattle.station_stream.specs.ThreadFrames.{bytes_of_frame, level_in_frame}
-use Rattle.station_stream.specs.Taken.{IsTaken, AreUnpacked}
+use Rattle.station_stream.specs.ThreadFrames.{level_in_frame}
+use Rattle.value_codes.specs.Taken.{IsTaken}
 use Rattle.station_stream.proofs.PartLemmas.{get_or-before, get_or-inside}
 
 -- ---- bytes of levels
-
--- one more byte
-pub IsTaken-set : (levels : List ℤ) (codes : List ℕ) (k code : ℕ) → k < length codes
-    → ((j : ℕ) → j < k → IsTaken (get_or codes j 0) (Some (get_or levels j (pos 0))))
-    → IsTaken code (Some (get_or levels k (pos 0)))
-    → (j : ℕ) → j < k + 1 → IsTaken (get_or (set codes k code) j 0) (Some (get_or levels j (pos 0)))
-IsTaken-set levels codes k code inside before is =
-    below_more _ k
-    (λ j h. let other : j ≢ k = omega arith in
-    subst (λ (n : ℕ). IsTaken n (Some (get_or levels j (pos 0)))) (sym (get_or-set_other codes k j code 0 other)) (before j h))
-    (subst (λ (n : ℕ). IsTaken n (Some (get_or levels k (pos 0)))) (sym (get_or-set_same codes k code 0 inside)) is)
 
 -- a byte that is 1 more than these two has both in it
 pub value_of-code : (code sector : ℕ) → code < 4 → sector < 16
@@ -46,46 +33,6 @@ value_of-turned code sector (Some level) some sixteen taken =
     let is : code ≡ 1 + 16 * taken.0 = taken.1.1.0 in
     let sum : (code + sector) % 256 ≡ 1 + 16 * taken.0 + sector = omega (arith, four, is, sixteen) in
     ap value_of sum ∙ value_of-code taken.0 sector four sixteen ∙ ap (λ (x : ℤ). Some (turned x sector)) (sym taken.1.1.1)
-
--- ---- levels of a frame
-
--- the level in a frame that a slot holds
-pub level_in_frame-there : (shape : ShapeFields) (f : ThreadFrames) (index i k : ℕ) → get_or f.there.items i false ≡ true
-    → level_in_frame shape f index i k
-    ≡ Some (level_at (drop (head_bytes shape.legacy) (bytes_of_frame shape f i)) shape.bits (chans_of shape) index k)
-level_in_frame-there shape f index i k there =
-    ap (λ (b : Bool). cond b (Some (level_at (drop (head_bytes shape.legacy) (bytes_of_frame shape f i)) shape.bits (chans_of shape) index k)) None) there
-
--- in one that no slot holds
-pub level_in_frame-none : (shape : ShapeFields) (f : ThreadFrames) (index i k : ℕ) → get_or f.there.items i false ≡ false
-    → level_in_frame shape f index i k ≡ None
-level_in_frame-none shape f index i k none =
-    ap (λ (b : Bool). cond b (Some (level_at (drop (head_bytes shape.legacy) (bytes_of_frame shape f i)) shape.bits (chans_of shape) index k)) None) none
-
--- what was unpacked from a frame that a slot holds
-pub AreUnpacked-from : (shape : ShapeFields) (f : ThreadFrames) (index i : ℕ) (bytes : List ℕ) (levels : List ℤ)
-    → get_or f.there.items i false ≡ true
-    → bytes ≡ bytes_of_frame shape f i
-    → ((k : ℕ) → k < length levels → get_or levels k (pos 0) ≡ level_at (drop (head_bytes shape.legacy) bytes) shape.bits (chans_of shape) index k)
-    → AreLevels levels
-    → AreUnpacked shape f index i levels
-AreUnpacked-from shape f index i bytes levels there is unpacked small = record {
-  same = λ k h. level_in_frame-there shape f index i k there
-      ∙ ap (λ (b : List ℕ). Some (level_at (drop (head_bytes shape.legacy) b) shape.bits (chans_of shape) index k)) (sym is)
-      ∙ ap Some (sym (unpacked k h));
-  small = small;
-}
-
--- the bytes from the levels of a frame
-pub IsTaken-unpacked : (shape : ShapeFields) (f : ThreadFrames) (index i at : ℕ) (levels : List ℤ) (codes : List ℕ) (count : ℕ)
-    → AreUnpacked shape f index i levels
-    → at + count ≤ length levels
-    → ((k : ℕ) → k < count → IsTaken (get_or codes k 0) (Some (get_or (take (length levels - at) (drop at levels)) k (pos 0))))
-    → (k : ℕ) → k < count → IsTaken (get_or codes k 0) (level_in_frame shape f index i (at + k))
-IsTaken-unpacked shape f index i at levels codes count unpacked room taken k h =
-    subst (λ (level : Option ℤ). IsTaken (get_or codes k 0) level)
-    (ap (λ (l : List ℤ). Some (get_or l k (pos 0))) (take_rest levels at) ∙ ap Some (get_or-drop at levels k (pos 0)) ∙ sym (unpacked.same (at + k) (omega arith)))
-    (taken k h)
 
 -- ---- levels of the frames
 

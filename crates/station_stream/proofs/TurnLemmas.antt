@@ -8,8 +8,8 @@ use Rattle.corr_model.specs.Delay.{DelayModel}
 use Rattle.delay_track.specs.declared.turns.Turn.{Turn}
 use Rattle.delay_line.specs.Stretch.{IsStretch}
 use Rattle.delay_track.specs.Runs.{IsTurn, sector_at}
-use Rattle.station_stream.specs.Codes.{value_of}
-use Rattle.station_stream.specs.Taken.{IsTaken}
+use Rattle.value_codes.specs.Codes.{value_of}
+use Rattle.value_codes.specs.Taken.{IsTaken}
 use Rattle.station_stream.proofs.PartLemmas.{get_or-before, get_or-inside, get_or-behind, in_part}
 
 -- a turn lies among the samples that are turned

@@ -9,8 +9,8 @@ use Rattle.station_stream.specs.declared.part.StationPart.{StationPart}
 use Rattle.station_stream.specs.declared.window.Window.{Window}
 use Rattle.station_stream.specs.Part.{chan_at, chan_sample}
 use Rattle.station_stream.specs.Sweep.{recorded_at}
-use Rattle.station_stream.specs.Codes.{value_of}
-use Rattle.station_stream.specs.Taken.{IsTaken}
+use Rattle.value_codes.specs.Codes.{value_of}
+use Rattle.value_codes.specs.Taken.{IsTaken}
 use Rattle.station_stream.specs.Window.{AreValues}
 
 -- the bytes at the part's samples before `upto` are the levels of a channel there

@@ -1,16 +1,13 @@
 pub mod Ranges
 pub mod Part
 pub mod Recorded
-pub mod Codes
 pub mod Stream
 pub mod Window
 pub mod Faults
-pub mod Levels
 pub mod Place
 pub mod Standing
 pub mod FrameSlots
 pub mod ThreadFrames
 pub mod Sweep
-pub mod Taken
 pub mod Threads
 pub mod Filled

@@ -1,5 +1,7 @@
 -- The values of a station's channels in a window of a scan.
-use Rattle.std.specs.Prelude.{◌≡◌, ℕ, ℤ, ◌-ℤ◌, unsigned_abs, ◌⊎◌, int_le, int_lt, ◌&&◌, List, [], None, slice_index_or, if◌then◌else◌}
+use Rattle.std.specs.Prelude.{◌≡◌, ◌≢◌, ℕ, ℤ, ◌-ℤ◌, unsigned_abs, ◌⊎◌, int_le, int_lt, ◌&&◌, List, [], length, None, slice_index_or, Vec, if◌then◌else◌}
+use Rattle.std.specs.Global.{Global}
+use Rattle.std.specs.List.{All}
 use Rattle.corr_model.specs.Cell.{Value}
 
 -- The samples from `from` up to, not including, `to`, and the values of each channel from sample `from` on. A channel
@@ -24,3 +26,7 @@ IsLevelPart x = (unsigned_abs x ≡ 0) ⊎ ((unsigned_abs x ≡ 1) ⊎ (unsigned
 -- both components of such a value
 abbrev pub AreLevelled : ℤ × ℤ → Type 0
 AreLevelled v = IsLevelPart v.0 × IsLevelPart v.1
+
+-- each list that has a byte has one for each of so many samples
+abbrev pub AreWhole : ℕ → List (Vec ℕ Global) → Type 0
+AreWhole count chans = All (λ chan. length chan.items ≢ 0 → length chan.items ≡ count) chans

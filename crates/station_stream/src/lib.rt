@@ -1,15 +1,14 @@
 //! The values of a station's channels in a window of a scan: its recorded samples, taken as many samples on as the whole
 //! delay says and turned by the sector of the delay. It stands on `frame_index` for the places of frames, on `delay_track`
-//! for delays, on `sample_unpack` and `fringe_rotator` for levels and sectors, and on a `Shelf` for the files.
+//! for delays and sectors, on `value_codes` for levels and values in bytes, and on a `Shelf` for the files.
 //!
-//! A stream keeps one byte for a sample. It is loaded sweep by sweep, a sweep being samples whose recorded ones lie side by
+//! A stream keeps one byte for a sample, a code. It is loaded sweep by sweep, a sweep being samples whose recorded ones lie side by
 //! side: a window's slots of a thread are read one behind the other, once, for all its channels. Where the shelf tells its
 //! content, the values are those of the definition in `specs/Part`; a fault of a read comes only where the shelf had one.
 //! (Thompson, Moran and Swenson, chapters 8 and 9.)
 #![tactic(auto)]
 
 mod chan;
-mod codes;
 mod fault;
 mod frame_run;
 mod levels;

@@ -1,18 +1,19 @@
 //! Streams.
-ghost use Rattle.std.specs.Prelude.{◌≡◌, ◌<◌, ◌^◌, ◌≤ℤ◌, ◌<ℤ◌, ◌-ℤ◌, ℕ, ℤ, pos, unsigned_abs, length, IfOk, IfSome};
+ghost use Rattle.std.specs.Prelude.{◌≡◌, ◌<◌, ◌^◌, ◌⊎◌, ◌≤ℤ◌, ◌<ℤ◌, ◌+ℤ◌, ◌-ℤ◌, ℕ, ℤ, pos, unsigned_abs, [], length, map, slice_index_or, IfOk, IfSome};
 ghost use Rattle.dev_traits.specs.Told.{WhereTold};
 ghost use Rattle.corr_model.specs.Cell.{AreSmall};
 ghost use Rattle.station_stream.specs.Part.{IsIndexed, part_value};
-ghost use Rattle.station_stream.specs.Stream.{AreLevelled, stream_value, windowed};
+ghost use Rattle.station_stream.specs.Stream.{AreLevelled, AreWhole, stream_value, windowed};
+ghost use Rattle.value_codes.specs.Codes.{value_of};
 ghost use Rattle.station_stream.specs.Faults.{CountsReads};
 
-use crate::codes::value_at;
 use crate::window::channels;
 use crate::{StationPart, StreamFault};
 use dev_traits::Shelf;
 use frame_index::Index;
 use std::alloc::Global;
 use std::marker::Model;
+use value_codes::value_at;
 
 /// The values of a station's channels at the samples from one up to, not including, another.
 #[derive(Drop)]
@@ -23,12 +24,13 @@ pub struct Stream {
     ghost begin: { pos 0 ≤ℤ from },
     ghost order: { from ≤ℤ to },
     ghost end: { to ≤ℤ pos (2 ^ 40) },
+    ghost whole: { AreWhole (unsigned_abs (to -ℤ from)) chans.items },
 }
 
 impl Model for Stream {
     ghost use Rattle.std.specs.Prelude.{map};
     ghost use Rattle.station_stream.specs.Stream.{StreamFields};
-    ghost use Rattle.station_stream.specs.Codes.{value_of};
+    ghost use Rattle.value_codes.specs.Codes.{value_of};
 
     ghost Value = { StreamFields };
 
@@ -85,6 +87,16 @@ impl Stream {
         self.chans.len()
     }
 
+    /// The codes of a channel's values, by its place among the station's, from the window's first sample on; none of a channel
+    /// that the station lacks.
+    pub fn codes(&self, chan: u32) -> &[u8]
+        requires { chan < length self.now.values }
+        ensures codes { slice_index_or self.now.values chan [] ≡ map value_of result.now }
+        ensures each { (length result.now ≡ 0) ⊎ ((self.now.from +ℤ pos (length result.now)) ≡ self.now.to) }
+    {
+        &self.chans[chan as usize]
+    }
+
     /// The value of a channel, by its place among the station's, at sample `n`; None where the station has none there.
     pub fn z(&self, chan: u32, n: i64) -> Option<(i8, i8)>
         requires chan { chan < length self.now.values }
@@ -93,7 +105,7 @@ impl Stream {
         ensures value { result ≡ stream_value self.now chan n }
         ensures small { IfSome result AreSmall }
     {
-        value_at(&self.chans[chan as usize], self.place(n))
+        value_at(self.codes(chan), self.place(n))
     }
 
     /// The value of a channel, by its place among the station's, at sample `n`; None outside the window and past the last

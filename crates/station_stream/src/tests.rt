@@ -185,6 +185,27 @@ fn values_in_the_part(rt: HostRuntime) -> Result<(), Fail> {
     Ok(())
 }
 
+// The codes of a channel; None past the last channel.
+fn codes_of(stream: &Stream, chan: u32) -> Option<&[u8]> {
+    if (chan as usize) < stream.chans() {
+        Some(stream.codes(chan))
+    } else {
+        None
+    }
+}
+
+// The code of a level 3 that is turned by the sector 0 is 49.
+#[test]
+fn codes_of_the_channels(rt: HostRuntime) -> Result<(), Fail> {
+    let (f0, f1) = (frame(0, 0xFF), frame(1, 0xFF));
+    let stream = stream_of_slots(rt.alloc(), &[&f0, &f1], 0, 0, 8, 60)?;
+    let mut codes = [0; 64];
+    codes[8..60].fill(49);
+    assert_eq!(rt; codes_of(&stream, 0), Some(&codes[..]));
+    assert_eq!(rt; codes_of(&stream, 1), Some(&[][..]));
+    Ok(())
+}
+
 // The levels are -3, -1, 1, 3, over and over. A delay of one sample is a quarter of a turn at 16 hertz, which is sector 4.
 #[test]
 fn values_after_a_delay(rt: HostRuntime) -> Result<(), Fail> {

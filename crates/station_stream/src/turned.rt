@@ -3,12 +3,13 @@ ghost use Rattle.std.specs.Prelude.{◌≡◌, ◌+◌, ◌^◌, ◌<◌, ◌≤
 ghost use Rattle.corr_model.specs.Delay.{delay_at};
 ghost use Rattle.corr_model.specs.Rotated.{turned, band_sector};
 ghost use Rattle.delay_track.specs.Track.{model_of};
-ghost use Rattle.station_stream.specs.Codes.{value_of};
-ghost use Rattle.station_stream.specs.Taken.{IsTaken};
+ghost use Rattle.value_codes.specs.Codes.{value_of};
+ghost use Rattle.value_codes.specs.Taken.{IsTaken};
 
 use crate::{StationChan, StationPart};
 
 // The byte of a level that is turned by a sector, from that of the level alone.
+#[inline(always)]
 fn turned_code(code: u8, sector: u8) -> u8
     requires { sector < 16 }
     ensures { (level : Option ℤ) → IsTaken code level → value_of result ≡ option_map (λ l. turned l sector) level }

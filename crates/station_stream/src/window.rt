@@ -2,15 +2,15 @@
 ghost use Rattle.std.specs.Prelude.{◌≡◌, ◌+◌, ◌<◌, ◌≤◌, ◌^◌, ℕ, Option, [], IfOk, OnOk, length, map, min, max, slice_index, slice_index_or};
 ghost use Rattle.std.specs.Option.{ForSome};
 ghost use Rattle.dev_traits.specs.Told.{WhereTold};
-ghost use Rattle.vdif_frame.specs.Shape.{samples_per_frame};
 ghost use Rattle.frame_index.specs.Recording.{Shelved};
 ghost use Rattle.station_stream.specs.Ranges.{IsChanOf};
 ghost use Rattle.station_stream.specs.Part.{IsIndexed, chan_at, chan_sample};
-ghost use Rattle.station_stream.specs.Codes.{value_of};
+ghost use Rattle.value_codes.specs.Codes.{value_of};
 ghost use Rattle.station_stream.specs.Sweep.{recorded_at, LieIn};
-ghost use Rattle.station_stream.specs.Taken.{IsTaken};
+ghost use Rattle.value_codes.specs.Taken.{IsTaken};
 ghost use Rattle.station_stream.specs.Threads.{AreThreads};
 ghost use Rattle.station_stream.specs.Filled.{AreFilled, AllFilled, AreZeros, AllZeros, AllLong, AllValues};
+ghost use Rattle.station_stream.specs.Stream.{AreWhole};
 ghost use Rattle.station_stream.specs.Window.{AreValues};
 ghost use Rattle.station_stream.specs.Faults.{CountsReads};
 
@@ -79,13 +79,11 @@ fn fill_chan<F: Shelf>(
     part: &StationPart<'_>,
     threads: &mut Threads,
     chan: &StationChan,
-    frame: &mut [i8],
     codes: &mut [u8],
 ) -> Result<(), StreamFault>
     requires chan { IsChanOf part.now.shape chan.now }
     requires inside { threads.old.sweep.from + length codes.old ≤ part.now.track.samples }
     requires lie { LieIn part.now.track threads.old.sweep.from (threads.old.sweep.from + length codes.old) threads.old.sweep.first threads.old.sweep.last }
-    requires frame { length frame.old ≡ samples_per_frame part.now.shape }
     requires indexed { WhereTold (F.told shelf.old) (λ told. IsIndexed told part.now index.now) }
     requires threads { AreThreads (F.told shelf.old) part.now threads.old }
     ensures same { F.told shelf.new ≡ F.told shelf.old }
@@ -105,7 +103,6 @@ fn fill_chan<F: Shelf>(
         sweep.first,
         sweep.last,
         sweep.from,
-        frame,
         codes,
     );
     Ok(())
@@ -120,7 +117,6 @@ fn fill_on<F: Shelf>(
     threads: &mut Threads,
     window: Window,
     chan: &Option<StationChan>,
-    frame: &mut [i8],
     codes: &mut [u8],
 ) -> Result<(), StreamFault>
     requires chan { ForSome chan.now (IsChanOf part.now.shape) }
@@ -129,7 +125,6 @@ fn fill_on<F: Shelf>(
     requires order { threads.old.sweep.from ≤ threads.old.sweep.to }
     requires inside { threads.old.sweep.to ≤ window.from + window.count }
     requires lie { LieIn part.now.track threads.old.sweep.from threads.old.sweep.to threads.old.sweep.first threads.old.sweep.last }
-    requires frame { length frame.old ≡ samples_per_frame part.now.shape }
     requires indexed { WhereTold (F.told shelf.old) (λ told. IsIndexed told part.now index.now) }
     requires threads { AreThreads (F.told shelf.old) part.now threads.old }
     requires filled { AreFilled (F.told shelf.old) part.now chan.now window threads.old.sweep.from codes.old }
@@ -146,16 +141,7 @@ fn fill_on<F: Shelf>(
         window.place(threads.sweep.from),
         window.place(threads.sweep.to),
     );
-    fill_chan(
-        alloc,
-        shelf,
-        index,
-        part,
-        threads,
-        chan,
-        frame,
-        &mut codes[at..to],
-    )
+    fill_chan(alloc, shelf, index, part, threads, chan, &mut codes[at..to])
 }
 
 // Goes on with the bytes of each channel through a sweep. The frames of each thread are read once.
@@ -166,7 +152,6 @@ fn fill_sweep<F: Shelf>(
     part: &StationPart<'_>,
     sweep: Sweep,
     window: Window,
-    frame: &mut [i8],
     chans: &mut [Vec<u8>],
 ) -> Result<(), StreamFault>
     requires window { window.from + window.count ≤ part.now.track.samples }
@@ -174,7 +159,6 @@ fn fill_sweep<F: Shelf>(
     requires order { sweep.from ≤ sweep.to }
     requires inside { sweep.to ≤ window.from + window.count }
     requires lie { LieIn part.now.track sweep.from sweep.to sweep.first sweep.last }
-    requires frame { length frame.old ≡ samples_per_frame part.now.shape }
     requires indexed { WhereTold (F.told shelf.old) (λ told. IsIndexed told part.now index.now) }
     requires each { length chans.old ≡ length part.now.chans.now }
     requires filled { AllFilled (F.told shelf.old) part.now window sweep.from chans.old }
@@ -192,7 +176,6 @@ fn fill_sweep<F: Shelf>(
             &mut threads,
             window,
             &part.chans[i],
-            frame,
             codes,
         )?;
     }
@@ -206,11 +189,9 @@ fn fill<F: Shelf>(
     index: &Index,
     part: &StationPart<'_>,
     window: Window,
-    frame: &mut [i8],
     chans: &mut [Vec<u8>],
 ) -> Result<(), StreamFault>
     requires window { window.from + window.count ≤ part.now.track.samples }
-    requires frame { length frame.old ≡ samples_per_frame part.now.shape }
     requires indexed { WhereTold (F.told shelf.old) (λ told. IsIndexed told part.now index.now) }
     requires each { length chans.old ≡ length part.now.chans.now }
     requires zeros { AllZeros part.now window.count chans.old }
@@ -222,7 +203,7 @@ fn fill<F: Shelf>(
     let mut at = window.clip(part.from);
     while at < to {
         let sweep = Sweep::of(part, at, to);
-        fill_sweep(alloc, shelf, index, part, sweep, window, frame, chans)?;
+        fill_sweep(alloc, shelf, index, part, sweep, window, chans)?;
         at = sweep.to;
     }
     Ok(())
@@ -248,7 +229,9 @@ fn turn_each(part: &StationPart<'_>, window: Window, chans: &mut [Vec<u8>])
     requires window { window.from + window.count ≤ part.now.track.samples }
     requires each { length chans.old ≡ length part.now.chans.now }
     requires long { AllLong part.now window.count chans.old }
-    ensures { (told : Option Shelved) → AllFilled told part.now window part.now.to chans.old
+    requires whole { AreWhole window.count chans.old }
+    ensures whole { AreWhole window.count chans.new }
+    ensures values { (told : Option Shelved) → AllFilled told part.now window part.now.to chans.old
         → WhereTold told (λ told. AllValues told part.now window.from window.count chans.new) }
 {
     for (i, codes) in chans.iter_mut().enumerate() {
@@ -269,15 +252,15 @@ pub(crate) fn channels<F: Shelf>(
     requires indexed { WhereTold (F.told shelf.old) (λ told. IsIndexed told part.now index.now) }
     ensures same { F.told shelf.new ≡ F.told shelf.old }
     ensures each { IfOk result (λ chans. length chans.items ≡ length part.now.chans.now) }
+    ensures whole { IfOk result (λ chans. AreWhole count chans.items) }
     ensures values { IfOk result (λ chans. WhereTold (F.told shelf.old) (λ told. (chan : ℕ) → chan < length part.now.chans.now
         → AreValues told part.now (chan_at part.now.chans.now chan) from count
         (slice_index_or (map (λ codes. map value_of codes.items) chans.items) chan []))) }
     ensures counts { CountsReads (F.faults shelf.old) (F.faults shelf.new) result }
 {
     let window = Window { from, count };
-    let mut frame = vec![in alloc; 0i8; part.shape.samples_per_frame() as usize]?;
     let mut chans = empty(alloc, part, count)?;
-    fill(alloc, shelf, index, part, window, &mut frame, &mut chans)?;
+    fill(alloc, shelf, index, part, window, &mut chans)?;
     turn_each(part, window, &mut chans);
     Ok(chans)
 }

@@ -24,8 +24,6 @@ fill_run-requires c =
       bytes = c.requires.reach.bytes;
       inside = omega (arith, lies.inside, count, size);
       near = omega (arith, lies.near, count, size);
-      frame = c.loop-run.auto.frame ∙ c.requires.frame;
-      held = c.loop-run.invariant.held;
     }
 
 pub loop-run-preserved : goal.loop-run-preserved
@@ -51,9 +49,8 @@ loop-run-preserved c =
       to = to ∙ c.loop-run.invariant.to;
       begun = omega (arith, at, lies.begun, lies.after);
       within = omega (arith, at, to, lies.end, c.loop-run.invariant.to);
-      held = c.fill_run.ensures.held;
       taken = λ k h. IsTaken-run c.args.part.now.shape c.args.frames.now c.args.index (whole_at model) c.args.from run.from (c.args.from + length c.args.codes.now) run.to c.abs_diff-past.result n codes part
           lies.stretch lies.begun (ap (λ l. c.args.from + l) (sym c.loop-run.auto.codes)) (c.fill_run.auto.codes ∙ size ∙ count) lies.low lies.past_is
           (λ j before. c.loop-run.invariant.taken j (omega (arith, before, c.in-Some.ensures.steps.0.begins)))
-          (λ j below. c.fill_run.ensures.codes j (omega (arith, below, size, count))) k (omega (arith, h, at));
+          (λ j below. c.fill_run.ensures j (omega (arith, below, size, count))) k (omega (arith, h, at));
     }

@@ -1,9 +1,8 @@
 use Rattle.std.proofs.Common.{◌≡◌, ◌+◌, ◌-◌, ◌<◌, ◌≤◌, ℕ, pos, ◌+ℤ◌, length, get_or}
-use Rattle.std.specs.Option.{ForSome}
 use Rattle.corr_model.specs.Delay.{whole_at}
 use Rattle.delay_track.specs.Track.{model_of}
 use Rattle.station_stream.specs.ThreadFrames.{level_in_frames}
-use Rattle.station_stream.specs.Taken.{IsTaken, AreUnpacked}
+use Rattle.value_codes.specs.Taken.{IsTaken}
 use Rattle.station_stream.proofs.levels.fill_levels.Given as goal
 
 abbrev pub invariant-loop-run : goal.invariant-loop-run
@@ -12,7 +11,6 @@ invariant-loop-run l = record {
   to : l.runs.to ≡ l.from + length l.initial.codes;
   begun : l.from ≤ l.runs.at;
   within : l.runs.at ≤ l.runs.to;
-  held : ForSome l.held (λ j. AreUnpacked l.part.shape l.frames l.index j l.frame);
   taken : (k : ℕ) → l.from + k < l.runs.at → IsTaken (get_or l.codes k 0)
       (level_in_frames l.part.shape l.frames l.index (pos (l.from + k) +ℤ whole_at (model_of l.part.track) (l.from + k)));
 }

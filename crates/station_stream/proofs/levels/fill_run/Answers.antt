@@ -19,8 +19,7 @@ loop-done-preserved c =
     let taken = length-part codes done n fits in
     let long : length part ≡ n = c.fill_from_frame.auto.codes ∙ taken in record {
       within = omega (arith, within, length-written codes part done n long fits);
-      held = c.fill_from_frame.ensures.held;
       taken = IsTaken-more c.args.shape.now c.args.frames.now c.args.index c.args.past done at count size n codes part
           c.samples_per_frame-size.ensures.value c.samples_per_frame-size.ensures.some refl room within (long ∙ same) c.loop-done.invariant.taken
-          (λ k h. c.fill_from_frame.ensures.codes k (omega (arith, h, taken, same)));
+          (λ k h. c.fill_from_frame.ensures k (omega (arith, h, taken, same)));
     }

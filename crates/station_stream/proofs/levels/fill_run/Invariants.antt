@@ -1,14 +1,12 @@
 use Rattle.std.proofs.Common.{◌+◌, ◌-◌, ◌/◌, ◌%◌, ◌<◌, ◌≤◌, ℕ, length, get_or}
-use Rattle.std.specs.Option.{ForSome}
 use Rattle.vdif_frame.specs.Shape.{samples_per_frame}
 use Rattle.station_stream.specs.ThreadFrames.{level_in_frame}
-use Rattle.station_stream.specs.Taken.{IsTaken, AreUnpacked}
+use Rattle.value_codes.specs.Taken.{IsTaken}
 use Rattle.station_stream.proofs.levels.fill_run.Given as goal
 
 abbrev pub invariant-loop-done : goal.invariant-loop-done
 invariant-loop-done l = record {
   within : l.done ≤ length l.codes;
-  held : ForSome l.held (λ j. AreUnpacked l.shape l.frames l.index j l.frame);
   taken : (k : ℕ) → k < l.done → IsTaken (get_or l.codes k 0)
       (level_in_frame l.shape l.frames l.index ((l.past + k) / samples_per_frame l.shape) ((l.past + k) % samples_per_frame l.shape));
 }

@@ -1,7 +1,7 @@
 use Rattle.std.proofs.Common.{◌≡◌, ◌<◌, ◌≤◌, ℕ, ℤ, Option, option_map, get_or}
 use Rattle.corr_model.specs.Rotated.{turned}
-use Rattle.station_stream.specs.Codes.{value_of}
-use Rattle.station_stream.specs.Taken.{IsTaken}
+use Rattle.value_codes.specs.Codes.{value_of}
+use Rattle.value_codes.specs.Taken.{IsTaken}
 use Rattle.station_stream.proofs.turned.turn_codes.Given as goal
 
 abbrev pub invariant-loop-code : goal.invariant-loop-code

@@ -2,8 +2,8 @@ use Rattle.std.proofs.Common.{◌≡◌, ◌+◌, ◌-◌, ◌<◌, ◌≤◌, �
 use Rattle.corr_model.specs.Delay.{delay_at}
 use Rattle.corr_model.specs.Rotated.{turned, band_sector}
 use Rattle.delay_track.specs.Track.{model_of}
-use Rattle.station_stream.specs.Codes.{value_of}
-use Rattle.station_stream.specs.Taken.{IsTaken}
+use Rattle.value_codes.specs.Codes.{value_of}
+use Rattle.value_codes.specs.Taken.{IsTaken}
 use Rattle.station_stream.proofs.turned.turn_levels.Given as goal
 
 abbrev pub invariant-loop-turn : goal.invariant-loop-turn

@@ -10,7 +10,6 @@ pub loop-i-init : goal.loop-i-init
 loop-i-init g c = record {
   same = refl;
   faults = refl;
-  frame = c.requires.frame;
   sweep = c.new-threads.ensures.sweep;
   threads = c.new-threads.ensures.none (g.F.Shelf.told c.args.shelf.now) c.args.part.now;
   filled = λ k d h. absurd (omega (arith, h));
@@ -43,7 +42,6 @@ loop-i-preserved g c =
     record {
       same = c.in_ok-fill_on.ensures.same ∙ c.loop-i.invariant.same;
       faults = c.in_ok-fill_on.ensures.counts.kept ∙ c.loop-i.invariant.faults;
-      frame = c.fill_on.auto.frame ∙ c.loop-i.invariant.frame;
       sweep = c.in_ok-fill_on.ensures.sweep ∙ c.loop-i.invariant.sweep;
       threads = rw c.loop-i.invariant.same at c.in_ok-fill_on.ensures.threads;
       filled = first-next (λ k codes. AreFilled told part (chan_at chans k) c.args.window c.args.sweep.to codes) c.loop-i.chans i new inside c.loop-i.invariant.filled

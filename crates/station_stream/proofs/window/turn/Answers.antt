@@ -2,7 +2,7 @@ use Rattle.std.proofs.Common.{◌≡◌, ◌∙◌, sym, subst, ◌-◌, ◌≤�
 use Rattle.std.proofs.lemmas.List.{length-take, length-drop}
 use Rattle.dev_traits.specs.Told.{WhereTold}
 use Rattle.station_stream.specs.declared.chan.StationChan.{StationChan}
-use Rattle.station_stream.specs.Codes.{value_of}
+use Rattle.value_codes.specs.Codes.{value_of}
 use Rattle.station_stream.specs.Filled.{AreFilled}
 use Rattle.station_stream.specs.Window.{AreValues}
 use Rattle.station_stream.proofs.FillLemmas.{IsPut-of, AreValues-turned, get_or-part}

@@ -4,9 +4,9 @@ use Rattle.std.proofs.lemmas.List.{get_or-set_other}
 use Rattle.dev_traits.specs.Told.{WhereTold}
 use Rattle.station_stream.specs.declared.chan.StationChan.{StationChan}
 use Rattle.station_stream.specs.Part.{chan_at}
-use Rattle.station_stream.specs.Codes.{value_of}
+use Rattle.value_codes.specs.Codes.{value_of}
 use Rattle.station_stream.specs.Window.{AreValues}
-use Rattle.station_stream.proofs.ChansLemmas.{chan_at-index, mapped-next, WhereTold-each, AreFilled-as, with_items-kept}
+use Rattle.station_stream.proofs.ChansLemmas.{chan_at-index, mapped-next, WhereTold-each, AreFilled-as, AreWhole-set, with_items-kept}
 use Rattle.station_stream.proofs.window.turn_each.Goals as goal
 
 pub turn-requires-clause-long : goal.turn-requires-clause-long
@@ -40,13 +40,14 @@ loop-i-preserved c =
           refl (chan_at-index chans i there) refl
           (sym (c.deref_mut.ensures.value ∙ ap (λ (v : Vec ℕ Global). v.items) (c.loop-i.invariant.left i c.index-chans-i.result (omega arith))))
           (filled i c.index-chans-i.result c.loop-i-test.true)))));
+      whole = AreWhole-set w.count c.loop-i.chans i new c.index-chans-i.result inside (ap (λ (xs : List ℕ). length xs) kept ∙ c.turn.auto.codes ∙ ap (λ (xs : List ℕ). length xs) c.deref_mut.ensures.value) c.loop-i.invariant.whole;
       left = λ k d behind.
           let ne : k ≢ i = omega (arith, behind) in
           get_or-set_other c.loop-i.chans i k new d ne ∙ c.loop-i.invariant.left k d (omega (arith, behind));
     }
 
-pub returns : goal.returns
-returns c = λ told filled.
+pub returns-clause-values : goal.returns-clause-values
+returns-clause-values c = λ told filled.
     let part = c.args.part.now in
     WhereTold-each told (λ k. k < length part.chans.now)
     (λ t k. AreValues t part (chan_at part.chans.now k) c.args.window.from c.args.window.count (get_or (map (λ codes. map value_of codes.items) c.loop-i.chans) k []))

@@ -18,7 +18,7 @@ AreBytes p = (k : ℕ) → get_or p k 0 < 256
 each_byte : (p : List ℕ) → AreBytes p → Each1 (λ x. x < 256) p
 each_byte p h = Each1-from_get_or (λ x. x < 256) p 0 (λ i _. h i)
 
-length-digits_l : (q n x : ℕ) → length (digits_l q n x) ≡ n
+pub length-digits_l : (q n x : ℕ) → length (digits_l q n x) ≡ n
 length-digits_l q zero x = refl
 length-digits_l q (suc n) x = ap suc (length-digits_l q n (x / q))
 

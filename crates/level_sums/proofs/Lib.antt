@@ -4,4 +4,6 @@ pub mod LaneLemmas
 pub mod ByteLemmas
 pub mod ProductLemmas
 pub mod CopyLemmas
+pub mod FillLemmas
+pub mod VectorLemmas
 pub mod StretchLemmas

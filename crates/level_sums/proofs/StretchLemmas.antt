@@ -27,7 +27,7 @@ byte_bit-part p s n i h =
 plane_bit-past : (p : List ℕ) (i : ℕ) → 64 * length p ≤ i → plane_bit p i ≡ 0
 plane_bit-past p i h = ap (λ w. bit_at w (i % 64)) (get_or_past p (i / 64) 0 (omega arith)) ∙ bit_at-zero (i % 64)
 
-byte_bit-past : (p : List ℕ) (i : ℕ) → 8 * length p ≤ i → byte_bit p i ≡ 0
+pub byte_bit-past : (p : List ℕ) (i : ℕ) → 8 * length p ≤ i → byte_bit p i ≡ 0
 byte_bit-past p i h = ap (λ w. bit_at w (i % 8)) (get_or_past p (i / 8) 0 (omega arith)) ∙ bit_at-zero (i % 8)
 
 pub differ_words : (h l m : List ℕ) (s n : ℕ) → length (take n (drop s h)) ≡ n → length (take n (drop s l)) ≡ n → length (take n (drop s m)) ≡ n

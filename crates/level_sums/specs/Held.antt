@@ -41,6 +41,10 @@ copy_samples c = 64 * (c.words - 1)
 abbrev pub AreShifted : ℕ → List ℕ → Type 0
 AreShifted words bytes = (s n : ℕ) → s < 8 → s + n < 64 * words → byte_bit bytes (64 * (words * s) + n) ≡ byte_bit bytes (s + n)
 
+-- the copies of a plane in words, of `count` words each
+abbrev pub AreCopiesOf : ℕ → List ℕ → List ℕ → Type 0
+AreCopiesOf count words bytes = (s n : ℕ) → s < 8 → n < 64 * count → byte_bit bytes (64 * (count * s) + n) ≡ plane_bit words (s + n)
+
 pub record AreCopies (c : CopiesFields) : Type 0 where
   pub some : 0 < c.words
   pub scan : c.words ≤ 2 ^ 34 + 1

@@ -1,7 +1,6 @@
 //! The levels of the first station of a pair, by planes in words.
-ghost use Rattle.std.specs.Prelude.{◌≡◌, ◌≤◌, ◌^◌, length, IfOk};
-ghost use Rattle.std.specs.Simd.Lanes.{zip2};
-ghost use Rattle.std.specs.Prelude.{bit_xor};
+ghost use Rattle.std.specs.Prelude.{◌≡◌, ◌<◌, ◌≤◌, ◌^◌, length, replicate, slice_set, IfOk};
+ghost use Rattle.std.specs.Int.{div_ceil};
 ghost use Rattle.level_sums.specs.Held.{plane_samples};
 
 use std::alloc::{AllocError, Global};
@@ -26,16 +25,30 @@ impl Model for LevelPlanes {
 }
 
 impl LevelPlanes {
-    /// The levels of the codes with these high and low bits: 0 is -3, 1 is -1, 2 is 1, 3 is 3. There are at most 2^40
-    /// samples.
-    pub fn new(alloc: Global, high: Vec<u64>, low: Vec<u64>) -> Result<LevelPlanes, AllocError>
-        requires scan { length high.items ≤ 2 ^ 34 }
-        requires low { length low.items ≡ length high.items }
-        ensures high { IfOk result (λ p. p.high ≡ high.items) }
-        ensures low { IfOk result (λ p. p.low ≡ low.items) }
+    /// Room for so many samples, at most 2^40: whole words of them, all of the code 0.
+    pub fn room(alloc: Global, samples: u64) -> Result<LevelPlanes, AllocError>
+        requires { samples ≤ 2 ^ 40 }
+        ensures words { IfOk result (λ p. length p.high ≡ div_ceil samples 64) }
+        ensures high { IfOk result (λ p. p.high ≡ replicate (div_ceil samples 64) 0) }
+        ensures low { IfOk result (λ p. p.low ≡ replicate (div_ceil samples 64) 0) }
     {
-        let unit = differing_words(alloc, &high, &low)?;
-        Ok(LevelPlanes { high, low, unit })
+        let words = samples.div_ceil(64) as usize;
+        Ok(LevelPlanes {
+            high: vec![in alloc; 0; words]?,
+            low: vec![in alloc; 0; words]?,
+            unit: vec![in alloc; 0; words]?,
+        })
+    }
+
+    /// Sets the 64 levels of word `at` to those of the codes with these high and low bits: 0 is -3, 1 is -1, 2 is 1, 3 is 3.
+    pub fn set(&mut self, at: usize, high: u64, low: u64)
+        requires { at < length self.old.high }
+        ensures high { self.new.high ≡ slice_set self.old.high at high }
+        ensures low { self.new.low ≡ slice_set self.old.low at low }
+    {
+        self.high[at] = high;
+        self.low[at] = low;
+        self.unit[at] = high ^ low;
     }
 
     /// How many samples there are.
@@ -44,16 +57,12 @@ impl LevelPlanes {
     {
         64 * self.high.len() as u64
     }
-}
 
-// Where two planes differ.
-fn differing_words(alloc: Global, a: &[u64], b: &[u64]) -> Result<Vec<u64>, AllocError>
-    requires { length b.now ≡ length a.now }
-    ensures { IfOk result (λ words. words.items ≡ zip2 bit_xor a.now b.now) }
-{
-    let mut words = Vec::with_capacity(alloc, a.len())?;
-    for i in 0..a.len() {
-        words.push(a[i] ^ b[i])?;
+    // There are at most 2^40 samples: a call brings it.
+    #[inline(always)]
+    pub(crate) fn are_in_scan(&self)
+        ensures { plane_samples self.now ≤ 2 ^ 40 }
+    {
+        let _ = &self.high;
     }
-    Ok(words)
 }

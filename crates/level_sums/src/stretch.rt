@@ -13,11 +13,12 @@ use crate::{LevelCopies, LevelPlanes};
 pub fn stretch_sum(a: &LevelPlanes, i: u64, b: &LevelCopies, j: u64, count: u64) -> i64
     requires first { i + count ≤ plane_samples a.now }
     requires second { j + count ≤ copy_samples b.now }
-    requires scan { (i + count ≤ 2 ^ 40) × (j + count ≤ 2 ^ 40) }
     ensures sum { result ≡ level_sum (plane_level a.now) i (copy_level b.now) j count }
     ensures low { neg_ℤ (pos (9 * count)) ≤ℤ result }
     ensures high { result ≤ℤ pos (9 * count) }
 {
+    a.are_in_scan();
+    b.are_in_scan();
     let room = 64 - i % 64;
     if count <= room {
         return part_sum(a, i, b, j, count);

@@ -1,5 +1,5 @@
 //! The sums by planes are those of a loop over the pairs.
-ghost use Rattle.std.specs.Prelude.{◌<◌, ◌≤◌, ◌+◌};
+ghost use Rattle.std.specs.Prelude.{◌≡◌, ◌<◌, ◌≤◌, ◌+◌, length};
 
 use super::*;
 use std::test::*;
@@ -26,6 +26,15 @@ fn mixed_codes(seed: u64) -> Codes {
     Codes {
         high: mixed_words(seed),
         low: mixed_words(seed ^ 0xabcd),
+    }
+}
+
+fn set_codes(planes: &mut LevelPlanes, codes: &Codes)
+    requires { length planes.old.high ≡ 40 }
+    ensures { length planes.new.high ≡ 40 }
+{
+    for at in 0..40_usize {
+        planes.set(at, codes.high[at], codes.low[at]);
     }
 }
 
@@ -76,10 +85,12 @@ impl Both {
 fn sums_of_stretches(rt: HostRuntime) -> Result<(), Fail> {
     let alloc = rt.alloc();
     let (a, b) = (mixed_codes(1), mixed_codes(2));
-    let high = Vec::from_array(alloc, a.high)?;
-    let low = Vec::from_array(alloc, a.low)?;
-    let planes = LevelPlanes::new(alloc, high, low)?;
-    let copies = LevelCopies::new(alloc, &b.high, &b.low)?;
+    let mut planes = LevelPlanes::room(alloc, 2560)?;
+    set_codes(&mut planes, &a);
+    let mut second = LevelPlanes::room(alloc, 2560)?;
+    set_codes(&mut second, &b);
+    let mut copies = LevelCopies::room(alloc, 2560)?;
+    copies.fill(&second);
     let both = Both {
         a,
         b,
@@ -97,5 +108,16 @@ fn sums_of_stretches(rt: HostRuntime) -> Result<(), Fail> {
             assert!(rt; both.agree(place, 64 * m + 7 * place % 64, 37 * m + place));
         }
     }
+    Ok(())
+}
+
+// Room is for whole words, and holds the code 0, the level -3, until it is filled.
+#[test]
+fn room_of_code_0(rt: HostRuntime) -> Result<(), Fail> {
+    let planes = LevelPlanes::room(rt.alloc(), 100)?;
+    let copies = LevelCopies::room(rt.alloc(), 100)?;
+    assert_eq!(rt; planes.samples(), 128);
+    assert_eq!(rt; copies.samples(), 128);
+    assert_eq!(rt; stretch_sum(&planes, 1, &copies, 5, 120), 9 * 120);
     Ok(())
 }

@@ -1,15 +1,19 @@
 -- The values of words, of lists of words and of planes.
-use Rattle.std.proofs.Common.{◌≡◌, ℕ, ◌+◌, ◌-◌, ◌*◌, ◌/◌, ◌%◌, ◌^◌, ◌<◌, ◌≤◌, min, Bool, true, false, if◌then◌else◌, ◌==◌, ◌&&◌, int_le, int_lt, unsigned_abs, ℤ, pos, ◌+ℤ◌, ◌-ℤ◌, ◌≤ℤ◌, ◌<ℤ◌, List, [], ◌∷◌, ◌++◌, length, get_or, Some, None, inl, inr, refl, sym, ap, ap₂, ◌∙◌, arith}
+use Rattle.std.proofs.Common.{◌≡◌, ℕ, ◌+◌, ◌-◌, ◌*◌, ◌/◌, ◌%◌, ◌^◌, ◌<◌, ◌≤◌, min, Bool, true, false, if◌then◌else◌, ◌==◌, ◌&&◌, int_le, int_lt, unsigned_abs, ℤ, pos, ◌+ℤ◌, ◌-ℤ◌, ◌≤ℤ◌, ◌<ℤ◌, List, [], ◌∷◌, ◌++◌, length, get_or, set, Some, None, inl, inr, Option, refl, sym, subst, ap, ap₂, ◌∙◌, arith}
 use Rattle.std.specs.Int.{bit_at}
 use Rattle.std.proofs.lemmas.Bool.{cases_lt}
 use Rattle.std.proofs.lemmas.Bool.Decides.{nat_tests}
 use Rattle.std.proofs.lemmas.Int.{ints}
-use Rattle.std.proofs.lemmas.List.{get_or_append_left, get_or_at, get_or_past, length-append}
+use Rattle.std.proofs.lemmas.List.{get_or-set_same, get_or-set_other, get_or_append_left, get_or_at, get_or_past, length-append}
 use Rattle.std.proofs.lemmas.Nat.Bits.{bit_at_above}
+use Rattle.std.specs.Option.{ForSome}
 use Rattle.corr_model.specs.Cell.{Value}
+use Rattle.bit_planes.specs.declared.runs.LevelRuns.{LevelRuns}
+use Rattle.bit_planes.specs.Runs.{AreLevelRuns, HoldCodes, run_value}
+use Rattle.value_codes.specs.Codes.{value_of}
 use Rattle.bit_planes.specs.declared.word.Word.{Word}
 use Rattle.bit_planes.specs.Word.{component, word_value}
-use Rattle.bit_planes.specs.Planes.{PlanesFields, ArePlanes, no_word, listed_value, plane_value, plane_bit, part_bit}
+use Rattle.bit_planes.specs.Planes.{PlanesFields, HoldValues, ArePlanes, no_word, listed_value, plane_value, plane_bit, part_bit}
 
 -- ---- words
 
@@ -161,3 +165,82 @@ plane_value-listed p are n k e =
       | inl q ↦ plane_value-inside p n k e (omega (arith, ints))
       | inr q ↦ plane_value-past p n (omega (arith, ints)) ∙ sym (are.past k (omega (arith, ints)))
     ]
+
+-- ---- room
+
+pub ArePlanes-room : (from to : ℤ) (words : List Word) (r : LevelRuns) (size : ℕ) → pos 0 ≤ℤ from → to ≤ℤ pos (2 ^ 40)
+    → from +ℤ pos size ≡ to → length words ≡ (size + 63) / 64 → ((k : ℕ) → listed_value words k ≡ None)
+    → AreLevelRuns size r → ((k : ℕ) → run_value r k ≡ None)
+    → ArePlanes (record { from = from; to = to; words = words; levels = Some r })
+ArePlanes-room from to words r size start end whole long none runs empty =
+    let count : unsigned_abs (to -ℤ from) ≡ size = omega (arith, ints) in
+    record {
+      start = start;
+      order = omega (arith, ints);
+      end = end;
+      long = long ∙ ap (λ n. (n + 63) / 64) (sym count);
+      past = λ k h. none k;
+      levels = λ x is.
+          let same : r ≡ x = cc in
+          subst (HoldValues (record { from = from; to = to; words = words; levels = Some r })) same (record {
+            runs = subst (λ n. AreLevelRuns n r) (sym count) runs;
+            values = λ k. none k ∙ sym (empty k);
+          });
+    }
+
+-- ---- codes
+
+-- word i filled with codes that begin with code 64 * i
+pub listed_value-filled : (words : List Word) (codes part : List ℕ) (i : ℕ) (word : Word) → i < length words
+    → ((k : ℕ) → k < 64 * i → listed_value words k ≡ value_of (get_or codes k 0))
+    → ((k : ℕ) → k < 64 → word_value word k ≡ value_of (get_or part k 0))
+    → ((k : ℕ) → get_or part k 0 ≡ get_or codes (64 * i + k) 0)
+    → (k : ℕ) → k < 64 * (i + 1) → listed_value (set words i word) k ≡ value_of (get_or codes k 0)
+listed_value-filled words codes part i word h old new same k m =
+    elim (cases_lt k (64 * i)) [
+      | inl q ↦ ap (λ w. word_value w (k % 64)) (get_or-set_other words i (k / 64) word no_word (omega arith)) ∙ old k q
+      | inr q ↦
+          let at : k / 64 ≡ i = omega arith in
+          let place : 64 * i + k % 64 ≡ k = omega arith in
+          ap (λ j. word_value (get_or (set words i word) j no_word) (k % 64)) at
+          ∙ ap (λ w. word_value w (k % 64)) (get_or-set_same words i word no_word h)
+          ∙ new (k % 64) (omega arith) ∙ ap value_of (same (k % 64) ∙ ap (λ n. get_or codes n 0) place)
+    ]
+
+-- words of as many values as there are codes, whose values are those of the codes
+pub listed_value-codes : (words : List Word) (codes : List ℕ) → length words ≡ (length codes + 63) / 64
+    → ((k : ℕ) → k < 64 * length words → listed_value words k ≡ value_of (get_or codes k 0))
+    → (k : ℕ) → listed_value words k ≡ value_of (get_or codes k 0)
+listed_value-codes words codes long values k =
+    elim (cases_lt k (64 * length words)) [
+      | inl q ↦ values k q
+      | inr q ↦
+          ap (λ w. word_value w (k % 64)) (get_or_past words (k / 64) no_word (omega arith)) ∙ word_value-none (k % 64)
+          ∙ ap value_of (sym (get_or_past codes k 0 (omega arith)))
+    ]
+
+-- planes with the values of codes
+pub ArePlanes-coded : (p : PlanesFields) (words : List Word) (levels : Option LevelRuns) (codes : List ℕ) → ArePlanes p
+    → p.from +ℤ pos (length codes) ≡ p.to → length words ≡ length p.words → ((k : ℕ) → listed_value words k ≡ value_of (get_or codes k 0))
+    → ForSome levels (HoldCodes codes) → ArePlanes (record { from = p.from; to = p.to; words = words; levels = levels })
+ArePlanes-coded p words levels codes are size long values held =
+    let count : unsigned_abs (p.to -ℤ p.from) ≡ length codes = omega (arith, ints, size) in
+    record {
+      start = are.start;
+      order = are.order;
+      end = are.end;
+      long = long ∙ are.long;
+      past = λ k h. values k ∙ ap value_of (get_or_past codes k 0 (omega (arith, ints, size)));
+      levels = λ r is.
+          let holds = held r is in
+          record {
+            runs = subst (λ n. AreLevelRuns n r) (sym count) holds.runs;
+            values = λ k. values k ∙ sym (holds.values k);
+          };
+    }
+
+pub plane_value-coded : (p : PlanesFields) (codes : List ℕ) → p.from +ℤ pos (length codes) ≡ p.to
+    → ((k : ℕ) → listed_value p.words k ≡ value_of (get_or codes k 0))
+    → (n : ℤ) → p.from ≤ℤ n → n <ℤ p.to → plane_value p n ≡ value_of (get_or codes (unsigned_abs (n -ℤ p.from)) 0)
+plane_value-coded p codes size values n low high =
+    plane_value-inside p n (unsigned_abs (n -ℤ p.from)) (omega (arith, ints)) high ∙ values (unsigned_abs (n -ℤ p.from))

@@ -1,4 +1,7 @@
 pub mod Word
 pub mod Planes
+pub mod Runs
+pub mod Turns
+pub mod Stretches
 pub mod Filled
 pub mod Coded

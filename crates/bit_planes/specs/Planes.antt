@@ -1,14 +1,19 @@
 -- The values that planes hold, and the nine planes of bits that show them.
-use Rattle.std.specs.Prelude.{◌≡◌, ℕ, ◌-◌, ◌/◌, ◌%◌, ◌^◌, ◌==◌, ◌&&◌, ℤ, pos, ◌+ℤ◌, ◌-ℤ◌, ◌≤ℤ◌, int_le, int_lt, unsigned_abs, Bool, not, List, Some, None, slice_index_or, if◌then◌else◌}
+use Rattle.std.specs.Prelude.{◌≡◌, ℕ, ◌+◌, ◌-◌, ◌/◌, ◌%◌, ◌^◌, ◌==◌, ◌&&◌, ℤ, pos, ◌+ℤ◌, ◌-ℤ◌, ◌≤ℤ◌, int_le, int_lt, unsigned_abs, Bool, not, List, Option, Some, None, length, slice_index_or, if◌then◌else◌}
+use Rattle.std.specs.Option.{ForSome}
 use Rattle.corr_model.specs.Cell.{Value}
 use Rattle.bit_planes.specs.declared.word.Word.{Word}
 use Rattle.bit_planes.specs.Word.{word_value}
+use Rattle.bit_planes.specs.declared.runs.LevelRuns.{LevelRuns}
+use Rattle.bit_planes.specs.Runs.{AreLevelRuns, run_value}
 
--- The samples from `from` up to, not including, `to`, and words of 64 values each from sample `from` on.
+-- The samples from `from` up to, not including, `to`, words of 64 values each from sample `from` on, and the values by levels and
+-- runs where these are few.
 pub record PlanesFields : Type 0 where
   pub from : ℤ
   pub to : ℤ
   pub words : List Word
+  pub levels : Option LevelRuns
 
 abbrev pub no_word : Word
 no_word = record {
@@ -28,12 +33,24 @@ plane_value p n =
     then listed_value p.words (unsigned_abs (n -ℤ p.from))
     else None
 
--- Planes of a scan, which has at most 2^40 samples. Past the last sample the words show no value.
+-- how many samples there are
+abbrev pub size_of : PlanesFields → ℕ
+size_of p = unsigned_abs (p.to -ℤ p.from)
+
+-- these levels and runs hold the values of the planes
+pub record HoldValues (p : PlanesFields) (r : LevelRuns) : Type 0 where
+  pub runs : AreLevelRuns (size_of p) r
+  pub values : (k : ℕ) → listed_value p.words k ≡ run_value r k
+
+-- Planes of a scan, which has at most 2^40 samples. There are as many words as hold the samples, and past the last sample
+-- they show no value.
 pub record ArePlanes (p : PlanesFields) : Type 0 where
   pub start : pos 0 ≤ℤ p.from
   pub order : p.from ≤ℤ p.to
   pub end : p.to ≤ℤ pos (2 ^ 40)
+  pub long : length p.words ≡ (size_of p + 63) / 64
   pub past : (k : ℕ) → p.to ≤ℤ (p.from +ℤ pos k) → listed_value p.words k ≡ None
+  pub levels : ForSome p.levels (HoldValues p)
 
 -- whether a ternary part of a component is not 0: of u + 2v, part 0 is u, which a magnitude of 1 or 3 has, and part 1 is v,
 -- which 3 alone has

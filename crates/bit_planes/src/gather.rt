@@ -1,5 +1,5 @@
 //! Words of 64 values, filled value by value.
-ghost use Rattle.std.specs.Prelude.{◌≡◌, ◌<◌, ◌≤◌, ◌+◌, ◌^◌, ℕ, pos, IfOk, IfSome, None, if◌then◌else◌};
+ghost use Rattle.std.specs.Prelude.{◌≡◌, ◌<◌, ◌≤◌, ◌+◌, ◌/◌, ◌^◌, ℕ, length, pos, IfOk, IfSome, None, if◌then◌else◌};
 ghost use Rattle.std.specs.Int.{bit_at};
 ghost use Rattle.bit_planes.specs.Word.{component, word_value};
 ghost use Rattle.bit_planes.specs.Planes.{listed_value};
@@ -91,6 +91,7 @@ pub(crate) fn words_of<V: Values>(
 ) -> Result<Vec<Word>, AllocError>
     requires scan { n + size ≤ 2 ^ 40 }
     requires ternary { (k : ℕ) → k < size → IfSome (V.samples v.now station chan (pos (n + k))) AreTernary }
+    ensures len { IfOk result (λ words. length words.items ≡ (size + 63) / 64) }
     ensures values { IfOk result (λ words. (k : ℕ) → k < size → listed_value words.items k ≡ V.samples v.now station chan (pos (n + k))) }
     ensures past { IfOk result (λ words. (k : ℕ) → size ≤ k → listed_value words.items k ≡ None) }
 {

@@ -5,6 +5,7 @@ ghost use Rattle.bit_planes.specs.Coded.{level_of, coded};
 use super::*;
 use corr_model::Values;
 use std::test::*;
+use value_codes::value_at;
 
 // The component of a code.
 fn level_of(code: u8) -> i8
@@ -129,6 +130,133 @@ fn words_from_every_sample(rt: HostRuntime) -> Result<(), Fail> {
     let planes = Planes::build(rt.alloc(), &values, 0, 0, 5, 195)?;
     for i in 0..300_u16 {
         assert!(rt; is_shown(&values, &planes, i64::from(i) - 80));
+    }
+    Ok(())
+}
+
+// Whether the word of planes from sample `n` on shows the values of codes one by one, `from` being
+// that of the first code.
+fn is_filled(codes: &[u8], planes: &Planes, from: i64, n: i64) -> bool
+    requires from { unsigned_abs from < 2 ^ 16 }
+    requires sample { unsigned_abs n < 2 ^ 16 }
+{
+    let word = planes.at(n);
+    for k in 0..64_u32 {
+        let place = n - from + i64::from(k);
+        let plain = if place >= 0 {
+            value_at(codes, place as usize)
+        } else {
+            None
+        };
+        if value(&word, k) != plain {
+            return false;
+        }
+    }
+    true
+}
+
+// Planes filled from 200 codes show their values, and first none.
+#[test]
+fn planes_of_codes(rt: HostRuntime) -> Result<(), Fail> {
+    let mut codes = [0; 200];
+    let mut state = 1_u32;
+    for code in codes.iter_mut() {
+        state = state.wrapping_mul(1_664_525).wrapping_add(1_013_904_223);
+        *code = (state >> 24) as u8 % 65;
+    }
+    let mut planes = Planes::room(rt.alloc(), 7, 207, false)?;
+    for i in 0..300_u16 {
+        assert_eq!(rt; planes.at(i64::from(i) - 80), Word::NONE);
+    }
+    planes.fill(&codes);
+    for i in 0..300_u16 {
+        assert!(rt; is_filled(&codes, &planes, 7, i64::from(i) - 80));
+    }
+    Ok(())
+}
+
+// A code of the level 2 (n % 4) - 3 turned by a direction.
+fn code_of(n: usize, direction: u8) -> u8
+    requires { direction < 8 }
+{
+    let level = (n % 4) as u8;
+    if direction == 0 {
+        16 * level + 16
+    } else {
+        16 * level + 2 * direction
+    }
+}
+
+// Three runs, behind the first of which there is a gap.
+fn gapped_code(n: usize) -> u8 {
+    if n < 700 {
+        code_of(n, 2)
+    } else if n < 830 {
+        0
+    } else if n < 1000 {
+        code_of(n, 2)
+    } else {
+        code_of(n, 5)
+    }
+}
+
+#[test]
+fn runs_by_hand(rt: HostRuntime) -> Result<(), Fail> {
+    let mut codes = [0; 1300];
+    for (n, code) in codes.iter_mut().enumerate() {
+        *code = gapped_code(n);
+    }
+    let mut planes = Planes::room(rt.alloc(), 7, 1307, true)?;
+    planes.fill(&codes);
+    for i in 0..1500_u16 {
+        assert!(rt; is_filled(&codes, &planes, 7, i64::from(i) - 80));
+    }
+    let held = planes.levels();
+    assert!(rt; held.is_some());
+    if let Some(levels) = held {
+        assert!(rt; levels.copies.is_some());
+        assert_eq!(rt; levels.runs.len(), 3);
+        assert_eq!(rt;
+            levels.runs.get(0).copied(),
+            Some(Run {
+                from: 0,
+                to: 700,
+                direction: 2
+            })
+        );
+        assert_eq!(rt;
+            levels.runs.get(1).copied(),
+            Some(Run {
+                from: 830,
+                to: 1000,
+                direction: 2
+            })
+        );
+        assert_eq!(rt;
+            levels.runs.get(2).copied(),
+            Some(Run {
+                from: 1000,
+                to: 1300,
+                direction: 5
+            })
+        );
+    }
+    Ok(())
+}
+
+// Codes that turn at each sample are held by words alone.
+#[test]
+fn no_runs_of_turning_codes(rt: HostRuntime) -> Result<(), Fail> {
+    let mut codes = [0; 1300];
+    for (n, code) in codes.iter_mut().enumerate() {
+        *code = code_of(n / 2, (n % 8) as u8);
+    }
+    let mut planes = Planes::room(rt.alloc(), 0, 1300, false)?;
+    assert!(rt; planes.levels().is_some());
+    planes.fill(&codes);
+    assert!(rt; planes.levels().is_none());
+    for i in 0..1500_u16 {
+        assert!(rt; is_filled(&codes, &planes, 0, i64::from(i) - 80));
     }
     Ok(())
 }

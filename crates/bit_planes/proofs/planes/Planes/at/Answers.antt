@@ -9,7 +9,7 @@ use Rattle.bit_planes.proofs.planes.Planes.at.Goals as goal
 
 pub returns-then-n-self : goal.returns-then-n-self
 returns-then-n-self c k h =
-    let p : PlanesFields = record { from = c.self.inside.from; to = c.self.inside.to; words = c.self.inside.words.items } in
+    let p : PlanesFields = record { from = c.self.inside.from; to = c.self.inside.to; words = c.self.inside.words.items; levels = c.self.inside.levels } in
     let fits : FitsSigned w64 c.self.inside.from = search rules in
     let at : ℕ = c.samples_between.result + k in
     let n : ℤ = c.args.n +ℤ pos k in
@@ -19,7 +19,7 @@ returns-then-n-self c k h =
 
 pub returns : goal.returns
 returns c k h =
-    let p : PlanesFields = record { from = c.self.inside.from; to = c.self.inside.to; words = c.self.inside.words.items } in
+    let p : PlanesFields = record { from = c.self.inside.from; to = c.self.inside.to; words = c.self.inside.words.items; levels = c.self.inside.levels } in
     let fits : FitsSigned w64 c.self.inside.from = search rules in
     let before = c.samples_between-before.result in
     let n : ℤ = c.args.n +ℤ pos k in

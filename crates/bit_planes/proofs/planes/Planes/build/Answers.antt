@@ -1,4 +1,4 @@
-use Rattle.std.proofs.Common.{◌≡◌, ◌<◌, ◌+◌, ℕ, pos, ◌+ℤ◌, ◌-ℤ◌, ◌<ℤ◌, unsigned_abs, to_z, of_z, arith, ap, ◌∙◌}
+use Rattle.std.proofs.Common.{◌≡◌, ◌<◌, ◌+◌, ℕ, pos, ◌+ℤ◌, ◌-ℤ◌, ◌<ℤ◌, unsigned_abs, to_z, of_z, None, arith, ap, ◌∙◌}
 use Rattle.std.specs.Int.{w64}
 use Rattle.std.proofs.lemmas.Int.{ints}
 use Rattle.bit_planes.proofs.ValueLemmas.{plane_value-inside}
@@ -12,5 +12,5 @@ returns-clause-values g c n low high =
     let end : n <ℤ to_z w64 (of_z w64 a.to) = omega (arith, ints) in
     let place : pos (c.samples_between.result + k) ≡ n = omega (arith, ints, c.samples_between.ensures) in
     let inside : k < c.samples_between-2.result = omega (arith, ints, c.samples_between-2.ensures) in
-    plane_value-inside _ n k first end ∙ c.in_ok-words.ensures.values k inside
+    plane_value-inside (record { from = to_z w64 (of_z w64 a.from); to = to_z w64 (of_z w64 a.to); words = c.in_ok-words.words.items; levels = None }) n k first end ∙ c.in_ok-words.ensures.values k inside
     ∙ ap (g.V.Values.samples a.v.now a.station a.chan) place

@@ -5,7 +5,7 @@ use Rattle.bit_planes.proofs.planes.Planes.word_at.Goals as goal
 
 pub returns : goal.returns
 returns c k h =
-    let p : PlanesFields = record { from = c.self.inside.from; to = c.self.inside.to; words = c.self.inside.words.items } in
+    let p : PlanesFields = record { from = c.self.inside.from; to = c.self.inside.to; words = c.self.inside.words.items; levels = c.self.inside.levels } in
     let at = c.args.bit + k in
     c.shown_bits.ensures k h
     ∙ ap (plane_bit c.args.plane)

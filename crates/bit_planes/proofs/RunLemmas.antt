@@ -1,0 +1,206 @@
+-- Runs that are found one after another.
+use Rattle.std.proofs.Common.{◌≡◌, ℕ, zero, suc, ◌+◌, ◌<◌, ◌≤◌, ◌==◌, Bool, true, false, cond, List, [], ◌∷◌, ◌++◌, length, get_or, Some, None, if◌then◌else◌, inl, inr, refl, sym, ap, ◌∙◌, arith, length-append}
+use Rattle.std.specs.List.{find}
+use Rattle.std.specs.Option.{option_map}
+use Rattle.std.specs.Int.{bit_at}
+use Rattle.std.proofs.lemmas.Nat.Bits.{bit_at_ones}
+use Rattle.std.proofs.lemmas.Bool.{cases_lt}
+use Rattle.std.proofs.lemmas.Bool.Decides.{nat_tests}
+use Rattle.std.proofs.lemmas.List.{get_or_append_left, get_or_at, get_or_past}
+use Rattle.value_codes.specs.Codes.{direction_of}
+use Rattle.bit_planes.specs.declared.runs.Run.{Run}
+use Rattle.bit_planes.specs.declared.stretches.Stretch.{Stretch}
+use Rattle.bit_planes.specs.Runs.{has, direction_at, AreRuns}
+use Rattle.bit_planes.specs.Stretches.{code_direction, kind_of, kind_direction, AreFound}
+
+-- ---- which run has a place
+
+find_none : {X : Type 0} (p : X → Bool) (xs : List X) → ((i : ℕ) (d : X) → i < length xs → p (get_or xs i d) ≡ false) → find p xs ≡ None
+find_none p [] h = refl
+find_none p (x ∷ xs) h = rw (h 0 x (omega arith)) (find_none p xs (λ i d k. h (suc i) d (omega arith)))
+
+find_first : {X : Type 0} (p : X → Bool) (xs : List X) (i : ℕ) (d : X) → i < length xs
+    → ((j : ℕ) (d : X) → j < i → p (get_or xs j d) ≡ false) → p (get_or xs i d) ≡ true → find p xs ≡ Some (get_or xs i d)
+find_first p [] i d k h e = absurd (omega arith)
+find_first p (x ∷ xs) zero d k h e = rw e refl
+find_first p (x ∷ xs) (suc i) d k h e =
+    rw (h 0 x (omega arith)) (find_first p xs i d (omega arith) (λ j d m. h (suc j) d (omega arith)) e)
+
+find_push : {X Y : Type 0} (f : X → Y) (p : X → Bool) (xs : List X) (y : X) → p y ≡ false
+    → option_map f (find p (xs ++ y ∷ [])) ≡ option_map f (find p xs)
+find_push f p [] y h = rw h refl
+find_push f p (x ∷ xs) y h = both (find_push f p xs y h) (p x)
+  where
+    both : option_map f (find p (xs ++ y ∷ [])) ≡ option_map f (find p xs) → (t : Bool)
+        → option_map f (cond t (Some x) (find p (xs ++ y ∷ []))) ≡ option_map f (cond t (Some x) (find p xs))
+    both rest true = refl
+    both rest false = rest
+
+over_not : (k : ℕ) (r : Run) → r.to ≤ k → has k r ≡ false
+over_not k r h = grind (arith, nat_tests)
+
+early_not : (k : ℕ) (r : Run) → k < r.from → has k r ≡ false
+early_not k r h = grind (arith, nat_tests)
+
+inside_has : (k : ℕ) (r : Run) → r.from ≤ k → k < r.to → has k r ≡ true
+inside_has k r h m = grind (arith, nat_tests)
+
+-- behind all runs
+pub direction_at-past : (runs : List Run) (size k : ℕ) → AreRuns runs size → size ≤ k → direction_at runs k ≡ None
+unfolding direction_at
+direction_at-past runs size k are h =
+    ap (option_map (λ (r : Run). r.direction))
+    (find_none (has k) runs (λ i d m. over_not k (get_or runs i d) (omega (arith, are.inside i d m))))
+
+-- ---- a run more
+
+pub direction_at-more : (runs : List Run) (n k : ℕ) (r : Run) → AreRuns runs n → r.from ≡ n → n ≤ k → k < r.to
+    → direction_at (runs ++ r ∷ []) k ≡ Some r.direction
+unfolding direction_at
+direction_at-more runs n k r are from low high =
+    ap (option_map (λ (r : Run). r.direction))
+    (find_first (has k) (runs ++ r ∷ []) (length runs) r (omega (arith, length-append runs (r ∷ []))) earlier
+    (ap (has k) (get_or_at runs r [] r (length runs) refl) ∙ inside_has k r (omega arith) high)
+    ∙ ap Some (get_or_at runs r [] r (length runs) refl))
+  where
+    earlier : (j : ℕ) (d : Run) → j < length runs → has k (get_or (runs ++ r ∷ []) j d) ≡ false
+    earlier j d h =
+        ap (has k) (get_or_append_left runs (r ∷ []) d j h) ∙ over_not k (get_or runs j d) (omega (arith, are.inside j d h))
+
+pub direction_at-kept : (runs : List Run) (n k : ℕ) (r : Run) → r.from ≡ n → k < n → direction_at (runs ++ r ∷ []) k ≡ direction_at runs k
+unfolding direction_at
+direction_at-kept runs n k r from before = find_push (λ (r : Run). r.direction) (has k) runs r (early_not k r (omega arith))
+
+pub AreRuns-more : (runs : List Run) (n : ℕ) (r : Run) → AreRuns runs n → r.from ≡ n → r.from ≤ r.to → r.direction < 8
+    → AreRuns (runs ++ r ∷ []) r.to
+AreRuns-more runs n r are from order turn = record {
+  each = λ i d h. elim (cases_lt i (length runs)) [
+    | inl q ↦ rw (old i d q) (are.each i d q)
+    | inr q ↦ rw (new i d h q) order
+  ];
+  apart = λ i j d m h. elim (cases_lt j (length runs)) [
+    | inl q ↦ rw (old j d q, old i d (omega arith)) (are.apart i j d m q)
+    | inr q ↦ rw (new j d h q, old i d (first i j h m)) (omega (arith, are.inside i d (first i j h m)))
+  ];
+  inside = λ i d h. elim (cases_lt i (length runs)) [
+    | inl q ↦ rw (old i d q) (omega (arith, are.inside i d q))
+    | inr q ↦ rw (new i d h q) (omega arith)
+  ];
+  turns = λ i d h. elim (cases_lt i (length runs)) [
+    | inl q ↦ rw (old i d q) (are.turns i d q)
+    | inr q ↦ rw (new i d h q) turn
+  ];
+}
+  where
+    old : (i : ℕ) (d : Run) → i < length runs → get_or (runs ++ r ∷ []) i d ≡ get_or runs i d
+    old i d h = get_or_append_left runs (r ∷ []) d i h
+
+    new : (i : ℕ) (d : Run) → i < length (runs ++ r ∷ []) → length runs ≤ i → get_or (runs ++ r ∷ []) i d ≡ r
+    new i d h q = get_or_at runs r [] d i (omega (arith, length-append runs (r ∷ [])))
+
+    first : (i j : ℕ) → j < length (runs ++ r ∷ []) → i < j → i < length runs
+    first i j h m = omega (arith, length-append runs (r ∷ []))
+
+pub AreRuns-longer : (runs : List Run) (n m : ℕ) → AreRuns runs n → n ≤ m → AreRuns runs m
+AreRuns-longer runs n m are h = record {
+  each = are.each;
+  apart = are.apart;
+  inside = λ i d k. omega (arith, are.inside i d k);
+  turns = are.turns;
+}
+
+pub AreRuns-none : (n : ℕ) → AreRuns [] n
+AreRuns-none n = record {
+  each = λ i d h. absurd (omega arith);
+  apart = λ i j d m h. absurd (omega arith);
+  inside = λ i d h. absurd (omega arith);
+  turns = λ i d h. absurd (omega arith);
+}
+
+pub direction_at-none : (k : ℕ) → direction_at [] k ≡ None
+unfolding direction_at
+direction_at-none k = refl
+
+-- ---- kinds
+
+pub kind_direction-code : (code : ℕ) → kind_direction (kind_of code) ≡ code_direction code
+kind_direction-code code = both (code == 0)
+  where
+    some : (direction_of code == 8) ≡ false
+    some = grind (arith, nat_tests)
+
+    both : (b : Bool) → kind_direction (if b then 8 else direction_of code) ≡ (if b then None else Some (direction_of code))
+    both true = refl
+    both false = ap (λ t. if t then None else Some (direction_of code)) some
+
+pub kind_direction-some : (kind : ℕ) → (kind ≡ 8 → ⊥) → kind_direction kind ≡ Some kind
+kind_direction-some kind some =
+    let test : (kind == 8) ≡ false = grind (arith, nat_tests) in
+    ap (λ t. if t then None else Some kind) test
+
+-- a code of 64 that are all there and of one direction
+pub kind_of-all : (there directions k code kind : ℕ) → there ≡ 18446744073709551615 → directions ≡ 18446744073709551615 → k < 64
+    → bit_at there k ≡ (if code == 0 then 0 else 1) → bit_at directions k ≡ (if direction_of code == kind then 1 else 0)
+    → kind_of code ≡ kind
+kind_of-all there directions k code kind e f h value direction =
+    let ones : bit_at 18446744073709551615 k ≡ 1 = bit_at_ones 64 k h in
+    let some : cond (code == 0) zero 1 ≡ 1 = sym value ∙ ap (λ x. bit_at x k) e ∙ ones in
+    let same : cond (direction_of code == kind) 1 zero ≡ 1 = sym direction ∙ ap (λ x. bit_at x k) f ∙ ones in
+    both (code == 0) some (equal (direction_of code) kind same)
+  where
+    equal : (a b : ℕ) → cond (a == b) 1 zero ≡ 1 → a ≡ b
+    equal a b h = grind (arith, nat_tests)
+
+    both : (b : Bool) → cond b zero 1 ≡ 1 → direction_of code ≡ kind → (if b then 8 else direction_of code) ≡ kind
+    both true e q = absurd (omega arith)
+    both false e q = q
+
+-- the stretch goes on
+pub AreFound-far : (codes : List ℕ) (found : List Run) (s : Stretch) (n m : ℕ) → AreFound codes found s n → n ≤ m
+    → ((k : ℕ) → n ≤ k → k < m → kind_of (get_or codes k 0) ≡ s.kind) → AreFound codes found s m
+AreFound-far codes found s n m are h more = record {
+  order = omega (arith, are.order);
+  small = are.small;
+  runs = are.runs;
+  before = are.before;
+  here = λ k low high. elim (cases_lt k n) [
+    | inl q ↦ are.here k low q
+    | inr q ↦ more k q high
+  ];
+}
+
+-- the stretch after one that is closed
+pub AreFound-next : (codes : List ℕ) (old new : List Run) (s t : Stretch) (n : ℕ) → AreFound codes old s n
+    → AreRuns new n
+    → ((k : ℕ) → k < s.from → direction_at new k ≡ direction_at old k)
+    → ((k : ℕ) → s.from ≤ k → k < n → direction_at new k ≡ kind_direction s.kind)
+    → t.from ≡ n → t.kind ≡ kind_of (get_or codes n 0) → t.kind ≤ 8 → AreFound codes new t (n + 1)
+AreFound-next codes old new s t n found are before here from kind small = record {
+  order = omega arith;
+  small = small;
+  runs = rw from are;
+  before = λ k h. elim (cases_lt k s.from) [
+    | inl q ↦ before k q ∙ found.before k q
+    | inr q ↦ here k q (omega arith) ∙ ap kind_direction (sym (found.here k q (omega arith))) ∙ kind_direction-code (get_or codes k 0)
+  ];
+  here = λ k low high.
+      let at : k ≡ n = omega arith in
+      rw at (sym kind);
+}
+
+-- the last stretch being closed
+pub directions-all : (codes : List ℕ) (old new : List Run) (s : Stretch) → AreFound codes old s (length codes)
+    → AreRuns new (length codes)
+    → ((k : ℕ) → k < s.from → direction_at new k ≡ direction_at old k)
+    → ((k : ℕ) → s.from ≤ k → k < length codes → direction_at new k ≡ kind_direction s.kind)
+    → (k : ℕ) → direction_at new k ≡ code_direction (get_or codes k 0)
+directions-all codes old new s found are before here k =
+    elim (cases_lt k s.from) [
+      | inl q ↦ before k q ∙ found.before k q
+      | inr q ↦
+          elim (cases_lt k (length codes)) [
+            | inl p ↦ here k q p ∙ ap kind_direction (sym (found.here k q p)) ∙ kind_direction-code (get_or codes k 0)
+            | inr p ↦
+                direction_at-past new (length codes) k are p ∙ ap code_direction (sym (get_or_past codes k 0 p))
+          ]
+    ]

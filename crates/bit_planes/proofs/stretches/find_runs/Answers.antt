@@ -1,0 +1,7 @@
+use Rattle.bit_planes.proofs.RunLemmas.{directions-all}
+use Rattle.bit_planes.proofs.stretches.find_runs.Goals as goal
+
+pub returns-clause-directions : goal.returns-clause-directions
+returns-clause-directions c =
+    directions-all c.args.codes.now c.last_stretch.new.runs.items c.close.new.runs.items c.in_ok-stretch.stretch c.in_ok-stretch.ensures
+    c.in_ok-close.ensures.runs c.in_ok-close.ensures.before c.in_ok-close.ensures.here

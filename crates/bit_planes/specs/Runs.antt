@@ -1,0 +1,46 @@
+-- Values by two planes of levels and runs of one direction.
+use Rattle.std.specs.Prelude.{◌≡◌, ℕ, ◌<◌, ◌≤◌, ◌&&◌, Bool, nat_lt, nat_le, List, length, Option, option_map, slice_index, slice_index_or}
+use Rattle.std.specs.Option.{ForSome}
+use Rattle.std.specs.List.{find}
+use Rattle.corr_model.specs.Cell.{Value}
+use Rattle.value_codes.specs.Codes.{value_of, turned_by}
+use Rattle.level_sums.specs.Held.{PlanesFields as LevelFields, CopiesFields, plane_level, plane_samples, copy_level, copy_samples}
+use Rattle.bit_planes.specs.declared.runs.Run.{Run}
+use Rattle.bit_planes.specs.declared.runs.LevelRuns.{LevelRuns}
+
+-- whether the sample at place k is in a run
+abbrev pub has : ℕ → Run → Bool
+has k r = nat_le r.from k && nat_lt k r.to
+
+-- the direction at place k, none where there is no value
+unfoldable pub direction_at : List Run → ℕ → Option ℕ
+direction_at runs k = option_map (λ (r : Run). r.direction) (find (has k) runs)
+
+-- the value at place k
+abbrev pub run_value : LevelRuns → ℕ → Value
+run_value r k = option_map (turned_by (plane_level r.levels k)) (direction_at r.runs.items k)
+
+-- runs one after another, among so many places
+pub record AreRuns (runs : List Run) (size : ℕ) : Type 0 where
+  pub each : (i : ℕ) (d : Run) → i < length runs → (slice_index_or runs i d).from ≤ (slice_index_or runs i d).to
+  pub apart : (i j : ℕ) (d : Run) → i < j → j < length runs → (slice_index_or runs i d).to ≤ (slice_index_or runs j d).from
+  pub inside : (i : ℕ) (d : Run) → i < length runs → (slice_index_or runs i d).to ≤ size
+  pub turns : (i : ℕ) (d : Run) → i < length runs → (slice_index_or runs i d).direction < 8
+
+-- copies of so many levels
+pub record AreCopied (levels : LevelFields) (size : ℕ) (copies : CopiesFields) : Type 0 where
+  pub long : size ≤ copy_samples copies
+  pub whole : copy_samples copies ≡ plane_samples levels
+  pub same : (k : ℕ) → k < size → copy_level copies k ≡ plane_level levels k
+
+-- levels and runs of so many places
+pub record AreLevelRuns (size : ℕ) (r : LevelRuns) : Type 0 where
+  pub long : size ≤ plane_samples r.levels
+  pub even : length r.levels.low ≡ length r.levels.high
+  pub copied : ForSome r.copies (AreCopied r.levels size)
+  pub runs : AreRuns r.runs.items size
+
+-- levels and runs that hold the values of codes
+pub record HoldCodes (codes : List ℕ) (r : LevelRuns) : Type 0 where
+  pub runs : AreLevelRuns (length codes) r
+  pub values : (k : ℕ) → run_value r k ≡ value_of (slice_index codes k)

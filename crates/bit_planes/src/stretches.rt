@@ -1,0 +1,172 @@
+//! Runs of one direction, found in codes.
+ghost use Rattle.std.specs.Prelude.{◌≡◌, ◌<◌, ◌≤◌, ◌+◌, ◌^◌, ℕ, length, slice_index, true, IfOk, OnOk};
+ghost use Rattle.value_codes.specs.Codes.{direction_of};
+ghost use Rattle.bit_planes.specs.Runs.{AreRuns, direction_at};
+ghost use Rattle.bit_planes.specs.Stretches.{kind_of, kind_direction, code_direction, AreFound};
+
+use crate::Run;
+use value_codes::{code_bits, direction_bits};
+
+// There are more runs than there is room for.
+#[derive(Clone, Copy, Debug, PartialEq, Eq)]
+pub(crate) struct TooMany;
+
+// Codes of one kind, from place `from` on: of a direction, or none.
+#[derive(Clone, Copy)]
+pub(crate) struct Stretch {
+    pub from: u64,
+    pub kind: u8,
+}
+
+// The kind where there is no value.
+const GAP: u8 = 8;
+
+// The most runs of so many samples, one for each 512 and a few more.
+pub(crate) fn most_runs(samples: u64) -> u64
+    ensures { result ≤ 2 ^ 60 }
+{
+    samples / 512 + 16
+}
+
+// The direction of a code, 8 where there is no value.
+#[inline(always)]
+fn kind_of(code: u8) -> u8
+    ensures value { result ≡ kind_of code }
+    ensures small { result ≤ 8 }
+{
+    if code == 0 {
+        return GAP;
+    }
+    code % 16 / 2
+}
+
+// Whether the first 64 codes are of a kind.
+#[inline(always)]
+fn are_all(codes: &[u8], kind: u8) -> bool
+    requires room { 64 ≤ length codes.now }
+    requires kind { kind ≤ 8 }
+    ensures { result ≡ true → (k : ℕ) → k < 64 → kind_of (slice_index codes.now k) ≡ kind }
+{
+    let there = code_bits(codes).there;
+    if kind == GAP {
+        return there == 0;
+    }
+    there == u64::MAX && direction_bits(codes, kind) == u64::MAX
+}
+
+// Adds the run of a stretch that ends before place `to`.
+fn close(runs: &mut Vec<Run>, stretch: Stretch, to: u64, most: u64) -> Result<(), TooMany>
+    requires runs { AreRuns runs.old.items stretch.from }
+    requires order { stretch.from ≤ to }
+    requires kind { stretch.kind ≤ 8 }
+    ensures runs { OnOk result (AreRuns runs.new.items to) }
+    ensures before { OnOk result ((k : ℕ) → k < stretch.from → direction_at runs.new.items k ≡ direction_at runs.old.items k) }
+    ensures here { OnOk result ((k : ℕ) → stretch.from ≤ k → k < to → direction_at runs.new.items k ≡ kind_direction stretch.kind) }
+{
+    if stretch.kind == GAP {
+        return Ok(());
+    }
+    if runs.len() as u64 >= most {
+        return Err(TooMany);
+    }
+    let run = Run {
+        from: stretch.from,
+        to,
+        direction: stretch.kind,
+    };
+    match runs.push(run) {
+        Ok(()) => Ok(()),
+        Err(_) => Err(TooMany),
+    }
+}
+
+// The stretch at the code after code `n`.
+#[inline(always)]
+fn step(
+    runs: &mut Vec<Run>,
+    stretch: Stretch,
+    codes: &[u8],
+    n: usize,
+    most: u64,
+) -> Result<Stretch, TooMany>
+    requires found { AreFound codes.now runs.old.items stretch n }
+    requires inside { n < length codes.now }
+    ensures { IfOk result (λ s. AreFound codes.now runs.new.items s (n + 1)) }
+{
+    let kind = kind_of(codes[n]);
+    if kind == stretch.kind {
+        return Ok(stretch);
+    }
+    close(runs, stretch, n as u64, most)?;
+    Ok(Stretch {
+        from: n as u64,
+        kind,
+    })
+}
+
+// The stretch at code `to`, code by code from code `from` on.
+fn walk(
+    runs: &mut Vec<Run>,
+    stretch: Stretch,
+    codes: &[u8],
+    from: usize,
+    to: usize,
+    most: u64,
+) -> Result<Stretch, TooMany>
+    requires found { AreFound codes.now runs.old.items stretch from }
+    requires order { from ≤ to }
+    requires inside { to ≤ length codes.now }
+    ensures { IfOk result (λ s. AreFound codes.now runs.new.items s to) }
+{
+    let mut stretch = stretch;
+    for n in from..to {
+        stretch = step(runs, stretch, codes, n, most)?;
+    }
+    Ok(stretch)
+}
+
+// The stretch 64 codes after code `n`.
+#[inline(always)]
+fn step_word(
+    runs: &mut Vec<Run>,
+    stretch: Stretch,
+    codes: &[u8],
+    n: usize,
+    most: u64,
+) -> Result<Stretch, TooMany>
+    requires found { AreFound codes.now runs.old.items stretch n }
+    requires inside { n + 64 ≤ length codes.now }
+    ensures { IfOk result (λ s. AreFound codes.now runs.new.items s (n + 64)) }
+{
+    if are_all(&codes[n..], stretch.kind) {
+        return Ok(stretch);
+    }
+    walk(runs, stretch, codes, n, n + 64, most)
+}
+
+// The stretch at the last code.
+fn last_stretch(runs: &mut Vec<Run>, codes: &[u8], most: u64) -> Result<Stretch, TooMany>
+    requires scan { length codes.now ≤ 2 ^ 40 }
+    ensures { IfOk result (λ s. AreFound codes.now runs.new.items s (length codes.now)) }
+{
+    runs.clear();
+    let whole = codes.len() / 64;
+    let mut stretch = Stretch { from: 0, kind: GAP };
+    for i in 0..whole {
+        stretch = step_word(runs, stretch, codes, 64 * i, most)?;
+    }
+    walk(runs, stretch, codes, 64 * whole, codes.len(), most)
+}
+
+// Sets the runs to those of the codes.
+pub(crate) fn find_runs(runs: &mut Vec<Run>, codes: &[u8]) -> Result<(), TooMany>
+    requires scan { length codes.now ≤ 2 ^ 40 }
+    ensures runs { OnOk result (AreRuns runs.new.items (length codes.now)) }
+    ensures directions { OnOk result ((k : ℕ) → direction_at runs.new.items k ≡ code_direction (slice_index codes.now k)) }
+{
+    let size = codes.len() as u64;
+    let most = most_runs(size);
+    let stretch = last_stretch(runs, codes, most)?;
+    close(runs, stretch, size, most)?;
+    Ok(())
+}

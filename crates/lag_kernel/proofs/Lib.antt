@@ -3,3 +3,7 @@ pub mod PartsLemmas
 pub mod WordLemmas
 pub mod MaskLemmas
 pub mod PlaneLemmas
+pub mod IntProducts
+pub mod TurnLemmas
+pub mod RunLemmas
+pub mod SideLemmas

@@ -9,8 +9,10 @@ ghost use Rattle.corr_model.proofs.CellLemmas.{IsGrown};
 ghost use Rattle.lag_kernel.specs.Held.{AddsEach};
 ghost use Rattle.lag_kernel.specs.Planes.{plane_samples, plane_pair, plane_inside, values_sum};
 
+use crate::blocks::run_lags;
 use crate::lags::clear;
 use crate::masks::{word_before, word_inside};
+use crate::sides::{First, Second};
 use crate::words::word_cell;
 use bit_planes::{Planes, Word};
 use corr_model::Cell;
@@ -19,6 +21,21 @@ use corr_model::Cell;
 /// second's. Where planes hold no value, also outside their range, there is none.
 pub fn plane_lags(a: &Planes, b: &Planes, from: u64, to: u64, samples: u64, out: &mut [Cell])
     requires even { length out.old % 2 ≡ 0 }
+    requires most { length out.old ≤ 1024 }
+    requires order { from ≤ to }
+    requires inside { to ≤ samples }
+    requires scan { samples ≤ 2 ^ 40 }
+    requires range { to - from ≤ 2 ^ 36 }
+    ensures { out.new ≡ map (λ i. cell_in (plane_samples a.now b.now) plane_pair samples (lag_of (length out.old) i) from to) (range_with_len 0 (length out.old)) }
+{
+    match (First::of(a), Second::of(b)) {
+        (Some(first), Some(second)) => run_lags(&first, &second, from, to, samples, out),
+        _ => word_lags(a, b, from, to, samples, out),
+    }
+}
+
+// The same, word by word.
+fn word_lags(a: &Planes, b: &Planes, from: u64, to: u64, samples: u64, out: &mut [Cell])
     requires most { length out.old ≤ 1024 }
     requires order { from ≤ to }
     requires inside { to ≤ samples }

@@ -1,14 +1,17 @@
 //! The cells of planes are those of the values, sample by sample.
-ghost use Rattle.std.specs.Prelude.{◌≡◌, ◌+◌, ◌*◌, ◌%◌, ◌≤◌, ℕ, None, slice_index, slice_index_or, unsigned_abs, length, if◌then◌else◌, IfSome};
+ghost use Rattle.std.specs.Prelude.{◌≡◌, ◌+◌, ◌*◌, ◌%◌, ◌==◌, ◌≤◌, ℕ, pos, ◌≤ℤ◌, None, slice_index, slice_index_or, unsigned_abs, length, if◌then◌else◌, IfSome};
 ghost use Rattle.corr_model.specs.Cell.{is_inside};
+ghost use Rattle.value_codes.specs.Codes.{value_of};
 ghost use Rattle.lag_kernel.specs.declared.tests.TheConstants.{KINDS};
 
+use crate::sides::{First, Second};
 use crate::{plain_lags, plane_lags};
 use bit_planes::Planes;
 use corr_model::{Cell, Pair, Values};
 use std::alloc::{AllocError, Global};
 use std::process::Abort;
 use std::test::Fail;
+use value_codes::value_of;
 
 // Values of all kinds.
 const KINDS: [Option<(i8, i8)>; 8] = [
@@ -99,4 +102,126 @@ fn plane_lags_are_plain_lags(rt: HostRuntime) -> Result<(), Fail> {
     same_cells(&rt, alloc, &v, 17, 145, 150)?;
     same_cells(&rt, alloc, &v, 100, 260, 300)?;
     same_cells(&rt, alloc, &Mixed::new(2), 1, 130, 131)
+}
+
+// Two stations' values of 1,400 samples by codes: runs of two directions, and gaps. Station 0 has those of the samples from 5
+// up to 1,305, and station 1 those of the samples from 70 up to 1,370.
+#[derive(Drop)]
+struct Coded {
+    a: [u8; 1400],
+    b: [u8; 1400],
+}
+
+// The sector at a sample of station 0, none in a gap.
+fn first_sector(n: usize) -> Option<u8> {
+    match n {
+        0..5 | 265..305 => None,
+        305..1048 => Some(9),
+        1305.. => None,
+        _ => Some(3),
+    }
+}
+
+// The sector at a sample of station 1, none in a gap.
+fn second_sector(n: usize) -> Option<u8> {
+    match n {
+        0..170 => None,
+        170..847 => Some(14),
+        1370.. => None,
+        _ => Some(4),
+    }
+}
+
+fn code_of(level: u8, sector: Option<u8>) -> u8 {
+    match sector {
+        Some(sector) => 1 + 16 * (level % 4) + sector % 16,
+        None => 0,
+    }
+}
+
+impl Coded {
+    fn new(mut seed: u64) -> Coded {
+        let mut a = [0; 1400];
+        let mut b = [0; 1400];
+        for n in 0..1400_usize {
+            seed = seed
+                .wrapping_mul(6_364_136_223_846_793_005)
+                .wrapping_add(1_442_695_040_888_963_407);
+            a[n] = code_of((seed >> 40 & 3) as u8, first_sector(n));
+            b[n] = code_of((seed >> 62) as u8, second_sector(n));
+        }
+        Coded { a, b }
+    }
+}
+
+impl Values for Coded {
+    ghost samples = { λ v station chan n.
+        if is_inside n 1400
+        then (if station % 2 == 0 then value_of (slice_index v.a (unsigned_abs n)) else value_of (slice_index v.b (unsigned_abs n)))
+        else None };
+
+    fn z(&self, station: u32, _chan: u32, n: i64) -> Option<(i8, i8)> {
+        if n < 0 || n >= 1400 {
+            return None;
+        }
+        if station % 2 == 0 {
+            value_of(self.a[n as usize])
+        } else {
+            value_of(self.b[n as usize])
+        }
+    }
+}
+
+// Planes of the samples from `from` on that hold these codes.
+fn filled(alloc: Global, codes: &[u8], from: i64, second: bool) -> Result<Planes, AllocError>
+    requires few { length codes.now ≤ 1400 }
+    requires low { pos 0 ≤ℤ from }
+    requires high { from ≤ℤ pos 100 }
+{
+    let mut planes = Planes::room(alloc, from, from + codes.len() as i64, second)?;
+    planes.fill(codes);
+    Ok(planes)
+}
+
+// Both ways over a range of a scan of this many samples, at so many lags.
+fn same_lags(
+    rt: &impl Abort,
+    alloc: Global,
+    v: &Coded,
+    from: u64,
+    to: u64,
+    samples: u64,
+    lags: usize,
+) -> Result<(), Fail>
+    requires order { from ≤ to }
+    requires inside { to ≤ samples }
+    requires few { samples ≤ 2000 }
+    requires even { lags % 2 ≡ 0 }
+    requires most { lags ≤ 140 }
+{
+    let a = filled(alloc, &v.a[5..1305], 5, false)?;
+    let b = filled(alloc, &v.b[70..1370], 70, true)?;
+    assert!(rt; First::of(&a).is_some() && Second::of(&b).is_some());
+    let mut slow = [Cell::ZERO; 140];
+    let mut fast = [Cell::ZERO; 140];
+    plain_lags(v, &PAIR, from, to, samples, &mut slow[..lags]);
+    plane_lags(&a, &b, from, to, samples, &mut fast[..lags]);
+    assert_eq!(rt; fast.as_slice(), slow.as_slice());
+    Ok(())
+}
+
+// Ranges that begin and end inside runs and words, over the ends of both stations and of the scan.
+#[test]
+fn runs_are_plain_lags(rt: HostRuntime) -> Result<(), Fail> {
+    let alloc = rt.alloc();
+    let v = Coded::new(1);
+    same_lags(&rt, alloc, &v, 0, 1500, 1500, 140)?;
+    same_lags(&rt, alloc, &v, 0, 1500, 1500, 2)?;
+    same_lags(&rt, alloc, &v, 0, 1380, 1400, 64)?;
+    same_lags(&rt, alloc, &v, 200, 200, 1400, 64)?;
+    same_lags(&rt, alloc, &v, 266, 1048, 1100, 140)?;
+    for place in 0..64_u64 {
+        same_lags(&rt, alloc, &v, 128 + place, 900 - place, 1000, 64)?;
+    }
+    same_lags(&rt, alloc, &Coded::new(2), 700, 1370, 1371, 140)
 }

@@ -4,7 +4,7 @@ use Rattle.corr_model.specs.Cell.{cell_in}
 use Rattle.corr_model.specs.Lags.{lag_of}
 use Rattle.corr_model.proofs.CellLemmas.{IsGrown}
 use Rattle.lag_kernel.specs.Planes.{plane_samples, plane_pair}
-use Rattle.lag_kernel.proofs.planes.plane_lags.Given as goal
+use Rattle.lag_kernel.proofs.planes.word_lags.Given as goal
 
 -- What the cells can have grown by counts until the last word, which may have fewer pairs than 64.
 abbrev pub invariant-loop-at : goal.invariant-loop-at

@@ -1,7 +1,8 @@
 -- The values of planes and of streams.
-use Rattle.std.specs.Prelude.{int_le, int_lt, ◌&&◌, if◌then◌else◌, option_and_then, slice_get, IfOk}
+use Rattle.std.specs.Prelude.{int_le, int_lt, ◌&&◌, if◌then◌else◌, option_and_then, slice_get}
 use Rattle.std.specs.List.{range_with_len}
-use Rattle.std.proofs.Common.{◌≡◌, ℕ, ◌+◌, ◌^◌, ◌≤◌, ◌<◌, min, Bool, true, false, ℤ, pos, ◌+ℤ◌, ◌-ℤ◌, ◌≤ℤ◌, ◌<ℤ◌, unsigned_abs, List, [], ◌∷◌, ◌++◌, length, map, get_or, Option, Some, None, Result, Ok, Err, inl, inr, refl, sym, ap, subst, ◌∙◌, arith}
+use Rattle.std.proofs.Common.{◌≡◌, ℕ, zero, suc, ◌+◌, ◌^◌, ◌≤◌, ◌<◌, min, Bool, true, false, ℤ, pos, ◌+ℤ◌, ◌-ℤ◌, ◌≤ℤ◌, ◌<ℤ◌, unsigned_abs, List, [], ◌∷◌, ◌++◌, length, map, get_or, Option, Some, None, Vec, Global, inl, inr, refl, sym, ap, subst, ◌∙◌, arith}
+use Rattle.std.specs.Vec.{with_items}
 use Rattle.std.proofs.Math.Seq.{get_or-append_seam}
 use Rattle.std.proofs.lemmas.Bool.{cases_lt}
 use Rattle.std.proofs.lemmas.Int.{ints}
@@ -19,7 +20,8 @@ use Rattle.lag_kernel.specs.Planes.{plane_samples, plane_pair}
 use Rattle.station_stream.specs.Stream.{StreamFields, stream_value, windowed}
 use Rattle.epoch_run.specs.Sums.{pair_cells}
 use Rattle.epoch_run.specs.Streamed.{streamed}
-use Rattle.epoch_run.specs.Planes.{chans_value, planed, HoldStreams}
+use Rattle.epoch_run.specs.Planes.{chans_value, planed, HoldStreams, HoldChans, AreFilled}
+use Rattle.station_stream.proofs.ChansLemmas.{take-kept}
 use Rattle.epoch_run.proofs.Streams.{streamed-there, streamed-past}
 
 -- the value of planes that are there or not
@@ -27,7 +29,7 @@ abbrev value_of : ℤ → Option PlanesFields → Value
 value_of n o = option_and_then (λ (p : PlanesFields). plane_value p n) o
 
 abbrev no_planes : PlanesFields
-no_planes = record { from = pos 0; to = pos 0; words = [] }
+no_planes = record { from = pos 0; to = pos 0; words = []; levels = None }
 
 -- cells over equal values are equal
 pub pair_cells-planes : (a b : PlanesFields) (z : Samples) (pair : Pair) (samples lags from to : ℕ)
@@ -125,20 +127,6 @@ chans_value-each chans s count most long all each chan n few =
       | inr q ↦ ap (value_of n) (slice_get_past chans chan (omega arith)) ∙ sym (windowed-lacking s chan n (omega arith))
     ]
 
--- one station more
-pub planed-more : {A : Type 0} (items : A → List PlanesFields) (xs : List A) (x : A) (z : Samples) (count most : ℕ) → length xs ≡ count
-    → ((station chan : ℕ) (n : ℤ) → station < count → chan < most → planed (map items xs) station chan n ≡ z station chan n)
-    → ((chan : ℕ) (n : ℤ) → chan < most → chans_value (items x) chan n ≡ z count chan n)
-    → (station chan : ℕ) (n : ℤ) → station < count + 1 → chan < most → planed (map items (xs ++ x ∷ [])) station chan n ≡ z station chan n
-planed-more items xs x z count most long old new station chan n h few =
-    ap (λ (all : List (List PlanesFields)). planed all station chan n) (map-append items xs (x ∷ []))
-    ∙ each-more (λ k chans. (c : ℕ) (m : ℤ) → c < most → chans_value chans c m ≡ z k c m) (map items xs) (items x) count
-    (length-map xs items ∙ long)
-    (λ k d lt c m. subst (λ (chans : List PlanesFields). c < most → chans_value chans c m ≡ z k c m)
-    (get_or_default (map items xs) k [] d (omega (arith, length-map xs items, lt)))
-    (old k c m lt))
-    new station [] h chan n few
-
 -- planes of each stream, as far as a station's number goes
 pub HoldStreams-each : (stations : List (List PlanesFields)) (streams : List StreamFields) (count : ℕ) → length stations ≡ count
     → min (length streams) (2 ^ 32) ≤ count
@@ -153,15 +141,43 @@ HoldStreams-each stations streams count long all each station chan n small few =
           ∙ sym (streamed-past streams station chan n (omega arith))
     ]
 
--- planes that hold a stream's values in its window
-pub plane_value-built : {E : Type 0} (r : Result PlanesFields E) (streams : List StreamFields) (station chan : ℕ) (s : StreamFields) (from to : ℤ)
-    → slice_get streams station ≡ Some s → from ≡ s.from → to ≡ s.to
-    → IfOk r (λ p. (p.from ≡ from) × (p.to ≡ to))
-    → IfOk r (λ p. (n : ℤ) → from ≤ℤ n → n <ℤ to → plane_value p n ≡ streamed streams station chan n)
-    → IfOk r (λ p. (n : ℤ) → plane_value p n ≡ streamed streams station chan n)
-plane_value-built (Ok p) streams station chan s from to there begin end range values = λ n.
-    let same = streamed-there streams station chan n s there in
-    plane_value-windowed p s chan n (range.0 ∙ begin) (range.1 ∙ end)
-    (λ low high. values n (omega (arith, ints)) (omega (arith, ints)) ∙ same)
-    ∙ sym same
-plane_value-built (Err e) streams station chan s from to there begin end range values = tt
+pub some_one : {A : Type 0} (x y : A) → Some x ≡ Some y → x ≡ y
+some_one x y e = cc
+
+pub none_some : {A : Type 0} (x : A) → None ≡ Some x → ⊥
+none_some x e = cc
+
+-- a vector with other items, as many
+pub kept_items : {A : Type 0} (v : Vec A Global) (xs : List A) → length xs ≡ length v.items → (with_items v xs).items ≡ xs
+kept_items v xs same = take-kept v.items xs v.len v.ok.0 same
+
+-- an element that is there, whatever stands for one that is not
+there : {A : Type 0} (xs : List A) (i : ℕ) → i < length xs → (x : A) × ((d : A) → get_or xs i d ≡ x)
+there [] i h = absurd (omega arith)
+there (x ∷ xs) zero h = (x, λ d. refl)
+there (x ∷ xs) (suc i) h = there xs i (omega arith)
+
+mapped : {A B : Type 0} (f : A → B) (xs : List A) (i : ℕ) (x : A) (e : B) → i < length xs → ((d : A) → get_or xs i d ≡ x) → get_or (map f xs) i e ≡ f x
+mapped f [] i x e h is = absurd (omega arith)
+mapped f (y ∷ xs) zero x e h is = ap f (is x)
+mapped f (y ∷ xs) (suc i) x e h is = mapped f xs i x e (omega arith) is
+
+-- planes of every stream that hold the values of its channels
+pub HoldStreams-filled : (streams : List StreamFields) (stations : List (Vec PlanesFields Global)) → AreFilled streams stations
+    → HoldStreams (map (λ (v : Vec PlanesFields Global). v.items) stations) streams
+HoldStreams-filled streams stations filled =
+    HoldStreams-each (map items stations) streams (length stations) (length-map stations items) (omega (arith, filled.count)) each
+  where
+    items : Vec PlanesFields Global → List PlanesFields
+    items v = v.items
+
+    each : (station chan : ℕ) (n : ℤ) → station < length stations → chan < 2 ^ 32 → planed (map items stations) station chan n ≡ streamed streams station chan n
+    each station chan n h few =
+        let few_streams : station < length streams = omega (arith, filled.count) in
+        let v = there stations station h in
+        let s = there streams station few_streams in
+        let is : slice_get streams station ≡ Some s.0 = slice_get-get_or streams station s.0 few_streams ∙ ap Some (s.1 s.0) in
+        let hold : HoldChans s.0 v.0.items = subst (λ (w : Vec PlanesFields Global). HoldChans s.0 w.items) (v.1 v.0) (filled.each station v.0 h s.0 is) in
+        ap (λ (chans : List PlanesFields). chans_value chans chan n) (mapped items stations station v.0 [] h v.1)
+        ∙ chans_value-each v.0.items s.0 (length v.0.items) (2 ^ 32) refl (omega (arith, hold.count)) (λ k d lt m. hold.each k d lt m) chan n few
+        ∙ sym (streamed-there streams station chan n s.0 is)

@@ -1,8 +1,9 @@
 -- Planes of bits of the channels of streams.
-use Rattle.std.specs.Prelude.{◌≡◌, ℕ, ◌^◌, ◌<◌, ℤ, List, [], option_and_then, slice_get, slice_index_or}
+use Rattle.std.specs.Prelude.{◌≡◌, ℕ, ◌^◌, ◌<◌, ℤ, min, List, [], length, Some, None, Vec, option_and_then, slice_get, slice_index_or}
+use Rattle.std.specs.Global.{Global}
 use Rattle.corr_model.specs.Cell.{Value, Samples}
 use Rattle.bit_planes.specs.Planes.{PlanesFields, plane_value}
-use Rattle.station_stream.specs.Stream.{StreamFields}
+use Rattle.station_stream.specs.Stream.{StreamFields, windowed}
 use Rattle.epoch_run.specs.Streamed.{streamed}
 
 -- the value of a station's channel at a sample, none past the last channel
@@ -17,3 +18,35 @@ planed stations station chan n = chans_value (slice_index_or stations station []
 abbrev pub HoldStreams : List (List PlanesFields) → List StreamFields → Type 0
 HoldStreams stations streams =
     (station chan : ℕ) (n : ℤ) → station < 2 ^ 32 → chan < 2 ^ 32 → planed stations station chan n ≡ streamed streams station chan n
+
+-- planes of a stream's window that hold no value yet
+pub record HasRoom (s : StreamFields) (p : PlanesFields) : Type 0 where
+  pub from : p.from ≡ s.from
+  pub to : p.to ≡ s.to
+  pub none : (n : ℤ) → plane_value p n ≡ None
+
+-- such planes for each channel that a pair can have
+pub record HaveRoom (s : StreamFields) (chans : List PlanesFields) : Type 0 where
+  pub count : length chans ≡ min (length s.values) (2 ^ 32)
+  pub each : (k : ℕ) (d : PlanesFields) → k < length chans → HasRoom s (slice_index_or chans k d)
+
+-- planes that hold the values of each channel
+pub record HoldChans (s : StreamFields) (chans : List PlanesFields) : Type 0 where
+  pub count : length chans ≡ min (length s.values) (2 ^ 32)
+  pub each : (k : ℕ) (d : PlanesFields) → k < length chans → (n : ℤ) → plane_value (slice_index_or chans k d) n ≡ windowed s k n
+
+-- the same for the stream at a place
+abbrev pub IsRoomAt : List StreamFields → ℕ → List PlanesFields → Type 0
+IsRoomAt streams i chans = (s : StreamFields) → slice_get streams i ≡ Some s → HaveRoom s chans
+
+abbrev pub IsFilledAt : List StreamFields → ℕ → List PlanesFields → Type 0
+IsFilledAt streams i chans = (s : StreamFields) → slice_get streams i ≡ Some s → HoldChans s chans
+
+-- and for each stream that a pair can have
+pub record HaveRooms (streams : List StreamFields) (stations : List (Vec PlanesFields Global)) : Type 0 where
+  pub count : length stations ≡ min (length streams) (2 ^ 32)
+  pub each : (i : ℕ) (d : Vec PlanesFields Global) → i < length stations → IsRoomAt streams i (slice_index_or stations i d).items
+
+pub record AreFilled (streams : List StreamFields) (stations : List (Vec PlanesFields Global)) : Type 0 where
+  pub count : length stations ≡ min (length streams) (2 ^ 32)
+  pub each : (i : ℕ) (d : Vec PlanesFields Global) → i < length stations → IsFilledAt streams i (slice_index_or stations i d).items

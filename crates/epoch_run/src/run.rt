@@ -17,7 +17,8 @@ use std::thread::Threads;
 /// threads, 1 to 64; where a thread cannot be had its part is done by another. `samples` is the scan's length. `pairs` has a pair
 /// for each group, in the order of the groups' numbers: in it `a` and `b` are places in `streams`, `x` and `y` channels of these.
 /// A sample that no stream has in its window adds nothing, so the windows hold the epoch and as many samples on each side as
-/// there are lags. All memory but that of the totals is taken before the first piece.
+/// there are lags. All memory but that of the totals is taken before the
+/// first piece.
 pub fn run_epoch<R: Threads + Sync, G: Gate + Sync>(
     rt: &R,
     alloc: Global,
@@ -34,7 +35,7 @@ pub fn run_epoch<R: Threads + Sync, G: Gate + Sync>(
     ensures cells { IfOk result (λ sums. sums.cells ≡ cells_in_epoch (streamed streams.now) pairs.now samples plan.now) }
     ensures pieces { IfOk result (λ sums. sums.pieces ≡ pieces_in_epoch plan.now piece) }
 {
-    let work = Work::new(alloc, streams, pairs, samples, plan, piece)?;
+    let work = Work::new(rt, alloc, streams, pairs, samples, plan, piece, workers)?;
     let shares = u64::from(workers);
     let (board, seat) = work.board(alloc, shares)?;
     let mut team = make_team(alloc, &board, seat, shares, plan.lags)?;

@@ -22,6 +22,7 @@ use piece_plan::{EpochPlan, Piece, PiecePlan};
 use station_stream::Stream;
 use std::alloc::{AllocError, Global};
 use std::marker::Model;
+use std::thread::Threads;
 
 /// What the workers of an epoch read: the streams of its stations, the pair of each group in the order of the groups' numbers,
 /// the scan's length in samples, the epoch, the most samples in a piece, and the planes of the streams' channels.
@@ -61,16 +62,19 @@ impl<'a> Model for Work<'a> {
 
 impl<'a> Work<'a> {
     /// What the workers of an epoch read. In a pair `a` and `b` are places in `streams`, and `x` and `y` are channels of
-    /// these. It makes the planes of all their channels, and takes the memory for them.
-    pub fn new(
+    /// these. It takes the memory for the planes of all their channels, and then fills them, by `workers` threads, 1 to 64.
+    pub fn new<R: Threads + Sync>(
+        rt: &R,
         alloc: Global,
         streams: &'a [Stream],
         pairs: &'a [Pair],
         samples: u64,
         plan: &'a EpochPlan,
         piece: u64,
+        workers: u32,
     ) -> Result<Work<'a>, AllocError>
-        requires { IsSummed pairs.now samples plan.now piece }
+        requires epoch { IsSummed pairs.now samples plan.now piece }
+        requires workers { 1 ≤ workers }
         ensures { IfOk result (λ w. w ≡ record {
           streams = streams.now;
           pairs = pairs.now;
@@ -80,7 +84,7 @@ impl<'a> Work<'a> {
         }) }
     {
         are_levelled(streams);
-        let planes = StationPlanes::build(alloc, streams)?;
+        let planes = StationPlanes::build(rt, alloc, streams, pairs, workers)?;
         Ok(Work {
             streams,
             pairs,

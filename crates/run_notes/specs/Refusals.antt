@@ -65,3 +65,9 @@ MatchRead _ P Q = Q
 abbrev pub MatchJournal : Refusal → Type 0 → Type 0 → Type 0
 MatchJournal (Journal kept) P Q = P
 MatchJournal _ P Q = Q
+
+-- one fact for a read fault, another for a fault of the journal, a third for the rest
+abbrev pub MatchReadOrJournal : Refusal → Type 0 → Type 0 → Type 0 → Type 0
+MatchReadOrJournal Read P Q R = P
+MatchReadOrJournal (Journal kept) P Q R = Q
+MatchReadOrJournal _ P Q R = R

@@ -43,3 +43,11 @@ IsFound-read plan job i e scan ranges cut at is of read =
       of_scan = of-scan plan e scan (subst (λ (j : JobSizes). IsEpoch j e) cut is) of there;
       ranges = subst (IsScanPlan plan) (sym read) (ranges.scans e.scan scan inside);
     }
+
+-- an epoch is found once, with its scan
+pub same-epoch : (plan : Plan) (job : JobSizes) (i : ℕ) (e e' : EpochPlan) (scan scan' : ScanPlan) → IsFound plan job i e scan → IsFound plan job i e' scan' → e ≡ e'
+same-epoch plan job i e e' scan scan' one other = same_Some e e' (sym one.at ∙ other.at)
+
+pub same-scan : (plan : Plan) (job : JobSizes) (i : ℕ) (e e' : EpochPlan) (scan scan' : ScanPlan) → IsFound plan job i e scan → IsFound plan job i e' scan' → scan ≡ scan'
+same-scan plan job i e e' scan scan' one other =
+    same_Some scan scan' (sym one.there ∙ ap (λ (x : EpochPlan). slice_get plan.scans x.scan) (same-epoch plan job i e e' scan scan' one other) ∙ other.there)

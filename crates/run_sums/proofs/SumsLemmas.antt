@@ -2,11 +2,13 @@
 use Rattle.std.specs.Prelude.{flat_map, option_map, slice_get}
 use Rattle.std.specs.List.{range_with_len}
 use Rattle.std.specs.Option.{option_map_or}
-use Rattle.std.proofs.Common.{◌≡◌, ℕ, ◌*◌, ◌<◌, pos, ◌+ℤ◌, List, [], ◌∷◌, ◌++◌, length, map, Some, refl, sym, ap, ◌∙◌, arith}
+use Rattle.std.proofs.Common.{◌≡◌, ℕ, ◌*◌, ◌<◌, pos, ◌+ℤ◌, List, [], ◌∷◌, ◌++◌, length, map, Option, Some, refl, sym, ap, subst, ◌∙◌, arith}
 use Rattle.std.proofs.lemmas.List.{length-append, length-map}
 use Rattle.std.proofs.lemmas.List.Concat.{flat_map-append}
 use Rattle.std.proofs.lemmas.List.Folds.{flat_map-map}
 use Rattle.std.proofs.lemmas.List.FromFn.{length-map-range_with_len, get_or-map-range_with_len, fill_by_all}
+use Rattle.dev_traits.specs.Told.{WhereTold}
+use Rattle.frame_index.proofs.ToldLemmas.{WhereTold-weaker}
 use Rattle.corr_model.specs.declared.cell.Cell.{Cell}
 use Rattle.corr_model.specs.declared.cell.Pair.{Pair}
 use Rattle.corr_model.specs.Cell.{Samples, no_cell, cell_in}
@@ -27,9 +29,11 @@ use Rattle.scan_values.specs.declared.values.ScanValues.{ScanValues}
 use Rattle.epoch_run.specs.Streamed.{streamed}
 use Rattle.epoch_run.specs.Sums.{pair_cells, cells_in_epoch}
 use Rattle.run_sums.specs.Found.{IsEpochOf, IsFound}
-use Rattle.run_sums.specs.Reach.{AreReached}
+use Rattle.run_ready.specs.declared.ready.Ready.{Ready}
+use Rattle.run_sums.specs.Reach.{AreReached, IsReached}
 use Rattle.run_sums.specs.Pairs.{placed_pair, pairs_in}
 use Rattle.run_sums.proofs.PlaceLemmas.{streamed-place}
+use Rattle.run_sums.proofs.FoundLemmas.{same-epoch, same-scan}
 use Rattle.run_sums.proofs.ReachLemmas.{inside-epoch, inside-lagged}
 
 -- ---- lists of lists
@@ -120,6 +124,24 @@ sums_of-reached plan job i e scan v files sums found cut are_cells are =
     are_cells ∙ range_cells-reached plan scan e v files found.of_scan are
     ∙ sym (ap (λ o. option_map_or (epoch_sums plan files) o []) at
     ∙ ap (λ o. option_map_or (λ (s : ScanPlan). range_cells plan (rotated plan files s) s e.from e.to) o []) found.there)
+
+-- the same from values that the epoch's lags reach, whichever way the epoch is found
+pub sums_of-values : (told : Option Files) (ready : Ready) (plan : Plan) (i : ℕ) (e : EpochPlan) (scan : ScanPlan) (v : ScanValues) (sums : List Cell)
+    → plan ≡ ready.plan → IsFound plan ready.epochs i e scan
+    → sums ≡ cells_in_epoch (streamed v.streams.items) (pairs_in v plan scan) scan.samples e
+    → IsReached told ready i v → WhereTold told (λ (files : Files). sums ≡ sums_of ready.plan files i)
+sums_of-values told ready plan i e scan v sums same found are_cells reached =
+    let z : Samples = streamed v.streams.items in
+    let here : IsFound ready.plan ready.epochs i e scan = subst (λ (p : Plan). IsFound p ready.epochs i e scan) same found in
+    let epoch = same-epoch ready.plan ready.epochs i e reached.epoch scan reached.scan here reached.found in
+    let of = same-scan ready.plan ready.epochs i e reached.epoch scan reached.scan here reached.found in
+    let cells : sums ≡ cells_in_epoch z (pairs_in v ready.plan reached.scan) reached.scan.samples reached.epoch =
+    are_cells ∙ ap (λ (p : Plan). cells_in_epoch z (pairs_in v p scan) scan.samples e) same
+    ∙ ap (λ (s : ScanPlan). cells_in_epoch z (pairs_in v ready.plan s) s.samples e) of
+    ∙ ap (λ (x : EpochPlan). cells_in_epoch z (pairs_in v ready.plan reached.scan) reached.scan.samples x) epoch in
+    WhereTold-weaker told (AreReached ready.plan reached.scan reached.epoch v) (λ (files : Files). sums ≡ sums_of ready.plan files i)
+    (λ files are. sums_of-reached ready.plan ready.epochs i reached.epoch reached.scan v files sums reached.found ready.cut cells are)
+    reached.values
 
 pub cells_of_epoch-found : (plan : Plan) (job : JobSizes) (i : ℕ) (e : EpochPlan) (scan : ScanPlan) (v : ScanValues) (sums : List Cell)
     → IsFound plan job i e scan → sums ≡ cells_in_epoch (streamed v.streams.items) (pairs_in v plan scan) scan.samples e

@@ -1,5 +1,6 @@
 -- The samples that the lags of an epoch reach, and values of these.
-use Rattle.std.specs.Prelude.{◌≡◌, ℕ, ◌+◌, ◌-◌, ◌/◌, min, ℤ, pos, ◌≤ℤ◌, ◌<ℤ◌}
+use Rattle.std.specs.Prelude.{◌≡◌, ℕ, ◌+◌, ◌-◌, ◌/◌, ◌≤◌, min, length, Option, ℤ, pos, ◌≤ℤ◌, ◌<ℤ◌}
+use Rattle.dev_traits.specs.Told.{WhereTold}
 use Rattle.corr_model.specs.Files.{Files}
 use Rattle.piece_plan.specs.declared.epoch.EpochPlan.{EpochPlan}
 use Rattle.job_plan.specs.declared.plan.ScanPlan.{ScanPlan}
@@ -7,6 +8,8 @@ use Rattle.job_plan.specs.declared.plan.Plan.{Plan}
 use Rattle.job_plan.specs.Values.{rotated}
 use Rattle.scan_values.specs.declared.values.ScanValues.{ScanValues}
 use Rattle.scan_values.specs.Values.{values_of}
+use Rattle.run_ready.specs.declared.ready.Ready.{Ready}
+use Rattle.run_sums.specs.Found.{IsFound}
 
 -- the first of them, not before the scan: the least lag is half their number below 0
 abbrev pub reach_from : EpochPlan → ℕ
@@ -21,3 +24,12 @@ abbrev pub AreReached : Plan → ScanPlan → EpochPlan → ScanValues → Files
 AreReached plan scan e v files =
     (station chan : ℕ) (n : ℤ) → pos (reach_from e) ≤ℤ n → n <ℤ pos (reach_to e scan.samples)
     → values_of v station chan n ≡ rotated plan files scan station chan n
+
+-- Values of few streams, from which epoch i of the job is summed: where the files are told, they are those of its scan at the
+-- samples that its lags reach.
+pub record IsReached (told : Option Files) (ready : Ready) (i : ℕ) (v : ScanValues) : Type 0 where
+  pub epoch : EpochPlan
+  pub scan : ScanPlan
+  pub found : IsFound ready.plan ready.epochs i epoch scan
+  pub values : WhereTold told (AreReached ready.plan scan epoch v)
+  pub few : length v.streams.items ≤ 32

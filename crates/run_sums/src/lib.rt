@@ -1,10 +1,15 @@
-//! The sums of one epoch of a job that is ready. It stands on `run_ready` for the job, on `scan_values` for the values of the
+//! The sums of the epochs of a job that is ready. It stands on `run_ready` for the job, on `scan_values` for the values of an
 //! epoch's stations in a window around it, and on `epoch_run` for the workers. The sums are those of the definition, whatever
-//! the number of workers and the length of a piece.
+//! the number of workers and the length of a piece. While an epoch is summed, the values of the next one are read.
 #![tactic(auto)]
 
+mod ahead;
+mod epochs;
 mod pairs;
-mod reach;
+mod reached;
 mod sums;
+mod window;
 
-pub use sums::correlate;
+pub use ahead::{Ahead, advance, behind};
+pub use reached::reach;
+pub use sums::sum;

@@ -1,5 +1,5 @@
 use Rattle.run_sums.proofs.PlaceLemmas.{streams-few}
-use Rattle.run_sums.proofs.sums.reached.Goals as goal
+use Rattle.run_sums.proofs.reached.load.Goals as goal
 
 pub returns-in-Ok-clause-few : goal.returns-in-Ok-clause-few
 returns-in-Ok-clause-few g c =

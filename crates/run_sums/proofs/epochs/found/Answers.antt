@@ -1,7 +1,7 @@
 use Rattle.std.proofs.Common.{List, get_or, ap, ◌∙◌}
 use Rattle.job_plan.specs.declared.plan.ScanPlan.{ScanPlan}
 use Rattle.run_sums.proofs.FoundLemmas.{IsFound-read}
-use Rattle.run_sums.proofs.sums.found.Goals as goal
+use Rattle.run_sums.proofs.epochs.found.Goals as goal
 
 pub returns : goal.returns
 returns c =

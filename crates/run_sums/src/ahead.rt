@@ -1,0 +1,135 @@
+//! What is summed and read ahead.
+ghost use Rattle.std.specs.Prelude.{◌≡◌, ◌^◌, ◌<◌, ◌≤◌, ◌↔◌, Option, IfOk, IfErr, IfSome, IsSome, is_some, length, slice_get};
+ghost use Rattle.std.specs.Option.{option_map_or};
+ghost use Rattle.dev_traits.specs.Told.{WhereTold};
+ghost use Rattle.corr_model.specs.Files.{Files};
+ghost use Rattle.piece_plan.specs.Epochs.{epochs_of};
+ghost use Rattle.station_stream.specs.Recorded.{AreRecorded};
+ghost use Rattle.epoch_run.specs.Sums.{pieces_in_epoch};
+ghost use Rattle.run_notes.specs.Counted.{CountsReads};
+ghost use Rattle.run_sums.specs.Ahead.{behind, AreSumsOf, IsAhead};
+ghost use Rattle.run_sums.specs.Reach.{IsReached};
+ghost use Rattle.run_sums.specs.Refused.{IsOfReads};
+
+use crate::reached::reach;
+use crate::sums::sum;
+use atomic_sums::EpochSums;
+use dev_traits::{Gate, Shelf};
+use run_notes::Refusal;
+use run_ready::Ready;
+use scan_values::ScanValues;
+use std::alloc::{AllocError, Global};
+use std::thread::{Threads, join_mut};
+
+/// What of the epochs behind those kept is summed and read already: the sums of the next one, and the values of the one behind
+/// it, or of the next one where none is summed.
+#[derive(Drop)]
+pub struct Ahead {
+    pub sums: Option<EpochSums>,
+    pub values: Option<ScanValues>,
+}
+
+/// The epoch behind epoch `i` where something of that is there, and else epoch `i`.
+pub fn behind<T>(held: &Option<T>, i: u64) -> u64
+    requires { i < 2 ^ 63 }
+    ensures { result ≡ behind held.now i }
+{
+    match held {
+        Some(_) => i + 1,
+        None => i,
+    }
+}
+
+/// Sums epoch `e` where its values are there, and reads those of the next one at the same time, where the job has such; with no
+/// values, those of epoch `e` are the next. `workers` and `piece` are as for `sum`. A read fault is answered before want of
+/// memory for the sums.
+pub fn advance<R: Threads + Sync, F: Shelf + Send, G: Gate + Sync>(
+    rt: &R,
+    alloc: Global,
+    ready: &Ready,
+    shelf: &mut F,
+    e: u64,
+    values: &Option<ScanValues>,
+    workers: u32,
+    piece: u64,
+    gate: &G,
+) -> Result<Ahead, Refusal>
+    requires recorded { WhereTold (F.told shelf.old) (λ files. AreRecorded files ready.now.plan.stations ready.now.recordings.items) }
+    requires within { e ≤ length (epochs_of ready.now.epochs) }
+    requires reached { IfSome values.now (λ v. IsReached (F.told shelf.old) ready.now e v) }
+    requires workers { (1 ≤ workers) × (workers ≤ 64) }
+    requires piece { (64 ≤ piece) × (piece ≤ 4194304) }
+    ensures same { F.told shelf.new ≡ F.told shelf.old }
+    ensures ahead { IfOk result (λ ahead. IsAhead (F.told shelf.old) ready.now e ahead) }
+    ensures summed { IfOk result (λ ahead. is_some ahead.sums ≡ is_some values.now) }
+    ensures read { IfOk result (λ ahead. IsSome ahead.values ↔ (behind values.now e < length (epochs_of ready.now.epochs))) }
+    ensures pieces { IfOk result (λ ahead. IfSome ahead.sums (λ sums. sums.pieces
+        ≡ option_map_or (λ e. pieces_in_epoch e piece) (slice_get (epochs_of ready.now.epochs) e) 0)) }
+    ensures stage { IfErr result IsOfReads }
+    ensures counts { CountsReads (F.faults shelf.old) (F.faults shelf.new) result }
+    ensures no_fall { F.faults shelf.old ≤ F.faults shelf.new }
+{
+    let next = behind(values, e);
+    let (read, summed) = join_mut(
+        rt,
+        &mut || reach_next(alloc, ready, shelf, next),
+        &mut ||
+            requires inside { IfSome values.now (λ v. e < length (epochs_of ready.now.epochs)) }
+            requires few { IfSome values.now (λ v. length v.streams.items ≤ 32) }
+            requires workers { (1 ≤ workers) × (workers ≤ 64) }
+            requires piece { (64 ≤ piece) × (piece ≤ 4194304) }
+        { sum_held(rt, alloc, ready, values, e, workers, piece, gate) },
+    );
+    let values = read?;
+    let sums = summed?;
+    Ok(Ahead { sums, values })
+}
+
+// The values of epoch `i`, where the job has it.
+fn reach_next<F: Shelf>(
+    alloc: Global,
+    ready: &Ready,
+    shelf: &mut F,
+    i: u64,
+) -> Result<Option<ScanValues>, Refusal>
+    requires recorded { WhereTold (F.told shelf.old) (λ files. AreRecorded files ready.now.plan.stations ready.now.recordings.items) }
+    ensures same { F.told shelf.new ≡ F.told shelf.old }
+    ensures values { IfOk result (λ values. IfSome values (λ v. IsReached (F.told shelf.old) ready.now i v)) }
+    ensures read { IfOk result (λ values. IsSome values ↔ (i < length (epochs_of ready.now.epochs))) }
+    ensures stage { IfErr result IsOfReads }
+    ensures counts { CountsReads (F.faults shelf.old) (F.faults shelf.new) result }
+    ensures no_fall { F.faults shelf.old ≤ F.faults shelf.new }
+{
+    if i < ready.epochs.epochs() {
+        Ok(Some(reach(alloc, ready, shelf, i)?))
+    } else {
+        Ok(None)
+    }
+}
+
+// The sums of epoch `i`, where its values are there.
+fn sum_held<R: Threads + Sync, G: Gate + Sync>(
+    rt: &R,
+    alloc: Global,
+    ready: &Ready,
+    values: &Option<ScanValues>,
+    i: u64,
+    workers: u32,
+    piece: u64,
+    gate: &G,
+) -> Result<Option<EpochSums>, AllocError>
+    requires inside { IfSome values.now (λ v. i < length (epochs_of ready.now.epochs)) }
+    requires few { IfSome values.now (λ v. length v.streams.items ≤ 32) }
+    requires workers { (1 ≤ workers) × (workers ≤ 64) }
+    requires piece { (64 ≤ piece) × (piece ≤ 4194304) }
+    ensures sums { IfOk result (λ sums. (told : Option Files) → IfSome values.now (λ v. IsReached told ready.now i v)
+        → IfSome sums (λ s. AreSumsOf told ready.now i s)) }
+    ensures summed { IfOk result (λ sums. is_some sums ≡ is_some values.now) }
+    ensures pieces { IfOk result (λ sums. IfSome sums (λ s. s.pieces
+        ≡ option_map_or (λ e. pieces_in_epoch e piece) (slice_get (epochs_of ready.now.epochs) i) 0)) }
+{
+    match values {
+        Some(values) => Ok(Some(sum(rt, alloc, ready, values, i, workers, piece, gate)?)),
+        None => Ok(None),
+    }
+}

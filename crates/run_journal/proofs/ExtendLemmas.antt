@@ -13,7 +13,7 @@ use Rattle.checkpoint_journal.specs.Cells.{body_text}
 use Rattle.checkpoint_journal.specs.Runs.{Changes, StepTold, KeepsBodies, AddsBody}
 use Rattle.checkpoint_journal.specs.Standing.{JournalState, Keeps, Stands}
 use Rattle.checkpoint_journal.proofs.PartLemmas.{some_lists}
-use Rattle.checkpoint_journal.proofs.RunLemmas.{changes_none, changes_both, runs_wider, told_value}
+use Rattle.checkpoint_journal.proofs.RunLemmas.{changes_both, runs_wider, told_value}
 use Rattle.run_journal.specs.Extended.{BodyOf, IsSummed, AreFrom, Extends}
 use Rattle.run_journal.specs.Refused.{IsOurs}
 
@@ -74,10 +74,6 @@ module _ {D : Type 0} (seen : D → Option (List ℕ)) (moment : D → ℕ) (may
     read = step_wider step wide widen (seen old) (seen new) changes.read;
     runs = runs_wider moment may_leave step wide old new widen changes.runs;
   }
-
-  -- a call that writes nothing
-  pub goes_nowhere : (Is : BodyOf) (id sizes : List ℕ) (d : D) → Changes seen moment may_leave (Extends Is id sizes) d d
-  goes_nowhere Is id sizes d = changes_none seen moment may_leave (Extends Is id sizes) (extends_same Is id sizes) d
 
   -- one that leaves the bodies as they are
   pub goes_kept : (Is : BodyOf) (id sizes : List ℕ) (old new : D) → Changes seen moment may_leave (KeepsBodies id sizes) old new → Changes seen moment may_leave (Extends Is id sizes) old new

@@ -1,16 +1,23 @@
-use Rattle.std.proofs.Common.{◌∙◌, refl}
+use Rattle.std.proofs.Common.{◌∙◌, refl, sym, subst, Option}
 use Rattle.corr_model.specs.Files.{Files}
 use Rattle.checkpoint_journal.specs.Image.{body_sizes}
 use Rattle.checkpoint_journal.proofs.ToldLemmas.{told_again}
 use Rattle.station_stream.specs.Recorded.{AreRecorded}
+use Rattle.run_sums.specs.Ahead.{IsAhead}
 use Rattle.run_journal.specs.Extended.{IsSummed}
 use Rattle.run_journal.proofs.ExtendLemmas.{goes_kept, goes_on}
 use Rattle.run_journal.proofs.rest.resume.Goals as goal
 
-pub append_next-requires-clause-recorded : goal.append_next-requires-clause-recorded
-append_next-requires-clause-recorded g c = λ κs lives.
+pub round-requires-clause-recorded : goal.round-requires-clause-recorded
+round-requires-clause-recorded g c = λ κs lives.
     let ready = c.args.ready.now in
     told_again _ _ (λ (files : Files). AreRecorded files ready.plan.stations ready.recordings.items) c.epochs.invariant.same c.requires.recorded
+
+pub round-requires-clause-ahead : goal.round-requires-clause-ahead
+round-requires-clause-ahead g c = λ κs lives.
+    let ready = c.args.ready.now in
+    let before = c.epochs.invariant in
+    subst (λ (told : Option Files). IsAhead told ready c.epochs.journal.kept c.epochs.ahead) (sym before.same) before.ahead
 
 pub epochs-init : goal.epochs-init
 epochs-init g c =
@@ -19,6 +26,7 @@ epochs-init g c =
     record {
       same = refl;
       stands = opened.stands;
+      ahead = record { sums = tt; values = tt };
       ours = opened.ours;
       changes = goes_kept g.D.Disk.seen g.D.Disk.moment g.D.Disk.may_leave (IsSummed (g.F.Shelf.told c.args.shelf.now) ready.plan) ready.identity (body_sizes ready.epochs) _ _ opened.changes;
       reads = refl;
@@ -29,10 +37,11 @@ pub epochs-preserved : goal.epochs-preserved
 epochs-preserved g c =
     let ready = c.args.ready.now in
     let before = c.epochs.invariant in
-    let after = c.in_ok-append_next.ensures in
+    let after = c.in_ok-ahead.ensures in
     record {
       same = after.same ∙ before.same;
       stands = after.stands;
+      ahead = subst (λ (told : Option Files). IsAhead told ready c.round.new.journal.kept c.in_ok-ahead.ahead) before.same after.ahead;
       ours = before.ours;
       changes = goes_on g.D.Disk.seen g.D.Disk.moment g.D.Disk.may_leave ready.plan ready.identity (body_sizes ready.epochs) _ _ _ _ _ before.same before.changes after.changes;
       reads = after.reads ∙ before.reads;
@@ -44,8 +53,8 @@ returns-in_err-journal-clause-changes g c =
     let ready = c.args.ready.now in
     goes_kept g.D.Disk.seen g.D.Disk.moment g.D.Disk.may_leave (IsSummed (g.F.Shelf.told c.args.shelf.now) ready.plan) ready.identity (body_sizes ready.epochs) _ _ c.open.ensures.changes
 
-pub returns-in_err-append_next-clause-changes : goal.returns-in_err-append_next-clause-changes
-returns-in_err-append_next-clause-changes g c =
+pub returns-in_err-ahead-clause-changes : goal.returns-in_err-ahead-clause-changes
+returns-in_err-ahead-clause-changes g c =
     let ready = c.args.ready.now in
     let before = c.epochs.invariant in
-    goes_on g.D.Disk.seen g.D.Disk.moment g.D.Disk.may_leave ready.plan ready.identity (body_sizes ready.epochs) _ _ _ _ _ before.same before.changes c.append_next.ensures.changes
+    goes_on g.D.Disk.seen g.D.Disk.moment g.D.Disk.may_leave ready.plan ready.identity (body_sizes ready.epochs) _ _ _ _ _ before.same before.changes c.round.ensures.changes

@@ -2,6 +2,8 @@
 
 use crate::answer::Answer;
 use anyhow::Result;
+use dev_traits::{Disk, Gate, Shelf};
+use meet_devices::meet;
 use mem_devices::{CountingGate, MemDisk, MemShelf, MemSink};
 use std::alloc::Global;
 use std::thread::Threads;
@@ -51,19 +53,45 @@ pub fn call<R: Threads + Sync>(
     let mut disk = MemDisk::new(alloc, journal.to_vec(alloc)?, faults.disk, faults.stop)?;
     let mut shelf = MemShelf::new(files, faults.reads);
     let mut out = MemSink::new(alloc, faults.most.max(1), faults.writes);
-    let mut notes = MemSink::new(alloc, 4096, Vec::new(alloc));
     let gate = CountingGate::new();
-    let status = run(
-        rt, alloc, words, &mut shelf, &mut disk, &mut out, &mut notes, &gate,
-    );
-    let answer = Answer {
-        status,
-        note: notes.bytes().to_vec(alloc)?,
-        output: out.bytes().to_vec(alloc)?,
-    };
+    let answer = answered(rt, alloc, words, &mut shelf, &mut disk, &mut out, &gate)?;
     Ok(Called {
         answer,
         pieces: gate.calls(),
         disk,
+    })
+}
+
+/// Calls the program with these words, over these files and an empty journal. Once the journal is written to, the first read
+/// past byte `from` of a file and the first piece wait for one another. Answers what the call answers, and whether they met.
+pub fn call_meeting<R: Threads + Sync>(
+    rt: &R,
+    alloc: Global,
+    words: &[String],
+    files: Vec<(String, Vec<u8>)>,
+    from: u64,
+) -> Result<(Answer, bool)> {
+    let (mut shelf, mut disk, gate) = meet(alloc, files, from)?;
+    let mut out = MemSink::new(alloc, 1_000_000, Vec::new(alloc));
+    let answer = answered(rt, alloc, words, &mut shelf, &mut disk, &mut out, &gate)?;
+    Ok((answer, gate.met()))
+}
+
+// What a call over these devices answers.
+fn answered<R: Threads + Sync, F: Shelf + Send, D: Disk + Send, G: Gate + Sync>(
+    rt: &R,
+    alloc: Global,
+    words: &[String],
+    shelf: &mut F,
+    disk: &mut D,
+    out: &mut MemSink,
+    gate: &G,
+) -> Result<Answer> {
+    let mut notes = MemSink::new(alloc, 4096, Vec::new(alloc));
+    let status = run(rt, alloc, words, shelf, disk, out, &mut notes, gate);
+    Ok(Answer {
+        status,
+        note: notes.bytes().to_vec(alloc)?,
+        output: out.bytes().to_vec(alloc)?,
     })
 }

@@ -1,7 +1,7 @@
 //! What the lines ask.
 
 use crate::answer::{Answer, print_journal};
-use crate::calls::{Called, Faults, call};
+use crate::calls::{Called, Faults, call, call_meeting};
 use crate::frames::Frame;
 use crate::texts::{append_numbered, append_runs, bytes_of, replaced};
 use anyhow::{Context, Result, bail};
@@ -49,6 +49,7 @@ impl Cases {
             "most" => self.most = rest.parse::<usize>()?,
             "call" => self.call_once(rt, rest)?,
             "count" => self.call_counted(rt, rest)?,
+            "meets" => self.call_meeting(rt, rest)?,
             "show" => print_journal(rt, self.alloc, &self.name, &self.journal)?,
             "keep" => self.keep_journal(rest)?,
             "reads" => self.call_with_reads_failing(rt, rest)?,
@@ -70,6 +71,7 @@ impl Cases {
             "lines" => self.append_lines(rest)?,
             "bytes" => append_runs(&mut self.bytes, rest)?,
             "frame" => Frame::read(self.alloc, rest)?.append(&mut self.bytes)?,
+            "frames" => self.append_frames(rest)?,
             "use" => self.append_pieces(rest)?,
             "cut" => self.bytes.truncate(rest.parse::<usize>()?),
             "change" => self.change(rest)?,
@@ -116,6 +118,13 @@ impl Cases {
         Ok(())
     }
 
+    // So many frames of the same fields, numbered from 0 on.
+    fn append_frames(&mut self, rest: &str) -> Result<()> {
+        let (count, fields) = rest.split_once(' ').unwrap_or((rest, ""));
+        let frame = Frame::read(self.alloc, fields)?;
+        frame.append_many(count.parse::<u32>()?, &mut self.bytes)
+    }
+
     // The bytes of some pieces.
     fn append_pieces(&mut self, names: &str) -> Result<()> {
         for name in names.split_whitespace() {
@@ -155,13 +164,15 @@ impl Cases {
         journal: &[u8],
         faults: Faults,
     ) -> Result<Called> {
-        let mut words = Vec::new(self.alloc);
-        for word in line.split('|').skip(1) {
-            words.push(String::from_str(self.alloc, word)?)?;
-        }
+        let words = words_of(self.alloc, line)?;
+        call(rt, self.alloc, &words, self.all_files()?, journal, faults)
+    }
+
+    // The case's files, and those of all cases.
+    fn all_files(&self) -> Result<Vec<(String, Vec<u8>)>> {
         let mut files = self.files.clone()?;
         files.extend_from_slice(&self.common)?;
-        call(rt, self.alloc, &words, files, journal, faults)
+        Ok(files)
     }
 
     // The same over the case's journal, which stays as it is.
@@ -197,6 +208,17 @@ impl Cases {
         let called = self.called(rt, line)?;
         print!(rt; "{}, {} pieces:", self.name, called.pieces)?;
         called.answer.print(rt, self.alloc)
+    }
+
+    // A call with a read past a byte, whose number stands before the words, and the first piece waiting for one another, and before
+    // its answer whether they met.
+    fn call_meeting<R: Print + Threads + Sync>(&self, rt: &R, rest: &str) -> Result<()> {
+        let (from, line) = rest.split_once(' ').context("a number and words")?;
+        let from = from.parse::<u64>()?;
+        let words = words_of(self.alloc, line)?;
+        let (answer, met) = call_meeting(rt, self.alloc, &words, self.all_files()?, from)?;
+        print!(rt; "{}, met {met}:", self.name)?;
+        answer.print(rt, self.alloc)
     }
 
     // A call with one write failing, whose number stands before the words.
@@ -383,6 +405,15 @@ impl Cases {
 
 // More calls of a device than a case makes.
 const MOST_CALLS: u64 = 100_000;
+
+// The words of a call, each behind a bar.
+fn words_of(alloc: Global, line: &str) -> Result<Vec<String>> {
+    let mut words = Vec::new(alloc);
+    for word in line.split('|').skip(1) {
+        words.push(String::from_str(alloc, word)?)?;
+    }
+    Ok(words)
+}
 
 // The bytes under a name.
 fn find<'a>(pieces: &'a [(String, Vec<u8>)], wanted: &str) -> Option<&'a [u8]> {

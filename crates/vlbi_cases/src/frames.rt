@@ -66,13 +66,26 @@ impl Frame {
         Ok(())
     }
 
-    /// Appends the frame: four words, the lowest byte of each first, four words of zeros unless it is legacy, and the
-    /// data. The length is that of what is appended.
+    /// Appends the frame.
     pub fn append(&self, bytes: &mut Vec<u8>) -> Result<()> {
+        self.append_as(self.number, bytes)
+    }
+
+    /// Appends so many such frames, numbered from 0 on.
+    pub fn append_many(&self, count: u32, bytes: &mut Vec<u8>) -> Result<()> {
+        for number in 0..count {
+            self.append_as(number, bytes)?;
+        }
+        Ok(())
+    }
+
+    // Appends the frame with this number: four words, the lowest byte of each first, four words of zeros unless it is legacy, and
+    // the data. The length is that of what is appended.
+    fn append_as(&self, number: u32, bytes: &mut Vec<u8>) -> Result<()> {
         let rest = if self.legacy { 0 } else { 16 };
         let units = (16 + rest + self.data.len()) / 8;
         let w0 = mark(self.invalid, 31) | mark(self.legacy, 30) | (self.second % (1 << 30));
-        let w1 = ((self.epoch % 64) << 24) | (self.number % (1 << 24));
+        let w1 = ((self.epoch % 64) << 24) | (number % (1 << 24));
         let w2 = ((self.chans % 32) << 24) | ((units % (1 << 24)) as u32);
         let w3 = mark(self.complex, 31)
             | ((self.bits.saturating_sub(1) % 32) << 26)

@@ -1,6 +1,6 @@
 -- What each command did.
 use Rattle.std.specs.Prelude.{IfErr, IsSome}
-use Rattle.std.proofs.Common.{◌≡◌, ◌∙◌, inl, inr, ℕ, Bool, true, false, List, Option, Some, None, Result, Ok, Err, refl, sym, ap, subst}
+use Rattle.std.proofs.Common.{◌≡◌, ◌∙◌, arith, inl, inr, ℕ, Bool, true, false, List, Option, Some, None, Result, Ok, Err, refl, sym, ap, subst}
 use Rattle.dev_traits.specs.Told.{more, PrefixMore, WhereTold}
 use Rattle.sink_text.specs.Appends.{Appends}
 use Rattle.corr_model.specs.Files.{Files}
@@ -16,6 +16,7 @@ use Rattle.run_notes.specs.declared.refusal.Refusal.{Refusal}
 use Rattle.run_notes.specs.declared.refusal.Refusal.TheVariants.{Memory, Due as DueRefusal, Read, Journal, Write}
 use Rattle.run_notes.specs.Answers.{Answer, words_answer}
 use Rattle.run_notes.specs.Refusals.{Outcomes, IsCause}
+use Rattle.run_notes.specs.Counted.{CountsReads, CountsReadsBeside}
 use Rattle.run_ready.specs.Steps.{answered}
 use Rattle.run_ready.specs.Outcome.{SurveyOf, PlanOf}
 use Rattle.run_ready.specs.Stage.{IsOfFiles}
@@ -58,6 +59,25 @@ opened-alone files (OfRecords content) before alone = tt
 
 alone-not : (task : Task) (call : Call) → IsAlone task → task ≡ OfJob call → is_run call.order ≡ true → ⊥
 alone-not task call alone same run = not_both (is_run call.order) run (subst IsAlone same alone).1
+
+-- ---- counts
+
+-- what a call counts that does not write the journal
+pub reads-beside : {T : Type 0} (before now : ℕ) (result : Result T Refusal) → CountsReads before now result → CountsReadsBeside before now result
+reads-beside before now (Ok x) reads = reads
+reads-beside before now (Err Memory) reads = reads
+reads-beside before now (Err (DueRefusal due)) reads = reads
+reads-beside before now (Err Read) reads = reads
+reads-beside before now (Err (Journal kept)) reads = omega (arith, reads)
+reads-beside before now (Err Write) reads = reads
+
+pub run-not-alone : (order : Order) → IsRunOrder order → is_run order ≡ false → ⊥
+run-not-alone (Run job vex workers piece) run alone = cc
+run-not-alone (Plain job vex) run alone = run
+run-not-alone (Check job vex) run alone = run
+run-not-alone (Status job vex) run alone = run
+run-not-alone (Dump file) run alone = run
+run-not-alone (Gen seed seconds workers piece) run alone = run
 
 -- ---- what showing a record file did
 

@@ -1,6 +1,6 @@
 -- The status of a call, what it appended, what it left in the journal and its note.
 use Rattle.std.specs.Prelude.{IsErr, IsOk, IsSome}
-use Rattle.std.proofs.Common.{◌≡◌, ◌∙◌, ◌⊎◌, inl, inr, ℕ, ◌+◌, true, List, [], ◌++◌, length, Option, Some, None, Result, Ok, Err, refl, sym, ap, subst, arith}
+use Rattle.std.proofs.Common.{◌≡◌, ◌∙◌, ◌⊎◌, inl, inr, ℕ, ◌+◌, ◌≤◌, true, List, [], ◌++◌, length, Option, Some, None, Result, Ok, Err, refl, sym, ap, subst, arith}
 use Rattle.std.proofs.lemmas.List.{append-nil}
 use Rattle.dev_traits.specs.Fault.{HasRisen}
 use Rattle.dev_traits.specs.Told.{more, WhereTold}
@@ -22,7 +22,7 @@ use Rattle.run_notes.specs.declared.refusal.Due.TheVariants.{Words, Vex, Schedul
 use Rattle.run_notes.specs.declared.refusal.Refusal.{Refusal}
 use Rattle.run_notes.specs.declared.refusal.Refusal.TheVariants.{Memory, Due as DueRefusal, Read, Journal, Write}
 use Rattle.run_notes.specs.Answers.{Answer, words_answer, journal_answer}
-use Rattle.run_notes.specs.Refusals.{Outcomes, MatchRead, MatchJournal, MatchWrite, answer_of, due_answer}
+use Rattle.run_notes.specs.Refusals.{Outcomes, MatchRead, MatchReadOrJournal, MatchJournal, MatchWrite, answer_of, due_answer}
 use Rattle.run_ready.specs.Steps.{Is, Then, answered}
 use Rattle.run_ready.specs.Recordings.{files_answer, recordings_answer}
 use Rattle.run_ready.specs.Outcome.{Wrong, PlanBy}
@@ -220,19 +220,31 @@ words-status wanted Write by err = absurd (not-ok wanted by err)
 
 -- ---- counts
 
-pub read-risen : (r : Refusal) (P Q : Type 0) → MatchRead r P Q → (answer_of r).status ≡ 7 → P
-read-risen Memory P Q fact is = absurd cc
-read-risen (DueRefusal due) P Q fact is = absurd (not_due due 7 is (inr (inr (inl refl))))
-read-risen Read P Q fact is = fact
-read-risen (Journal kept) P Q fact is = absurd (not_journal kept 7 is (λ e. cc))
-read-risen Write P Q fact is = absurd cc
+pub read-risen : (r : Refusal) (P Q R : Type 0) → MatchReadOrJournal r P Q R → (answer_of r).status ≡ 7 → P
+read-risen Memory P Q R fact is = absurd cc
+read-risen (DueRefusal due) P Q R fact is = absurd (not_due due 7 is (inr (inr (inl refl))))
+read-risen Read P Q R fact is = fact
+read-risen (Journal kept) P Q R fact is = absurd (not_journal kept 7 is (λ e. cc))
+read-risen Write P Q R fact is = absurd cc
 
-pub read-kept : (r : Refusal) (P Q : Type 0) → MatchRead r P Q → ((answer_of r).status ≡ 7 → ⊥) → Q
-read-kept Memory P Q fact not = fact
-read-kept (DueRefusal due) P Q fact not = fact
-read-kept Read P Q fact not = absurd (not refl)
-read-kept (Journal kept) P Q fact not = fact
-read-kept Write P Q fact not = fact
+-- the shelf's count stays beside any other refusal, and beside that of the journal where the words are not those of `run`
+pub read-kept : (r : Refusal) (P Q R N : Type 0) → MatchReadOrJournal r P Q R → (N → MatchRead r P R)
+    → ((answer_of r).status ≡ 7 → ⊥) → ((answer_of r).status ≡ 8 → ⊥) ⊎ N → R
+read-kept Memory P Q R N fact alone not of = fact
+read-kept (DueRefusal due) P Q R N fact alone not of = fact
+read-kept Read P Q R N fact alone not of = absurd (not refl)
+read-kept (Journal kept) P Q R N fact alone not (inl not_kept) = absurd (not_kept (journal-status kept))
+read-kept (Journal kept) P Q R N fact alone not (inr none) = alone none
+read-kept Write P Q R N fact alone not of = fact
+
+-- and it never falls
+pub read-no_fall : (r : Refusal) (before now : ℕ) → MatchReadOrJournal r (HasRisen before now) (before ≤ now) (now ≡ before)
+    → ((answer_of r).status ≡ 7 → ⊥) → before ≤ now
+read-no_fall Memory before now fact not = omega (arith, fact)
+read-no_fall (DueRefusal due) before now fact not = omega (arith, fact)
+read-no_fall Read before now fact not = absurd (not refl)
+read-no_fall (Journal kept) before now fact not = fact
+read-no_fall Write before now fact not = omega (arith, fact)
 
 pub journal-risen : (r : Refusal) (P Q : Type 0) → MatchJournal r P Q → (answer_of r).status ≡ 8 → P
 journal-risen Memory P Q fact is = absurd cc
@@ -345,44 +357,44 @@ module _ (outcomes : Outcomes Task) (one : AreOne outcomes) where
           let gone : IsSome no_reading = subst (λ (o : Option (List (List ℕ))). IsSome o) unread at.1.2 in
           cc
 
-  pub verdict-refused : (files : Files) (images : List ℕ → Type 0) (before after old new : Option (List ℕ)) (read_fault journal_fault write_fault Q R S : Type 0) (r : Refusal)
-      → IsCauseOf r outcomes files images before after old new → MatchRead r read_fault Q → MatchJournal r journal_fault R → MatchWrite r write_fault S
+  pub verdict-refused : (files : Files) (images : List ℕ → Type 0) (before after old new : Option (List ℕ)) (read_fault journal_fault write_fault P Q R S : Type 0) (r : Refusal)
+      → IsCauseOf r outcomes files images before after old new → MatchReadOrJournal r read_fault P Q → MatchJournal r journal_fault R → MatchWrite r write_fault S
       → IsVerdict outcomes files before (answer_of r).status read_fault journal_fault write_fault
-  verdict-refused files images before after old new read_fault journal_fault write_fault Q R S Memory cause reads journal writes = record {
+  verdict-refused files images before after old new read_fault journal_fault write_fault P Q R S Memory cause reads journal writes = record {
     due = λ is. absurd (due-not 1 1 (inr is) refl (inr (inl refl)));
     refused = λ _ _. inr (inl refl);
     other = λ is. absurd cc;
     foreign = λ _ _ _ _ _. inr (inl refl);
     complete = λ _ _ _ _ _. inr refl;
   }
-  verdict-refused files images before after old new read_fault journal_fault write_fault Q R S (DueRefusal (Words fault)) cause reads journal writes =
+  verdict-refused files images before after old new read_fault journal_fault write_fault P Q R S (DueRefusal (Words fault)) cause reads journal writes =
       verdict-of-due files (Words fault) before read_fault journal_fault write_fault cause (inl refl)
-  verdict-refused files images before after old new read_fault journal_fault write_fault Q R S (DueRefusal (Vex fault)) cause reads journal writes =
+  verdict-refused files images before after old new read_fault journal_fault write_fault P Q R S (DueRefusal (Vex fault)) cause reads journal writes =
       verdict-of-due files (Vex fault) before read_fault journal_fault write_fault cause (inr (inl refl))
-  verdict-refused files images before after old new read_fault journal_fault write_fault Q R S (DueRefusal (Schedule fault)) cause reads journal writes =
+  verdict-refused files images before after old new read_fault journal_fault write_fault P Q R S (DueRefusal (Schedule fault)) cause reads journal writes =
       verdict-of-due files (Schedule fault) before read_fault journal_fault write_fault cause (inr (inl refl))
-  verdict-refused files images before after old new read_fault journal_fault write_fault Q R S (DueRefusal (Job fault)) cause reads journal writes =
+  verdict-refused files images before after old new read_fault journal_fault write_fault P Q R S (DueRefusal (Job fault)) cause reads journal writes =
       verdict-of-due files (Job fault) before read_fault journal_fault write_fault cause (inr (inr (inl refl)))
-  verdict-refused files images before after old new read_fault journal_fault write_fault Q R S (DueRefusal (Join fault name)) cause reads journal writes =
+  verdict-refused files images before after old new read_fault journal_fault write_fault P Q R S (DueRefusal (Join fault name)) cause reads journal writes =
       verdict-of-due files (Join fault name) before read_fault journal_fault write_fault cause (inr (inr (inl refl)))
-  verdict-refused files images before after old new read_fault journal_fault write_fault Q R S (DueRefusal (Recording key field)) cause reads journal writes =
+  verdict-refused files images before after old new read_fault journal_fault write_fault P Q R S (DueRefusal (Recording key field)) cause reads journal writes =
       verdict-of-due files (Recording key field) before read_fault journal_fault write_fault cause (inr (inr (inr (inl refl))))
-  verdict-refused files images before after old new read_fault journal_fault write_fault Q R S (DueRefusal (Records fault)) cause reads journal writes =
+  verdict-refused files images before after old new read_fault journal_fault write_fault P Q R S (DueRefusal (Records fault)) cause reads journal writes =
       verdict-of-due files (Records fault) before read_fault journal_fault write_fault cause (inr (inr (inr (inl refl))))
-  verdict-refused files images before after old new read_fault journal_fault write_fault Q R S (DueRefusal (Limit quantity value)) cause reads journal writes =
+  verdict-refused files images before after old new read_fault journal_fault write_fault P Q R S (DueRefusal (Limit quantity value)) cause reads journal writes =
       verdict-of-due files (Limit quantity value) before read_fault journal_fault write_fault cause (inr (inr (inr (inr (inl refl)))))
-  verdict-refused files images before after old new read_fault journal_fault write_fault Q R S (DueRefusal (NoFile name)) cause reads journal writes =
+  verdict-refused files images before after old new read_fault journal_fault write_fault P Q R S (DueRefusal (NoFile name)) cause reads journal writes =
       verdict-of-due files (NoFile name) before read_fault journal_fault write_fault cause (inr (inr (inr (inr (inr refl)))))
-  verdict-refused files images before after old new read_fault journal_fault write_fault Q R S (DueRefusal (Other d)) cause reads journal writes =
+  verdict-refused files images before after old new read_fault journal_fault write_fault P Q R S (DueRefusal (Other d)) cause reads journal writes =
       verdict-other files d before read_fault journal_fault write_fault cause
-  verdict-refused files images before after old new read_fault journal_fault write_fault Q R S Read cause reads journal writes = record {
+  verdict-refused files images before after old new read_fault journal_fault write_fault P Q R S Read cause reads journal writes = record {
     due = λ is. absurd (due-not 7 7 (inr is) refl (inr (inr (inl refl))));
     refused = λ _ _. inr (inr refl);
     other = λ is. absurd cc;
     foreign = λ _ _ _ _ _. inr (inr (inl refl));
     complete = λ _ _ no_read _ _. absurd (no_read reads);
   }
-  verdict-refused files images before after old new read_fault journal_fault write_fault Q R S (Journal kept) cause reads journal writes =
+  verdict-refused files images before after old new read_fault journal_fault write_fault P Q R S (Journal kept) cause reads journal writes =
       subst (λ (status : ℕ). IsVerdict outcomes files before status read_fault journal_fault write_fault) (sym (journal-status kept)) (record {
         due = λ is. absurd (due-not 8 8 (inr is) refl (inr (inr (inr (inl refl)))));
         refused = λ answer fact. absurd (task-not (OfJob cause.call) answer cause.outcome fact);
@@ -393,7 +405,7 @@ module _ (outcomes : Outcomes Task) (one : AreOne outcomes) where
             let usable_here : IsUsable files (OfJob cause.call) before journal_fault = subst (λ (t : Task). IsUsable files t before journal_fault) same usable in
             absurd ((usable_here cause.uses).0 journal);
       })
-  verdict-refused files images before after old new read_fault journal_fault write_fault Q R S Write cause reads journal writes = record {
+  verdict-refused files images before after old new read_fault journal_fault write_fault P Q R S Write cause reads journal writes = record {
     due = λ is. absurd (due-not 9 9 (inr is) refl (inr (inr (inr (inr refl)))));
     refused = λ answer fact. absurd (task-not cause.task answer cause.outcome fact);
     other = λ is. absurd cc;

@@ -2,7 +2,7 @@
 ghost use Rattle.std.specs.Prelude.{◌≡◌, IfErr, IsSome, Ok, OnOk};
 ghost use Rattle.dev_traits.specs.Told.{WhereTold};
 ghost use Rattle.run_words.specs.Orders.{AreTexts};
-ghost use Rattle.run_notes.specs.Counted.{CountsReads, CountsJournal, CountsWrites};
+ghost use Rattle.run_notes.specs.Counted.{CountsReadsBeside, CountsJournal, CountsWrites};
 ghost use Rattle.run_ready.specs.Outcome.{job_names, PlanOf};
 ghost use Rattle.vlbi_core.specs.Calls.{is_run};
 ghost use Rattle.vlbi_core.specs.Steps.{IsWork, IsRunOrder, IsBehindWords, IsPlanned, Does, Leaves};
@@ -19,7 +19,7 @@ use std::thread::Threads;
 
 /// Sums what the journal of an order's job does not keep yet, with `workers` threads and pieces of at most `piece` samples, and
 /// appends the record file of all that it keeps then. No record is appended before all is summed.
-pub fn correlate_job<R: Threads + Sync, F: Shelf, D: Disk, S: Sink, G: Gate + Sync>(
+pub fn correlate_job<R: Threads + Sync, F: Shelf + Send, D: Disk + Send, S: Sink, G: Gate + Sync>(
     rt: &R,
     alloc: Global,
     order: &Order,
@@ -39,7 +39,7 @@ pub fn correlate_job<R: Threads + Sync, F: Shelf, D: Disk, S: Sink, G: Gate + Sy
     ensures planned { OnOk result (WhereTold (F.told shelf.old) (λ files. IsPlanned (PlanOf files order.now))) }
     ensures leaves { Leaves (Ok order.now) D.seen D.moment D.may_leave journal.old journal.new (S.told out.old) (S.told out.new) result }
     ensures stage { IfErr result IsBehindWords }
-    ensures reads { CountsReads (F.faults shelf.old) (F.faults shelf.new) result }
+    ensures reads { CountsReadsBeside (F.faults shelf.old) (F.faults shelf.new) result }
     ensures journal { CountsJournal (D.faults journal.old) (D.faults journal.new) result }
     ensures writes { CountsWrites (S.faults out.old) (S.faults out.new) result }
 {

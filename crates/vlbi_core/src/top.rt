@@ -1,12 +1,12 @@
 //! The top call.
-ghost use Rattle.std.specs.Prelude.{◌≡◌, ◌≢◌, ◌⊎◌, List, ℕ, Ok, IsErr, IsSome, IfErr};
+ghost use Rattle.std.specs.Prelude.{◌≡◌, ◌≢◌, ◌⊎◌, ◌≤◌, List, ℕ, Ok, IsErr, IsSome, IfErr, false};
 ghost use Rattle.dev_traits.specs.Fault.{HasRisen};
 ghost use Rattle.dev_traits.specs.Told.{more, WhereTold};
 ghost use Rattle.job_plan.specs.Output.{output};
 ghost use Rattle.checkpoint_journal.specs.Runs.{Looks};
 ghost use Rattle.run_words.specs.Orders.{AreTexts};
-ghost use Rattle.run_notes.specs.Counted.{CountsReads, CountsJournal, CountsWrites};
-ghost use Rattle.vlbi_core.specs.Calls.{Call, OfJob, texts_of, order_in, OutcomeOf};
+ghost use Rattle.run_notes.specs.Counted.{CountsReads, CountsReadsBeside, CountsJournal, CountsWrites};
+ghost use Rattle.vlbi_core.specs.Calls.{Call, OfJob, texts_of, order_in, is_run, OutcomeOf};
 ghost use Rattle.vlbi_core.specs.Run.{IsVerdictStatus, IsDueStatus, IsStatus, IsVerdict, IsAppended, IsSomeLine, IsLineOf, IsNoted};
 ghost use Rattle.vlbi_core.specs.Restart.{Continues, StaysHonest, SaysKept, IsRunOf, IsNoRun};
 ghost use Rattle.vlbi_core.specs.Steps.{IsNumbered, IsWorded, IsBehindWords, IsShort, Does, Leaves};
@@ -45,7 +45,7 @@ use std::thread::Threads;
 /// | 9 | the output failed |
 /// | 10 | the journal is another job's |
 /// | 11 | a named file is not there |
-pub fn run<R: Threads + Sync, F: Shelf, D: Disk, S: Sink, N: Sink, G: Gate + Sync>(
+pub fn run<R: Threads + Sync, F: Shelf + Send, D: Disk + Send, S: Sink, N: Sink, G: Gate + Sync>(
     rt: &R,
     alloc: Global,
     words: &[String],
@@ -86,9 +86,11 @@ pub fn run<R: Threads + Sync, F: Shelf, D: Disk, S: Sink, N: Sink, G: Gate + Syn
     // The shelf tells what it told.
     ensures same { F.told shelf.new ≡ F.told shelf.old }
 
-    // Statuses 7, 8 and 9: only where a count rose, and else it stays.
+    // Statuses 7, 8 and 9: only where a count rose, and else it stays. `run` reads while it writes the journal: where both counts
+    // rose, the status is that of the journal.
     ensures read { result ≡ 7 → HasRisen (F.faults shelf.old) (F.faults shelf.new) }
-    ensures no_read { result ≢ 7 → F.faults shelf.new ≡ F.faults shelf.old }
+    ensures no_read { result ≢ 7 → (result ≢ 8) ⊎ IsNoRun (order_in (texts_of words.now)) → F.faults shelf.new ≡ F.faults shelf.old }
+    ensures no_fall { result ≢ 7 → F.faults shelf.old ≤ F.faults shelf.new }
     ensures kept { result ≡ 8 → HasRisen (D.faults journal.old) (D.faults journal.new) }
     ensures no_kept { result ≢ 8 → D.faults journal.new ≡ D.faults journal.old }
     ensures write { result ≡ 9 → HasRisen (S.faults out.old) (S.faults out.new) }
@@ -131,7 +133,7 @@ fn is_short(refusal: &Refusal)
 }
 
 // Does what the words ask for.
-fn call<R: Threads + Sync, F: Shelf, D: Disk, S: Sink, G: Gate + Sync>(
+fn call<R: Threads + Sync, F: Shelf + Send, D: Disk + Send, S: Sink, G: Gate + Sync>(
     rt: &R,
     alloc: Global,
     words: &[String],
@@ -144,7 +146,8 @@ fn call<R: Threads + Sync, F: Shelf, D: Disk, S: Sink, G: Gate + Sync>(
     ensures does { WhereTold (F.told shelf.old) (λ files. Does (order_in (texts_of words.now)) files D.seen D.moment D.may_leave journal.old journal.new (S.told out.old) (S.told out.new) result) }
     ensures leaves { Leaves (order_in (texts_of words.now)) D.seen D.moment D.may_leave journal.old journal.new (S.told out.old) (S.told out.new) result }
     ensures words { IsWorded (order_in (texts_of words.now)) result }
-    ensures reads { CountsReads (F.faults shelf.old) (F.faults shelf.new) result }
+    ensures reads { CountsReadsBeside (F.faults shelf.old) (F.faults shelf.new) result }
+    ensures alone { IsNoRun (order_in (texts_of words.now)) → CountsReads (F.faults shelf.old) (F.faults shelf.new) result }
     ensures journal { CountsJournal (D.faults journal.old) (D.faults journal.new) result }
     ensures writes { CountsWrites (S.faults out.old) (S.faults out.new) result }
 {
@@ -153,7 +156,7 @@ fn call<R: Threads + Sync, F: Shelf, D: Disk, S: Sink, G: Gate + Sync>(
 }
 
 // Does what an order asks for.
-fn command<R: Threads + Sync, F: Shelf, D: Disk, S: Sink, G: Gate + Sync>(
+fn command<R: Threads + Sync, F: Shelf + Send, D: Disk + Send, S: Sink, G: Gate + Sync>(
     rt: &R,
     alloc: Global,
     order: &Order,
@@ -168,7 +171,8 @@ fn command<R: Threads + Sync, F: Shelf, D: Disk, S: Sink, G: Gate + Sync>(
     ensures does { WhereTold (F.told shelf.old) (λ files. Does (Ok order.now) files D.seen D.moment D.may_leave journal.old journal.new (S.told out.old) (S.told out.new) result) }
     ensures leaves { Leaves (Ok order.now) D.seen D.moment D.may_leave journal.old journal.new (S.told out.old) (S.told out.new) result }
     ensures stage { IfErr result IsBehindWords }
-    ensures reads { CountsReads (F.faults shelf.old) (F.faults shelf.new) result }
+    ensures reads { CountsReadsBeside (F.faults shelf.old) (F.faults shelf.new) result }
+    ensures alone { is_run order.now ≡ false → CountsReads (F.faults shelf.old) (F.faults shelf.new) result }
     ensures journal { CountsJournal (D.faults journal.old) (D.faults journal.new) result }
     ensures writes { CountsWrites (S.faults out.old) (S.faults out.new) result }
 {

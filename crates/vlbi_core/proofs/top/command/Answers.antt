@@ -1,8 +1,8 @@
 use Rattle.std.proofs.Common.{Ok, sym, subst}
 use Rattle.run_words.specs.declared.order.Order.{Order}
 use Rattle.vis_writer.proofs.WritesLemmas.{where_then, where_always}
-use Rattle.vlbi_core.specs.Steps.{IsCheckOrder, IsPlainOrder, Does}
-use Rattle.vlbi_core.proofs.CommandLemmas.{does-check, does-plain, does-dump, does-gen}
+use Rattle.vlbi_core.specs.Steps.{IsCheckOrder, IsPlainOrder, IsRunOrder, Does}
+use Rattle.vlbi_core.proofs.CommandLemmas.{reads-beside, run-not-alone, does-check, does-plain, does-dump, does-gen}
 use Rattle.vlbi_core.proofs.SampleLemmas.{reads-same}
 use Rattle.vlbi_core.proofs.top.command.Goals as goal
 
@@ -37,5 +37,23 @@ returns-in-Gen-clause-does g c =
     (does-gen g.D.Disk.seen g.D.Disk.moment g.D.Disk.may_leave files _ _ _ _ c.args.journal.now (g.S.Sink.told c.args.out.now) (g.S.Sink.told c.total_sample.new.out) c.total_sample.result
     c.total_sample.ensures.stage c.total_sample.ensures.tells))
 
+pub returns-in-Plain-clause-reads : goal.returns-in-Plain-clause-reads
+returns-in-Plain-clause-reads g c = reads-beside _ _ c.plain_job.result c.plain_job.ensures.reads
+
+pub returns-in-Check-clause-reads : goal.returns-in-Check-clause-reads
+returns-in-Check-clause-reads g c = reads-beside _ _ c.check_job.result c.check_job.ensures.reads
+
+pub returns-in-Status-clause-reads : goal.returns-in-Status-clause-reads
+returns-in-Status-clause-reads g c = reads-beside _ _ c.journal_status.result c.journal_status.ensures.reads
+
+pub returns-in-Dump-clause-reads : goal.returns-in-Dump-clause-reads
+returns-in-Dump-clause-reads g c = reads-beside _ _ c.show_records.result c.show_records.ensures.reads
+
 pub returns-in-Gen-clause-reads : goal.returns-in-Gen-clause-reads
-returns-in-Gen-clause-reads g c = reads-same _ c.total_sample.result c.total_sample.ensures.unread
+returns-in-Gen-clause-reads g c = reads-beside _ _ c.total_sample.result (reads-same _ c.total_sample.result c.total_sample.ensures.unread)
+
+pub returns-in-Run-clause-alone : goal.returns-in-Run-clause-alone
+returns-in-Run-clause-alone g c = λ alone. absurd (run-not-alone c.args.order.now (subst IsRunOrder (sym c.in-Run.is) tt) alone)
+
+pub returns-in-Gen-clause-alone : goal.returns-in-Gen-clause-alone
+returns-in-Gen-clause-alone g c = λ alone. reads-same _ c.total_sample.result c.total_sample.ensures.unread

@@ -3,8 +3,9 @@ use Rattle.dev_traits.specs.Fault.{HasRisen}
 use Rattle.run_notes.specs.Refusals.{answer_of}
 use Rattle.vis_writer.proofs.WritesLemmas.{where_then, where_always}
 use Rattle.vlbi_core.specs.Calls.{texts_of, order_in}
+use Rattle.vlbi_core.specs.Restart.{IsNoRun}
 use Rattle.vlbi_core.specs.Steps.{OutcomeFrom, IsShort}
-use Rattle.vlbi_core.proofs.TopLemmas.{outcome-one, verdict-done, verdict-refused, appended-done, appended-refused, stays-honest, all-done, headline-done, headline-refused, refusal-not-zero, line-refused, noted-nothing, noted-appends, due-nothing, early-nothing, verdict-fact, other-fact, verdict-not}
+use Rattle.vlbi_core.proofs.TopLemmas.{outcome-one, verdict-done, verdict-refused, appended-done, appended-refused, read-risen, read-kept, read-no_fall, stays-honest, all-done, headline-done, headline-refused, refusal-not-zero, line-refused, noted-nothing, noted-appends, due-nothing, early-nothing, verdict-fact, other-fact, verdict-not}
 use Rattle.vlbi_core.proofs.NoteLemmas.{nothing-other, other-says, refused-says}
 use Rattle.vlbi_core.proofs.top.run.Goals as goal
 
@@ -24,7 +25,7 @@ returns-in-Err-clause-verdict g c =
     (g.D.Disk.may_leave c.call.new.journal (g.D.Disk.moment c.call.new.journal)) (g.D.Disk.seen c.args.journal.now) (g.D.Disk.seen c.call.new.journal)
     (g.S.Sink.told c.args.out.now) (g.S.Sink.told c.call.new.out)
     (HasRisen (g.F.Shelf.faults c.args.shelf.now) (g.F.Shelf.faults c.call.new.shelf)) (HasRisen (g.D.Disk.faults c.args.journal.now) (g.D.Disk.faults c.call.new.journal))
-    (HasRisen (g.S.Sink.faults c.args.out.now) (g.S.Sink.faults c.call.new.out)) _ _ _
+    (HasRisen (g.S.Sink.faults c.args.out.now) (g.S.Sink.faults c.call.new.out)) _ _ _ _
     c.in-Err.refusal does.cause c.in-Err.ensures.reads c.in-Err.ensures.journal c.in-Err.ensures.writes)
     c.in-Err.ensures.does)
 
@@ -64,9 +65,10 @@ returns-in-Err-clause-restart g c =
 pub returns-in-Ok-clause-headline : goal.returns-in-Ok-clause-headline
 returns-in-Ok-clause-headline g c =
     let wanted = order_in (texts_of c.args.words.now) in
+    let laws = g.met.D.Disk g.world.𝓛 g.world.𝓜 g.world.𝓡 ((λ s x. x), (λ x. x), (λ x. x), λ x. x) in
     where_then (g.F.Shelf.told c.args.shelf.now) _ _
     (λ files does. headline-done g.D.Disk.seen g.D.Disk.moment g.D.Disk.may_leave (OutcomeFrom wanted files) (outcome-one c.one_outcome.ensures c.one_shown.ensures wanted files) files
-    c.args.journal.now c.call.new.journal (g.S.Sink.told c.args.out.now) (g.S.Sink.told c.call.new.out) (g.met.D.Disk.seen_is_image c.args.journal.now) does.done)
+    c.args.journal.now c.call.new.journal (g.S.Sink.told c.args.out.now) (g.S.Sink.told c.call.new.out) (laws.seen_is_image c.args.journal.now) does.done)
     c.in-Ok.ensures.does
 
 pub returns-in-Err-clause-headline : goal.returns-in-Err-clause-headline
@@ -89,6 +91,16 @@ returns-in-Err-clause-nothing g c = rw c.status.ensures (λ is. due-nothing c.in
 
 pub returns-in-Err-clause-whole : goal.returns-in-Err-clause-whole
 returns-in-Err-clause-whole g c = rw c.status.ensures (λ run is. early-nothing c.in-Err.refusal _ (c.in-Err.ensures.leaves.whole run) is)
+
+pub returns-in-Err-clause-read : goal.returns-in-Err-clause-read
+returns-in-Err-clause-read g c = rw c.status.ensures (λ is. read-risen c.in-Err.refusal _ _ _ c.in-Err.ensures.reads is)
+
+pub returns-in-Err-clause-no_read : goal.returns-in-Err-clause-no_read
+returns-in-Err-clause-no_read g c =
+    rw c.status.ensures (λ not of. read-kept c.in-Err.refusal _ _ _ (IsNoRun (order_in (texts_of c.args.words.now))) c.in-Err.ensures.reads c.in-Err.ensures.alone not of)
+
+pub returns-in-Err-clause-no_fall : goal.returns-in-Err-clause-no_fall
+returns-in-Err-clause-no_fall g c = rw c.status.ensures (λ not. read-no_fall c.in-Err.refusal _ _ c.in-Err.ensures.reads not)
 
 pub returns-in-Ok-clause-note : goal.returns-in-Ok-clause-note
 returns-in-Ok-clause-note g c = (

@@ -1,5 +1,5 @@
 -- Levels by planes, and values by levels and runs.
-use Rattle.std.proofs.Common.{◌≡◌, ℕ, ◌+◌, ◌-◌, ◌*◌, ◌/◌, ◌%◌, ◌<◌, ◌≤◌, ◌==◌, Bool, true, false, List, length, get_or, set, replicate, Some, None, if◌then◌else◌, inl, inr, refl, sym, subst, ap, ap₂, ◌∙◌, arith}
+use Rattle.std.proofs.Common.{◌≡◌, ℕ, ◌+◌, ◌-◌, ◌*◌, ◌/◌, ◌%◌, ◌<◌, ◌==◌, ℤ, pos, int_lt, unsigned_abs, Bool, true, false, List, length, get_or, set, replicate, Some, None, if◌then◌else◌, inl, inr, refl, sym, subst, ap, ap₂, ◌∙◌, arith}
 use Rattle.std.specs.Int.{bit_at}
 use Rattle.std.specs.Option.{option_map, ForSome}
 use Rattle.std.proofs.lemmas.Bool.{cases_lt}
@@ -10,11 +10,12 @@ use Rattle.sample_unpack.specs.Level.{level_of}
 use Rattle.corr_model.specs.Rotated.{turned}
 use Rattle.value_codes.specs.Codes.{value_of, high_of, low_of, direction_of, turned_by}
 use Rattle.level_sums.specs.Levels.{plane_bit, byte_bit}
-use Rattle.level_sums.specs.Held.{PlanesFields as LevelFields, CopiesFields, plane_level, plane_samples, copy_level}
+use Rattle.level_sums.specs.Held.{PlanesFields as LevelFields, CopiesFields, plane_level, plane_samples, copy_level, copy_samples}
 use Rattle.bit_planes.specs.declared.runs.LevelRuns.{LevelRuns}
-use Rattle.bit_planes.specs.Runs.{run_value, direction_at, AreRuns, AreCopied, HoldCodes}
+use Rattle.bit_planes.specs.Runs.{run_value, place_value, direction_at, AreRuns, AreCopied, IsRoom, AreSet, AreAsLong, HoldCodes}
 use Rattle.bit_planes.specs.Stretches.{code_direction}
 use Rattle.bit_planes.proofs.CodeLemmas.{zeros}
+use Rattle.bit_planes.proofs.RunLemmas.{direction_at-missed}
 use Rattle.bit_planes.proofs.TurnLemmas.{value_of-turned}
 
 -- ---- planes
@@ -67,16 +68,15 @@ run_value-coded r k code h direction high low = both (code == 0) refl
         ∙ sym (value_of-turned code h some)
 
 -- levels and runs that are set to those of codes
-pub HoldCodes-filled : (codes : List ℕ) (r : LevelRuns) → ((k : ℕ) → get_or codes k 0 < 256) → length codes ≤ plane_samples r.levels
-    → length r.levels.low ≡ length r.levels.high → ForSome r.copies (AreCopied r.levels (length codes)) → AreRuns r.runs.items (length codes)
+pub HoldCodes-filled : (codes : List ℕ) (r : LevelRuns) → ((k : ℕ) → get_or codes k 0 < 256) → IsRoom (length codes) r
+    → ForSome r.copies (AreCopied r.levels (length codes)) → AreRuns r.runs.items (length codes)
     → ((k : ℕ) → direction_at r.runs.items k ≡ code_direction (get_or codes k 0))
-    → ((k : ℕ) → k < length codes → plane_bit r.levels.high k ≡ high_of (get_or codes k 0))
-    → ((k : ℕ) → k < length codes → plane_bit r.levels.low k ≡ low_of (get_or codes k 0))
+    → AreSet codes r.levels (length codes)
     → HoldCodes codes r
-HoldCodes-filled codes r fits long even copied runs directions high low = record {
-  runs = record { long = long; even = even; copied = copied; runs = runs };
+HoldCodes-filled codes r fits room copied runs directions set = record {
+  runs = record { long = room.long; even = room.even; copied = copied; runs = runs };
   values = λ k. elim (cases_lt k (length codes)) [
-    | inl q ↦ run_value-coded r k (get_or codes k 0) (fits k) (directions k) (λ some. high k q) (λ some. low k q)
+    | inl q ↦ run_value-coded r k (get_or codes k 0) (fits k) (directions k) (λ some. set.high k q) (λ some. set.low k q)
     | inr q ↦
         let past : get_or codes k 0 ≡ 0 = get_or_past codes k 0 q in
         run_value-coded r k (get_or codes k 0) (fits k) (directions k) (λ some. absurd (some past)) (λ some. absurd (some past))
@@ -88,3 +88,33 @@ pub ForSome-copied : (levels : LevelFields) (size : ℕ) (c : CopiesFields) → 
 ForSome-copied levels size c are x is =
     let same : c ≡ x = cc in
     subst (AreCopied levels size) same are
+
+-- room stays room, whatever levels and runs it has
+pub IsRoom-filled : (size : ℕ) (old new : LevelRuns) → IsRoom size old → AreAsLong old.levels new.levels
+    → ForSome new.copies (λ c. copy_samples c ≡ plane_samples old.levels) → IsRoom size new
+IsRoom-filled size old new room long copies = record {
+  long = omega (arith, room.long, long.high);
+  even = long.low ∙ room.even ∙ sym long.high;
+  whole = λ c is. omega (arith, copies c is, long.high);
+}
+
+pub place_value-none : (r : LevelRuns) (n : ℤ) → length r.runs.items ≡ 0 → place_value r n ≡ None
+place_value-none r n e = both (int_lt n (pos 0))
+  where
+    both : (b : Bool) → (if b then None else run_value r (unsigned_abs n)) ≡ None
+    both true = refl
+    both false =
+        let k : ℕ = unsigned_abs n in
+        ap (option_map (turned_by (plane_level r.levels k))) (direction_at-missed r.runs.items k (λ i d h. absurd (omega arith)))
+
+-- ---- codes of levels and directions
+
+pub value_of-held : (high low d : ℕ) → high < 2 → low < 2 → d < 8
+    → value_of (32 * high + 16 * low + 2 * d + 1) ≡ Some (turned_by (level_of 2 (2 * high + low)) d)
+value_of-held high low d h l m =
+    let code : ℕ = 32 * high + 16 * low + 2 * d + 1 in
+    let some : (code == 0) ≡ false = grind (arith, nat_tests) in
+    let level : (code - 1) / 16 % 4 ≡ 2 * high + low = omega arith in
+    let sector : (code - 1) % 16 ≡ 2 * d = omega arith in
+    ap (λ t. if t then None else Some (turned (level_of 2 ((code - 1) / 16 % 4)) ((code - 1) % 16))) some
+    ∙ ap₂ (λ x y. Some (turned (level_of 2 x) y)) level sector

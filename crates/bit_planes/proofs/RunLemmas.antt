@@ -52,6 +52,20 @@ direction_at-past runs size k are h =
     ap (option_map (λ (r : Run). r.direction))
     (find_none (has k) runs (λ i d m. over_not k (get_or runs i d) (omega (arith, are.inside i d m))))
 
+-- the first run that has a place
+pub direction_at-first : (runs : List Run) (k i : ℕ) (d : Run) → i < length runs
+    → ((j : ℕ) (d : Run) → j < i → has k (get_or runs j d) ≡ false) → (get_or runs i d).from ≤ k → k < (get_or runs i d).to
+    → direction_at runs k ≡ Some (get_or runs i d).direction
+unfolding direction_at
+direction_at-first runs k i d h before low high =
+    ap (option_map (λ (r : Run). r.direction)) (find_first (has k) runs i d h before (inside_has k (get_or runs i d) low high))
+
+-- no run has a place
+pub direction_at-missed : (runs : List Run) (k : ℕ) → ((i : ℕ) (d : Run) → i < length runs → has k (get_or runs i d) ≡ false)
+    → direction_at runs k ≡ None
+unfolding direction_at
+direction_at-missed runs k missed = ap (option_map (λ (r : Run). r.direction)) (find_none (has k) runs missed)
+
 -- ---- a run more
 
 pub direction_at-more : (runs : List Run) (n k : ℕ) (r : Run) → AreRuns runs n → r.from ≡ n → n ≤ k → k < r.to

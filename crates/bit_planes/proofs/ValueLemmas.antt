@@ -6,14 +6,14 @@ use Rattle.std.proofs.lemmas.Bool.Decides.{nat_tests}
 use Rattle.std.proofs.lemmas.Int.{ints}
 use Rattle.std.proofs.lemmas.List.{get_or-set_same, get_or-set_other, get_or_append_left, get_or_at, get_or_past, length-append}
 use Rattle.std.proofs.lemmas.Nat.Bits.{bit_at_above}
-use Rattle.std.specs.Option.{ForSome}
+use Rattle.std.specs.Option.{ForSome, option_or}
 use Rattle.corr_model.specs.Cell.{Value}
 use Rattle.bit_planes.specs.declared.runs.LevelRuns.{LevelRuns}
-use Rattle.bit_planes.specs.Runs.{AreLevelRuns, HoldCodes, run_value}
+use Rattle.bit_planes.specs.Runs.{AreLevelRuns, IsRoom, HoldCodes, run_value, place_value}
 use Rattle.value_codes.specs.Codes.{value_of}
 use Rattle.bit_planes.specs.declared.word.Word.{Word}
 use Rattle.bit_planes.specs.Word.{component, word_value}
-use Rattle.bit_planes.specs.Planes.{PlanesFields, HoldValues, ArePlanes, no_word, listed_value, plane_value, plane_bit, part_bit}
+use Rattle.bit_planes.specs.Planes.{PlanesFields, ArePlanes, no_word, listed_value, held_value, plane_value, plane_bit, part_bit}
 
 -- ---- words
 
@@ -131,33 +131,33 @@ listed_value-none words w i size rest long few old new k h =
 -- ---- planes
 
 pub plane_value-inside : (p : PlanesFields) (n : ℤ) (k : ℕ) → p.from +ℤ pos k ≡ n → n <ℤ p.to
-    → plane_value p n ≡ listed_value p.words k
+    → plane_value p n ≡ held_value p.levels p.words k
 plane_value-inside p n k e h =
     let low : int_le p.from n ≡ true = grind (arith, ints) in
     let high : int_lt n p.to ≡ true = grind (arith, ints) in
     let place : unsigned_abs (n -ℤ p.from) ≡ k = omega (arith, ints) in
-    ap₂ (λ s t. if s && t then listed_value p.words (unsigned_abs (n -ℤ p.from)) else None) low high
-    ∙ ap (listed_value p.words) place
+    ap₂ (λ s t. if s && t then held_value p.levels p.words (unsigned_abs (n -ℤ p.from)) else None) low high
+    ∙ ap (held_value p.levels p.words) place
 
 pub plane_value-past : (p : PlanesFields) (n : ℤ) → p.to ≤ℤ n → plane_value p n ≡ None
 plane_value-past p n h =
     let high : int_lt n p.to ≡ false = grind (arith, ints) in
-    ap (λ t. if int_le p.from n && t then listed_value p.words (unsigned_abs (n -ℤ p.from)) else None) high
+    ap (λ t. if int_le p.from n && t then held_value p.levels p.words (unsigned_abs (n -ℤ p.from)) else None) high
     ∙ neither (int_le p.from n)
   where
-    neither : (s : Bool) → (if s && false then listed_value p.words (unsigned_abs (n -ℤ p.from)) else None) ≡ None
+    neither : (s : Bool) → (if s && false then held_value p.levels p.words (unsigned_abs (n -ℤ p.from)) else None) ≡ None
     neither true = refl
     neither false = refl
 
 pub plane_value-before : (p : PlanesFields) (n : ℤ) → n <ℤ p.from → plane_value p n ≡ None
 plane_value-before p n h =
     let low : int_le p.from n ≡ false = grind (arith, ints) in
-    ap (λ s. if s && int_lt n p.to then listed_value p.words (unsigned_abs (n -ℤ p.from)) else None) low
+    ap (λ s. if s && int_lt n p.to then held_value p.levels p.words (unsigned_abs (n -ℤ p.from)) else None) low
 
 -- from the first sample on
-pub plane_value-listed : (p : PlanesFields) → ArePlanes p → (n : ℤ) (k : ℕ) → p.from +ℤ pos k ≡ n
-    → plane_value p n ≡ listed_value p.words k
-plane_value-listed p are n k e =
+pub plane_value-held : (p : PlanesFields) → ArePlanes p → (n : ℤ) (k : ℕ) → p.from +ℤ pos k ≡ n
+    → plane_value p n ≡ held_value p.levels p.words k
+plane_value-held p are n k e =
     let size : ℕ = unsigned_abs (p.to -ℤ p.from) in
     let order = are.order in
     let whole : p.from +ℤ pos size ≡ p.to = omega (arith, ints, order) in
@@ -166,27 +166,90 @@ plane_value-listed p are n k e =
       | inr q ↦ plane_value-past p n (omega (arith, ints)) ∙ sym (are.past k (omega (arith, ints)))
     ]
 
+-- from the first sample on, where there are words
+pub plane_value-listed : (p : PlanesFields) → ArePlanes p → 0 < length p.words → (n : ℤ) (k : ℕ) → p.from +ℤ pos k ≡ n
+    → plane_value p n ≡ listed_value p.words k
+plane_value-listed p are some n k e = plane_value-held p are n k e ∙ sym (are.words some k)
+
+-- without words
+pub listed_value-empty : (words : List Word) (k : ℕ) → length words ≡ 0 → listed_value words k ≡ None
+listed_value-empty words k e =
+    ap (λ w. word_value w (k % 64)) (get_or_past words (k / 64) no_word (omega arith)) ∙ word_value-none (k % 64)
+
+-- where no value is held there is none
+pub plane_value-none : (p : PlanesFields) → ((k : ℕ) → held_value p.levels p.words k ≡ None) → (n : ℤ) → plane_value p n ≡ None
+plane_value-none p none n = both (int_le p.from n) (int_lt n p.to)
+  where
+    both : (s t : Bool) → (if s && t then held_value p.levels p.words (unsigned_abs (n -ℤ p.from)) else None) ≡ None
+    both true true = none (unsigned_abs (n -ℤ p.from))
+    both true false = refl
+    both false t = refl
+
+-- the values by levels and runs, from a place on that may be before place 0
+pub plane_value-placed : (p : PlanesFields) (r : LevelRuns) → ArePlanes p → p.levels ≡ Some r → (place n : ℤ) → p.from +ℤ place ≡ n
+    → place_value r place ≡ plane_value p n
+plane_value-placed p r are is place n e = both (int_lt place (pos 0)) refl
+  where
+    both : (b : Bool) → int_lt place (pos 0) ≡ b → (if b then None else run_value r (unsigned_abs place)) ≡ plane_value p n
+    both true before =
+        let early : place <ℤ pos 0 = grind (arith, ints) in
+        sym (plane_value-before p n (omega (arith, ints)))
+    both false behind =
+        let late : pos 0 ≤ℤ place = grind (arith, ints) in
+        ap (λ o. held_value o p.words (unsigned_abs place)) (sym is)
+        ∙ sym (plane_value-held p are n (unsigned_abs place) (omega (arith, ints)))
+
 -- ---- room
 
 pub ArePlanes-room : (from to : ℤ) (words : List Word) (r : LevelRuns) (size : ℕ) → pos 0 ≤ℤ from → to ≤ℤ pos (2 ^ 40)
-    → from +ℤ pos size ≡ to → length words ≡ (size + 63) / 64 → ((k : ℕ) → listed_value words k ≡ None)
+    → from +ℤ pos size ≡ to → words ≡ []
     → AreLevelRuns size r → ((k : ℕ) → run_value r k ≡ None)
     → ArePlanes (record { from = from; to = to; words = words; levels = Some r })
-ArePlanes-room from to words r size start end whole long none runs empty =
+ArePlanes-room from to words r size start end whole none runs empty =
     let count : unsigned_abs (to -ℤ from) ≡ size = omega (arith, ints) in
     record {
       start = start;
       order = omega (arith, ints);
       end = end;
-      long = long ∙ ap (λ n. (n + 63) / 64) (sym count);
-      past = λ k h. none k;
+      past = λ k h. empty k;
       levels = λ x is.
           let same : r ≡ x = cc in
-          subst (HoldValues (record { from = from; to = to; words = words; levels = Some r })) same (record {
-            runs = subst (λ n. AreLevelRuns n r) (sym count) runs;
-            values = λ k. none k ∙ sym (empty k);
-          });
+          subst (AreLevelRuns (unsigned_abs (to -ℤ from))) same (subst (λ n. AreLevelRuns n r) (sym count) runs);
+      words = λ h. absurd (omega (arith, ap length none));
     }
+
+-- room in which levels hold no values
+pub ArePlanes-again : (from to : ℤ) (words : List Word) → pos 0 ≤ℤ from → to ≤ℤ pos (2 ^ 40) → from ≤ℤ to → words ≡ []
+    → ArePlanes (record { from = from; to = to; words = words; levels = None })
+ArePlanes-again from to words start end order none = record {
+  start = start;
+  order = order;
+  end = end;
+  past = λ k h. listed_value-empty words k (ap length none);
+  levels = λ x is. absurd (cc);
+  words = λ h k. refl;
+}
+
+pub IsRoom-held : (size : ℕ) (r : LevelRuns) → AreLevelRuns size r → IsRoom size r
+IsRoom-held size r are = record {
+  long = are.long;
+  even = are.even;
+  whole = λ c is. (are.copied c is).whole;
+}
+
+-- the levels of either are room
+pub ForSome-room : (size : ℕ) (a b : Option LevelRuns) → ForSome a (AreLevelRuns size) → ForSome b (IsRoom size)
+    → ForSome (option_or a b) (IsRoom size)
+ForSome-room size None b held spare = spare
+ForSome-room size (Some r) b held spare = λ x is.
+    let same : r ≡ x = cc in
+    subst (IsRoom size) same (IsRoom-held size r (held r refl))
+
+-- room for as many words
+pub IsRoom-again : (old new : ℕ) (o : Option LevelRuns) → (new + 63) / 64 ≡ (old + 63) / 64 → ForSome o (IsRoom old) → ForSome o (IsRoom new)
+IsRoom-again old new o e room x is =
+    let are = room x is in
+    record { long = omega (arith, are.long); even = are.even; whole = are.whole }
 
 -- ---- codes
 
@@ -221,26 +284,66 @@ listed_value-codes words codes long values k =
 
 -- planes with the values of codes
 pub ArePlanes-coded : (p : PlanesFields) (words : List Word) (levels : Option LevelRuns) (codes : List ℕ) → ArePlanes p
-    → p.from +ℤ pos (length codes) ≡ p.to → length words ≡ length p.words → ((k : ℕ) → listed_value words k ≡ value_of (get_or codes k 0))
-    → ForSome levels (HoldCodes codes) → ArePlanes (record { from = p.from; to = p.to; words = words; levels = levels })
-ArePlanes-coded p words levels codes are size long values held =
+    → p.from +ℤ pos (length codes) ≡ p.to
+    → ForSome levels (HoldCodes codes)
+    → ((k : ℕ) → held_value levels words k ≡ value_of (get_or codes k 0))
+    → ForSome levels (λ _. words ≡ [])
+    → ArePlanes (record { from = p.from; to = p.to; words = words; levels = levels })
+ArePlanes-coded p words levels codes are size held values beside =
     let count : unsigned_abs (p.to -ℤ p.from) ≡ length codes = omega (arith, ints, size) in
     record {
       start = are.start;
       order = are.order;
       end = are.end;
-      long = long ∙ are.long;
       past = λ k h. values k ∙ ap value_of (get_or_past codes k 0 (omega (arith, ints, size)));
-      levels = λ r is.
-          let holds = held r is in
-          record {
-            runs = subst (λ n. AreLevelRuns n r) (sym count) holds.runs;
-            values = λ k. values k ∙ sym (holds.values k);
-          };
+      levels = λ r is. subst (λ n. AreLevelRuns n r) (sym count) (held r is).runs;
+      words = λ h k. listed levels beside h k;
     }
+  where
+    listed : (o : Option LevelRuns) → ForSome o (λ _. words ≡ []) → 0 < length words → (k : ℕ) → listed_value words k ≡ held_value o words k
+    listed None none h k = refl
+    listed (Some r) none h k = absurd (omega (arith, ap length (none r refl)))
 
 pub plane_value-coded : (p : PlanesFields) (codes : List ℕ) → p.from +ℤ pos (length codes) ≡ p.to
-    → ((k : ℕ) → listed_value p.words k ≡ value_of (get_or codes k 0))
+    → ((k : ℕ) → held_value p.levels p.words k ≡ value_of (get_or codes k 0))
     → (n : ℤ) → p.from ≤ℤ n → n <ℤ p.to → plane_value p n ≡ value_of (get_or codes (unsigned_abs (n -ℤ p.from)) 0)
 plane_value-coded p codes size values n low high =
     plane_value-inside p n (unsigned_abs (n -ℤ p.from)) (omega (arith, ints)) high ∙ values (unsigned_abs (n -ℤ p.from))
+
+-- ---- words beside levels and runs
+
+-- the values that are held, where they are those of codes in the range
+pub held_value-coded : (p : PlanesFields) (codes : List ℕ) → ArePlanes p → p.from +ℤ pos (length codes) ≡ p.to
+    → ((n : ℤ) → p.from ≤ℤ n → n <ℤ p.to → plane_value p n ≡ value_of (get_or codes (unsigned_abs (n -ℤ p.from)) 0))
+    → (k : ℕ) → held_value p.levels p.words k ≡ value_of (get_or codes k 0)
+held_value-coded p codes are size shown k =
+    elim (cases_lt k (length codes)) [
+      | inl q ↦
+          let n : ℤ = p.from +ℤ pos k in
+          let place : unsigned_abs (n -ℤ p.from) ≡ k = omega (arith, ints) in
+          sym (plane_value-inside p n k refl (omega (arith, ints, size))) ∙ shown n (omega (arith, ints)) (omega (arith, ints, size))
+          ∙ ap (λ j. value_of (get_or codes j 0)) place
+      | inr q ↦ are.past k (omega (arith, ints, size)) ∙ ap value_of (sym (get_or_past codes k 0 q))
+    ]
+
+-- words with the values that are held change none of them
+pub held_value-beside : (levels : Option LevelRuns) (old new : List Word)
+    → ((k : ℕ) → listed_value new k ≡ held_value levels old k) → (k : ℕ) → held_value levels new k ≡ held_value levels old k
+held_value-beside None old new same k = same k
+held_value-beside (Some r) old new same k = refl
+
+pub ArePlanes-beside : (p : PlanesFields) (words : List Word) → ArePlanes p → ((k : ℕ) → listed_value words k ≡ held_value p.levels p.words k)
+    → ArePlanes (record { from = p.from; to = p.to; words = words; levels = p.levels })
+ArePlanes-beside p words are same = record {
+  start = are.start;
+  order = are.order;
+  end = are.end;
+  past = λ k h. held_value-beside p.levels p.words words same k ∙ are.past k h;
+  levels = are.levels;
+  words = λ h k. same k ∙ sym (held_value-beside p.levels p.words words same k);
+}
+
+pub plane_value-beside : (p : PlanesFields) (words : List Word) → ((k : ℕ) → listed_value words k ≡ held_value p.levels p.words k)
+    → (n : ℤ) → plane_value (record { from = p.from; to = p.to; words = words; levels = p.levels }) n ≡ plane_value p n
+plane_value-beside p words same n =
+    ap (λ v. if int_le p.from n && int_lt n p.to then v else None) (held_value-beside p.levels p.words words same (unsigned_abs (n -ℤ p.from)))

@@ -1,14 +1,14 @@
 -- The values that planes hold, and the nine planes of bits that show them.
-use Rattle.std.specs.Prelude.{◌≡◌, ℕ, ◌+◌, ◌-◌, ◌/◌, ◌%◌, ◌^◌, ◌==◌, ◌&&◌, ℤ, pos, ◌+ℤ◌, ◌-ℤ◌, ◌≤ℤ◌, int_le, int_lt, unsigned_abs, Bool, not, List, Option, Some, None, length, slice_index_or, if◌then◌else◌}
+use Rattle.std.specs.Prelude.{◌≡◌, ℕ, ◌+◌, ◌-◌, ◌/◌, ◌%◌, ◌^◌, ◌<◌, ◌≤◌, ◌==◌, ◌&&◌, ℤ, pos, ◌+ℤ◌, ◌-ℤ◌, ◌≤ℤ◌, int_le, int_lt, unsigned_abs, Bool, not, List, Option, Some, None, length, slice_index_or, if◌then◌else◌}
 use Rattle.std.specs.Option.{ForSome}
 use Rattle.corr_model.specs.Cell.{Value}
 use Rattle.bit_planes.specs.declared.word.Word.{Word}
 use Rattle.bit_planes.specs.Word.{word_value}
 use Rattle.bit_planes.specs.declared.runs.LevelRuns.{LevelRuns}
-use Rattle.bit_planes.specs.Runs.{AreLevelRuns, run_value}
+use Rattle.bit_planes.specs.Runs.{AreLevelRuns, IsRoom, run_value}
 
--- The samples from `from` up to, not including, `to`, words of 64 values each from sample `from` on, and the values by levels and
--- runs where these are few.
+-- The samples from `from` up to, not including, `to`, the values by levels and runs where few runs hold them, and where they do not
+-- or words are wanted too, words of 64 values each from sample `from` on.
 pub record PlanesFields : Type 0 where
   pub from : ℤ
   pub to : ℤ
@@ -26,31 +26,36 @@ no_word = record {
 abbrev pub listed_value : List Word → ℕ → Value
 listed_value words k = word_value (slice_index_or words (k / 64) no_word) (k % 64)
 
+-- value k by levels and runs where they are there, else by words
+abbrev pub held_value : Option LevelRuns → List Word → ℕ → Value
+held_value None words k = listed_value words k
+held_value (Some r) words k = run_value r k
+
 -- the value at sample n, none outside the range
 abbrev pub plane_value : PlanesFields → ℤ → Value
 plane_value p n =
     if int_le p.from n && int_lt n p.to
-    then listed_value p.words (unsigned_abs (n -ℤ p.from))
+    then held_value p.levels p.words (unsigned_abs (n -ℤ p.from))
     else None
 
 -- how many samples there are
 abbrev pub size_of : PlanesFields → ℕ
 size_of p = unsigned_abs (p.to -ℤ p.from)
 
--- these levels and runs hold the values of the planes
-pub record HoldValues (p : PlanesFields) (r : LevelRuns) : Type 0 where
-  pub runs : AreLevelRuns (size_of p) r
-  pub values : (k : ℕ) → listed_value p.words k ≡ run_value r k
-
--- Planes of a scan, which has at most 2^40 samples. There are as many words as hold the samples, and past the last sample
--- they show no value.
+-- Planes of a scan, which has at most 2^40 samples. Past the last sample there is no value, and where there are words they show
+-- the values.
 pub record ArePlanes (p : PlanesFields) : Type 0 where
   pub start : pos 0 ≤ℤ p.from
   pub order : p.from ≤ℤ p.to
   pub end : p.to ≤ℤ pos (2 ^ 40)
-  pub long : length p.words ≡ (size_of p + 63) / 64
-  pub past : (k : ℕ) → p.to ≤ℤ (p.from +ℤ pos k) → listed_value p.words k ≡ None
-  pub levels : ForSome p.levels (HoldValues p)
+  pub past : (k : ℕ) → p.to ≤ℤ (p.from +ℤ pos k) → held_value p.levels p.words k ≡ None
+  pub levels : ForSome p.levels (AreLevelRuns (size_of p))
+  pub words : 0 < length p.words → (k : ℕ) → listed_value p.words k ≡ held_value p.levels p.words k
+
+-- room for the words of so many samples, and for their levels where these hold no values
+pub record HaveRoom (size capacity : ℕ) (room : Option LevelRuns) : Type 0 where
+  pub words : (size + 63) / 64 ≤ capacity
+  pub levels : ForSome room (IsRoom size)
 
 -- whether a ternary part of a component is not 0: of u + 2v, part 0 is u, which a magnitude of 1 or 3 has, and part 1 is v,
 -- which 3 alone has

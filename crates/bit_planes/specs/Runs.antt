@@ -1,9 +1,10 @@
 -- Values by two planes of levels and runs of one direction.
-use Rattle.std.specs.Prelude.{◌≡◌, ℕ, ◌<◌, ◌≤◌, ◌&&◌, Bool, nat_lt, nat_le, List, length, Option, option_map, slice_index, slice_index_or}
+use Rattle.std.specs.Prelude.{◌≡◌, ℕ, ◌<◌, ◌≤◌, ◌&&◌, Bool, nat_lt, nat_le, List, length, Option, None, option_map, ℤ, pos, int_lt, unsigned_abs, slice_index, slice_index_or, if◌then◌else◌}
 use Rattle.std.specs.Option.{ForSome}
 use Rattle.std.specs.List.{find}
 use Rattle.corr_model.specs.Cell.{Value}
-use Rattle.value_codes.specs.Codes.{value_of, turned_by}
+use Rattle.value_codes.specs.Codes.{value_of, high_of, low_of, turned_by}
+use Rattle.level_sums.specs.Levels.{plane_bit}
 use Rattle.level_sums.specs.Held.{PlanesFields as LevelFields, CopiesFields, plane_level, plane_samples, copy_level, copy_samples}
 use Rattle.bit_planes.specs.declared.runs.Run.{Run}
 use Rattle.bit_planes.specs.declared.runs.LevelRuns.{LevelRuns}
@@ -19,6 +20,10 @@ direction_at runs k = option_map (λ (r : Run). r.direction) (find (has k) runs)
 -- the value at place k
 abbrev pub run_value : LevelRuns → ℕ → Value
 run_value r k = option_map (turned_by (plane_level r.levels k)) (direction_at r.runs.items k)
+
+-- the value at a place that may be before place 0, where there is none
+abbrev pub place_value : LevelRuns → ℤ → Value
+place_value r n = if int_lt n (pos 0) then None else run_value r (unsigned_abs n)
 
 -- runs one after another, among so many places
 pub record AreRuns (runs : List Run) (size : ℕ) : Type 0 where
@@ -39,6 +44,22 @@ pub record AreLevelRuns (size : ℕ) (r : LevelRuns) : Type 0 where
   pub even : length r.levels.low ≡ length r.levels.high
   pub copied : ForSome r.copies (AreCopied r.levels size)
   pub runs : AreRuns r.runs.items size
+
+-- room for the levels of so many places, whatever they are
+pub record IsRoom (size : ℕ) (r : LevelRuns) : Type 0 where
+  pub long : size ≤ plane_samples r.levels
+  pub even : length r.levels.low ≡ length r.levels.high
+  pub whole : ForSome r.copies (λ c. copy_samples c ≡ plane_samples r.levels)
+
+-- the levels up to place n are those of codes
+pub record AreSet (codes : List ℕ) (levels : LevelFields) (n : ℕ) : Type 0 where
+  pub high : (k : ℕ) → k < n → plane_bit levels.high k ≡ high_of (slice_index codes k)
+  pub low : (k : ℕ) → k < n → plane_bit levels.low k ≡ low_of (slice_index codes k)
+
+-- planes of as many words
+pub record AreAsLong (old new : LevelFields) : Type 0 where
+  pub high : length new.high ≡ length old.high
+  pub low : length new.low ≡ length old.low
 
 -- levels and runs that hold the values of codes
 pub record HoldCodes (codes : List ℕ) (r : LevelRuns) : Type 0 where

@@ -1,5 +1,6 @@
 //! Words of 64 values, filled from codes.
-ghost use Rattle.std.specs.Prelude.{◌≡◌, ◌<◌, ◌≤◌, ◌+◌, ◌*◌, ◌/◌, ◌^◌, ℕ, length, slice_index, IfOk, None};
+ghost use Rattle.std.specs.Prelude.{◌≡◌, ◌<◌, ◌≤◌, ◌+◌, ◌*◌, ◌/◌, ◌^◌, ℕ, [], length, slice_index, IfOk};
+ghost use Rattle.std.specs.Vec.{vec_capacity};
 ghost use Rattle.bit_planes.specs.Planes.{listed_value};
 ghost use Rattle.value_codes.specs.Codes.{value_of};
 
@@ -7,13 +8,13 @@ use crate::Word;
 use crate::turned::coded_word;
 use std::alloc::{AllocError, Global};
 
-// As many words as hold `size` values, without any.
+// Room for as many words as hold `size` values, without any.
 pub(crate) fn no_words(alloc: Global, size: u64) -> Result<Vec<Word>, AllocError>
     requires scan { size ≤ 2 ^ 40 }
-    ensures len { IfOk result (λ words. length words.items ≡ (size + 63) / 64) }
-    ensures none { IfOk result (λ words. (k : ℕ) → listed_value words.items k ≡ None) }
+    ensures none { IfOk result (λ words. words.items ≡ []) }
+    ensures room { IfOk result (λ words. (size + 63) / 64 ≤ vec_capacity words) }
 {
-    Ok(vec![in alloc; Word::NONE; ((size + 63) >> 6) as usize]?)
+    Vec::with_capacity(alloc, ((size + 63) >> 6) as usize)
 }
 
 // At most 64 codes, and none behind them.
@@ -26,8 +27,21 @@ pub(crate) fn last_codes(codes: &[u8]) -> [u8; 64]
     last
 }
 
+// Sets the words to as many as hold the values of the codes, in the room that they have.
+pub(crate) fn set_words(words: &mut Vec<Word>, codes: &[u8])
+    requires scan { length codes.now ≤ 2 ^ 40 }
+    requires room { (length codes.now + 63) / 64 ≤ vec_capacity words.old }
+    ensures room { vec_capacity words.old ≤ vec_capacity words.new }
+    ensures values { (k : ℕ) → listed_value words.new.items k ≡ value_of (slice_index codes.now k) }
+{
+    let Ok(()) = words.resize((codes.len() + 63) >> 6, Word::NONE) else {
+        unreachable!()
+    };
+    fill_words(words, codes);
+}
+
 // Sets the values of as many words as hold those of the codes, none past the last code.
-pub(crate) fn fill_words(words: &mut [Word], codes: &[u8])
+fn fill_words(words: &mut [Word], codes: &[u8])
     requires scan { length codes.now ≤ 2 ^ 40 }
     requires long { length words.old ≡ (length codes.now + 63) / 64 }
     ensures len { length words.new ≡ length words.old }

@@ -1,6 +1,7 @@
 //! Words of 64 values, filled value by value.
 ghost use Rattle.std.specs.Prelude.{◌≡◌, ◌<◌, ◌≤◌, ◌+◌, ◌/◌, ◌^◌, ℕ, length, pos, IfOk, IfSome, None, if◌then◌else◌};
 ghost use Rattle.std.specs.Int.{bit_at};
+ghost use Rattle.std.specs.Vec.{vec_capacity};
 ghost use Rattle.bit_planes.specs.Word.{component, word_value};
 ghost use Rattle.bit_planes.specs.Planes.{listed_value};
 ghost use Rattle.bit_planes.specs.Filled.{IsTernary, AreTernary, PartEndsBy, EndsBy};
@@ -94,6 +95,7 @@ pub(crate) fn words_of<V: Values>(
     ensures len { IfOk result (λ words. length words.items ≡ (size + 63) / 64) }
     ensures values { IfOk result (λ words. (k : ℕ) → k < size → listed_value words.items k ≡ V.samples v.now station chan (pos (n + k))) }
     ensures past { IfOk result (λ words. (k : ℕ) → size ≤ k → listed_value words.items k ≡ None) }
+    ensures room { IfOk result (λ words. (size + 63) / 64 ≤ vec_capacity words) }
 {
     let count = (size + 63) >> 6;
     let mut words = Vec::with_capacity(alloc, count as usize)?;

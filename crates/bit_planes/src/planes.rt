@@ -1,14 +1,17 @@
 //! The values of a range of samples, word by word.
-ghost use Rattle.std.specs.Prelude.{◌≡◌, ◌<◌, ◌≤◌, ◌+◌, ◌^◌, ℕ, ℤ, pos, neg_ℤ, ◌+ℤ◌, ◌-ℤ◌, ◌≤ℤ◌, ◌<ℤ◌, unsigned_abs, length, slice_index, IfOk, IfSome, None};
+ghost use Rattle.std.specs.Prelude.{◌≡◌, ◌<◌, ◌≤◌, ◌+◌, ◌/◌, ◌^◌, true, ℕ, ℤ, pos, neg_ℤ, ◌+ℤ◌, ◌-ℤ◌, ◌≤ℤ◌, ◌<ℤ◌, unsigned_abs, [], length, slice_index, IfOk, IfSome, None};
 ghost use Rattle.std.specs.Int.{bit_at};
+ghost use Rattle.std.specs.Option.{ForSome};
+ghost use Rattle.std.specs.Vec.{vec_capacity};
 ghost use Rattle.bit_planes.specs.Word.{word_value};
-ghost use Rattle.bit_planes.specs.Planes.{plane_value, plane_bit, size_of};
-ghost use Rattle.bit_planes.specs.Runs.{AreLevelRuns, run_value};
+ghost use Rattle.bit_planes.specs.Planes.{held_value, plane_value, plane_bit, size_of};
+ghost use Rattle.bit_planes.specs.Runs.{AreLevelRuns, HoldCodes, run_value};
 ghost use Rattle.bit_planes.specs.Filled.{AreTernary};
 ghost use Rattle.value_codes.specs.Codes.{value_of};
 
-use crate::coded::{fill_words, no_words};
+use crate::coded::{no_words, set_words};
 use crate::gather::words_of;
+use crate::held::held_word;
 use crate::runs::filled;
 use crate::shift::{joined, listed_word, word_from};
 use crate::shown::shown_bits;
@@ -24,16 +27,20 @@ pub struct Planes {
     to: i64,
     words: Vec<Word>,
     levels: Option<LevelRuns>,
+    spare: Option<LevelRuns>,
 }
 
 impl Model for Planes {
-    ghost use Rattle.bit_planes.specs.Planes.{PlanesFields, ArePlanes};
+    ghost use Rattle.std.specs.Prelude.{◌-ℤ◌, unsigned_abs};
+    ghost use Rattle.std.specs.Vec.{vec_capacity};
+    ghost use Rattle.bit_planes.specs.Planes.{PlanesFields, ArePlanes, HaveRoom};
 
     ghost Value = { PlanesFields };
 
     ghost view = { λ p. record { from = p.from; to = p.to; words = p.words.items; levels = p.levels } };
 
-    ghost invariant = { λ p. ArePlanes (record { from = p.from; to = p.to; words = p.words.items; levels = p.levels }) };
+    ghost invariant = { λ p. ArePlanes (record { from = p.from; to = p.to; words = p.words.items; levels = p.levels })
+        × HaveRoom (unsigned_abs (p.to -ℤ p.from)) (vec_capacity p.words) p.spare };
 }
 
 impl Planes {
@@ -67,6 +74,7 @@ impl Planes {
             to,
             words,
             levels: None,
+            spare: None,
         })
     }
 
@@ -87,7 +95,47 @@ impl Planes {
             to,
             words,
             levels: Some(levels),
+            spare: None,
         })
+    }
+
+    /// Room as `room` makes it, in the room of these planes where that is as large.
+    pub fn again(
+        self,
+        alloc: Global,
+        from: i64,
+        to: i64,
+        second: bool,
+    ) -> Result<Planes, AllocError>
+        requires start { pos 0 ≤ℤ from }
+        requires end { to ≤ℤ pos (2 ^ 40) }
+        requires order { from ≤ℤ to }
+        ensures range { IfOk result (λ p. (p.from ≡ from) × (p.to ≡ to)) }
+        ensures none { IfOk result (λ p. (n : ℤ) → plane_value p n ≡ None) }
+    {
+        if !self.has_room(samples_between(from, to), second) {
+            drop(self);
+            return Planes::room(alloc, from, to, second);
+        }
+        let mut words = self.words;
+        words.clear();
+        Ok(Planes {
+            from,
+            to,
+            words,
+            levels: None,
+            spare: self.levels.or(self.spare),
+        })
+    }
+
+    // Whether there is room for the words and levels of so many samples, with copies where they are wanted and only there.
+    fn has_room(&self, samples: u64, second: bool) -> bool
+        requires { samples ≤ 2 ^ 40 }
+        ensures { result ≡ true → (samples + 63) / 64 ≡ (size_of self.now + 63) / 64 }
+    {
+        let there = samples_between(self.from, self.to);
+        (is_alike(&self.levels, second) || is_alike(&self.spare, second))
+            && (samples + 63) >> 6 == (there + 63) >> 6
     }
 
     /// Sets the values to those of a code for each sample. Where the codes change their direction often, `levels` gives
@@ -97,8 +145,22 @@ impl Planes {
         ensures range { (self.new.from ≡ self.old.from) × (self.new.to ≡ self.old.to) }
         ensures values { (n : ℤ) → self.old.from ≤ℤ n → n <ℤ self.old.to → plane_value self.new n ≡ value_of (slice_index codes.now (unsigned_abs (n -ℤ self.old.from))) }
     {
-        fill_words(&mut self.words, codes);
-        self.levels = filled(self.levels.take(), codes);
+        let room = self.levels.take().or(self.spare.take());
+        let filled = filled(room, codes);
+        set_beside(&mut self.words, &filled.held, codes);
+        self.levels = filled.held;
+        self.spare = filled.spare;
+    }
+
+    /// Sets the words too, so that `at` reads them. `codes` are those of the values that the planes show.
+    pub fn fill_words(&mut self, codes: &[u8])
+        requires long { self.old.from +ℤ pos (length codes.now) ≡ self.old.to }
+        requires shown { (n : ℤ) → self.old.from ≤ℤ n → n <ℤ self.old.to → plane_value self.old n ≡ value_of (slice_index codes.now (unsigned_abs (n -ℤ self.old.from))) }
+        ensures range { (self.new.from ≡ self.old.from) × (self.new.to ≡ self.old.to) }
+        ensures levels { self.new.levels ≡ self.old.levels }
+        ensures values { (n : ℤ) → plane_value self.new n ≡ plane_value self.old n }
+    {
+        set_words(&mut self.words, codes);
     }
 
     /// The first sample.
@@ -137,6 +199,9 @@ impl Planes {
         requires { unsigned_abs n < 2 ^ 62 }
         ensures { (k : ℕ) → k < 64 → word_value result k ≡ plane_value self.now (n +ℤ pos k) }
     {
+        if self.words.is_empty() {
+            return self.held_at(n);
+        }
         if n >= self.from {
             return word_from(&self.words, samples_between(self.from, n));
         }
@@ -147,6 +212,19 @@ impl Planes {
         joined(Word::NONE, listed_word(&self.words, 0), 64 - before as u32)
     }
 
+    // The 64 values from sample `n` on, by levels and runs alone.
+    #[inline(never)]
+    fn held_at(&self, n: i64) -> Word
+        requires sample { unsigned_abs n < 2 ^ 62 }
+        requires empty { length self.now.words ≡ 0 }
+        ensures { (k : ℕ) → k < 64 → word_value result k ≡ plane_value self.now (n +ℤ pos k) }
+    {
+        match &self.levels {
+            Some(levels) => held_word(levels, n - self.from),
+            None => Word::NONE,
+        }
+    }
+
     /// The 64 bits of a plane from that of sample `from + bit` on, zeros past the end. Plane 0 says where there is a value;
     /// plane 1 + 4c + 2t + s where part t (0 for u, 1 for v) of component c (0 the real one, 1 the imaginary one) has the sign
     /// s (0 plus, 1 minus), the component's magnitude being u + 2v.
@@ -154,7 +232,33 @@ impl Planes {
         requires plane { plane < 9 }
         ensures { (k : ℕ) → k < 64 → bit_at result k ≡ plane_bit plane (plane_value self.now (self.now.from +ℤ pos (bit + k))) }
     {
-        shown_bits(word_from(&self.words, bit), plane)
+        if bit >= samples_between(self.from, self.to) {
+            return 0;
+        }
+        shown_bits(self.at(self.from + bit as i64), plane)
+    }
+}
+
+// Whether there are levels, with copies where they are wanted and only there.
+fn is_alike(room: &Option<LevelRuns>, second: bool) -> bool {
+    match room {
+        Some(room) => room.copies.is_some() == second,
+        None => false,
+    }
+}
+
+// Sets the words to the values of the codes, and to none where levels and runs hold these.
+fn set_beside(words: &mut Vec<Word>, held: &Option<LevelRuns>, codes: &[u8])
+    requires scan { length codes.now ≤ 2 ^ 40 }
+    requires room { (length codes.now + 63) / 64 ≤ vec_capacity words.old }
+    requires held { ForSome held.now (HoldCodes codes.now) }
+    ensures room { vec_capacity words.old ≤ vec_capacity words.new }
+    ensures values { (k : ℕ) → held_value held.now words.new.items k ≡ value_of (slice_index codes.now k) }
+    ensures beside { ForSome held.now (λ _. words.new.items ≡ []) }
+{
+    match held {
+        Some(_) => words.clear(),
+        None => set_words(words, codes),
     }
 }
 

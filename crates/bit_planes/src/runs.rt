@@ -1,17 +1,14 @@
 //! Levels, and the runs in which they are turned by one direction.
-ghost use Rattle.std.specs.Prelude.{◌≡◌, ◌≢◌, ◌<◌, ◌≤◌, ◌+◌, ◌*◌, ◌/◌, ◌^◌, ℕ, length, slice_index, IfOk, OnOk, None};
+ghost use Rattle.std.specs.Prelude.{◌≡◌, ◌≤◌, ◌*◌, ◌^◌, ℕ, length, IfOk, OnOk, None};
 ghost use Rattle.std.specs.Int.{div_ceil};
 ghost use Rattle.std.specs.Option.{ForSome};
-ghost use Rattle.value_codes.specs.Codes.{value_of, high_of, low_of};
-ghost use Rattle.level_sums.specs.Levels.{plane_bit, byte_bit};
-ghost use Rattle.level_sums.specs.Held.{plane_samples, copy_samples};
-ghost use Rattle.bit_planes.specs.Runs.{AreLevelRuns, HoldCodes, run_value};
+ghost use Rattle.level_sums.specs.Levels.{byte_bit};
+ghost use Rattle.level_sums.specs.Held.{copy_samples};
+ghost use Rattle.bit_planes.specs.Runs.{AreLevelRuns, IsRoom, HoldCodes, run_value};
 
-use crate::coded::last_codes;
 use crate::stretches::{TooMany, find_runs, most_runs};
 use level_sums::{LevelCopies, LevelPlanes};
 use std::alloc::{AllocError, Global};
-use value_codes::code_bits;
 
 /// The samples from place `from` up to, not including, place `to`, counted from the first sample of the planes: all are there,
 /// and turned by `direction` eighths of a turn.
@@ -51,11 +48,11 @@ impl LevelRuns {
     // Sets the values to those of the codes.
     fn fill(&mut self, codes: &[u8]) -> Result<(), TooMany>
         requires scan { length codes.now ≤ 2 ^ 40 }
-        requires runs { AreLevelRuns (length codes.now) self.old }
-        ensures { OnOk result (HoldCodes codes.now self.new) }
+        requires room { IsRoom (length codes.now) self.old }
+        ensures room { IsRoom (length codes.now) self.new }
+        ensures values { OnOk result (HoldCodes codes.now self.new) }
     {
-        find_runs(&mut self.runs, codes)?;
-        fill_levels(&mut self.levels, codes);
+        find_runs(&mut self.levels, &mut self.runs, codes)?;
         if let Some(copies) = &mut self.copies {
             copies.fill(&self.levels);
         }
@@ -81,36 +78,34 @@ fn room_of_copies(
     Ok(Some(copies))
 }
 
-// Sets the levels to those of the codes.
-fn fill_levels(levels: &mut LevelPlanes, codes: &[u8])
-    requires scan { length codes.now ≤ 2 ^ 40 }
-    requires long { length codes.now ≤ plane_samples levels.old }
-    requires even { length levels.old.low ≡ length levels.old.high }
-    ensures len { length levels.new.high ≡ length levels.old.high }
-    ensures even { length levels.new.low ≡ length levels.new.high }
-    ensures high { (k : ℕ) → k < length codes.now → plane_bit levels.new.high k ≡ high_of (slice_index codes.now k) }
-    ensures low { (k : ℕ) → k < length codes.now → plane_bit levels.new.low k ≡ low_of (slice_index codes.now k) }
-{
-    let whole = codes.len() / 64;
-    for i in 0..whole {
-        let bits = code_bits(&codes[64 * i..]);
-        levels.set(i, bits.high, bits.low);
-    }
-    if 64 * whole < codes.len() {
-        let bits = code_bits(&last_codes(&codes[64 * whole..]));
-        levels.set(whole, bits.high, bits.low);
-    }
+// Levels and runs that hold values, or room for them.
+#[derive(Drop)]
+pub(crate) struct Kept {
+    pub held: Option<LevelRuns>,
+    pub spare: Option<LevelRuns>,
 }
 
-// Levels and runs of the codes, none where there are too many runs.
-pub(crate) fn filled(levels: Option<LevelRuns>, codes: &[u8]) -> Option<LevelRuns>
+// Levels and runs of the codes in a room, none held where there are too many runs.
+pub(crate) fn filled(room: Option<LevelRuns>, codes: &[u8]) -> Kept
     requires scan { length codes.now ≤ 2 ^ 40 }
-    requires runs { ForSome levels (AreLevelRuns (length codes.now)) }
-    ensures { ForSome result (HoldCodes codes.now) }
+    requires room { ForSome room (IsRoom (length codes.now)) }
+    ensures held { ForSome result.held (HoldCodes codes.now) }
+    ensures spare { ForSome result.spare (IsRoom (length codes.now)) }
 {
-    let mut runs = levels?;
+    let Some(mut runs) = room else {
+        return Kept {
+            held: None,
+            spare: None,
+        };
+    };
     match runs.fill(codes) {
-        Ok(()) => Some(runs),
-        Err(_) => None,
+        Ok(()) => Kept {
+            held: Some(runs),
+            spare: None,
+        },
+        Err(_) => Kept {
+            held: None,
+            spare: Some(runs),
+        },
     }
 }

@@ -1,11 +1,15 @@
-//! Runs of one direction, found in codes.
-ghost use Rattle.std.specs.Prelude.{◌≡◌, ◌<◌, ◌≤◌, ◌+◌, ◌^◌, ℕ, length, slice_index, true, IfOk, OnOk};
+//! Runs of one direction, found in codes as their levels are set.
+ghost use Rattle.std.specs.Prelude.{◌≡◌, ◌<◌, ◌≤◌, ◌+◌, ◌*◌, ◌^◌, ◌==◌, ℕ, length, slice_index, if◌then◌else◌, true, IfOk, OnOk};
+ghost use Rattle.std.specs.Int.{bit_at};
+ghost use Rattle.level_sums.specs.Held.{plane_samples};
 ghost use Rattle.value_codes.specs.Codes.{direction_of};
-ghost use Rattle.bit_planes.specs.Runs.{AreRuns, direction_at};
+ghost use Rattle.bit_planes.specs.Runs.{AreRuns, AreSet, AreAsLong, direction_at};
 ghost use Rattle.bit_planes.specs.Stretches.{kind_of, kind_direction, code_direction, AreFound};
 
 use crate::Run;
-use value_codes::{code_bits, direction_bits};
+use crate::levels::{set_last, set_word};
+use level_sums::LevelPlanes;
+use value_codes::direction_bits;
 
 // There are more runs than there is room for.
 #[derive(Clone, Copy, Debug, PartialEq, Eq)]
@@ -40,14 +44,14 @@ fn kind_of(code: u8) -> u8
     code % 16 / 2
 }
 
-// Whether the first 64 codes are of a kind.
+// Whether the first 64 codes are of a kind, `there` saying by bits where there is a value.
 #[inline(always)]
-fn are_all(codes: &[u8], kind: u8) -> bool
+fn are_all(codes: &[u8], there: u64, kind: u8) -> bool
     requires room { 64 ≤ length codes.now }
+    requires there { (k : ℕ) → k < 64 → bit_at there k ≡ (if slice_index codes.now k == 0 then 0 else 1) }
     requires kind { kind ≤ 8 }
     ensures { result ≡ true → (k : ℕ) → k < 64 → kind_of (slice_index codes.now k) ≡ kind }
 {
-    let there = code_bits(codes).there;
     if kind == GAP {
         return there == 0;
     }
@@ -125,48 +129,91 @@ fn walk(
     Ok(stretch)
 }
 
-// The stretch 64 codes after code `n`.
+// The stretch 64 codes after code `n`, `there` saying by bits where these have a value.
 #[inline(always)]
 fn step_word(
     runs: &mut Vec<Run>,
     stretch: Stretch,
     codes: &[u8],
     n: usize,
+    there: u64,
     most: u64,
 ) -> Result<Stretch, TooMany>
     requires found { AreFound codes.now runs.old.items stretch n }
     requires inside { n + 64 ≤ length codes.now }
+    requires there { (k : ℕ) → k < 64 → bit_at there k ≡ (if slice_index codes.now (n + k) == 0 then 0 else 1) }
     ensures { IfOk result (λ s. AreFound codes.now runs.new.items s (n + 64)) }
 {
-    if are_all(&codes[n..], stretch.kind) {
+    if are_all(&codes[n..], there, stretch.kind) {
         return Ok(stretch);
     }
     walk(runs, stretch, codes, n, n + 64, most)
 }
 
-// The stretch at the last code.
-fn last_stretch(runs: &mut Vec<Run>, codes: &[u8], most: u64) -> Result<Stretch, TooMany>
+// Sets the levels of word `i` to those of its codes, and gives the stretch after them.
+#[inline(always)]
+fn step_levels(
+    levels: &mut LevelPlanes,
+    runs: &mut Vec<Run>,
+    stretch: Stretch,
+    codes: &[u8],
+    i: usize,
+    most: u64,
+) -> Result<Stretch, TooMany>
+    requires inside { 64 * i + 64 ≤ length codes.now }
+    requires long { length codes.now ≤ plane_samples levels.old }
+    requires even { length levels.old.low ≡ length levels.old.high }
+    requires set { AreSet codes.now levels.old (64 * i) }
+    requires found { AreFound codes.now runs.old.items stretch (64 * i) }
+    ensures len { AreAsLong levels.old levels.new }
+    ensures set { AreSet codes.now levels.new (64 * (i + 1)) }
+    ensures found { IfOk result (λ s. AreFound codes.now runs.new.items s (64 * (i + 1))) }
+{
+    let there = set_word(levels, codes, i);
+    step_word(runs, stretch, codes, 64 * i, there, most)
+}
+
+// Sets the levels to those of the codes, and gives the stretch at the last one.
+fn last_stretch(
+    levels: &mut LevelPlanes,
+    runs: &mut Vec<Run>,
+    codes: &[u8],
+    most: u64,
+) -> Result<Stretch, TooMany>
     requires scan { length codes.now ≤ 2 ^ 40 }
-    ensures { IfOk result (λ s. AreFound codes.now runs.new.items s (length codes.now)) }
+    requires long { length codes.now ≤ plane_samples levels.old }
+    requires even { length levels.old.low ≡ length levels.old.high }
+    ensures len { AreAsLong levels.old levels.new }
+    ensures set { OnOk result (AreSet codes.now levels.new (length codes.now)) }
+    ensures found { IfOk result (λ s. AreFound codes.now runs.new.items s (length codes.now)) }
 {
     runs.clear();
     let whole = codes.len() / 64;
     let mut stretch = Stretch { from: 0, kind: GAP };
     for i in 0..whole {
-        stretch = step_word(runs, stretch, codes, 64 * i, most)?;
+        stretch = step_levels(levels, runs, stretch, codes, i, most)?;
     }
+    set_last(levels, codes);
     walk(runs, stretch, codes, 64 * whole, codes.len(), most)
 }
 
-// Sets the runs to those of the codes.
-pub(crate) fn find_runs(runs: &mut Vec<Run>, codes: &[u8]) -> Result<(), TooMany>
+// Sets the levels and the runs to those of the codes.
+pub(crate) fn find_runs(
+    levels: &mut LevelPlanes,
+    runs: &mut Vec<Run>,
+    codes: &[u8],
+) -> Result<(), TooMany>
     requires scan { length codes.now ≤ 2 ^ 40 }
+    requires long { length codes.now ≤ plane_samples levels.old }
+    requires even { length levels.old.low ≡ length levels.old.high }
+    ensures len { AreAsLong levels.old levels.new }
+    ensures set { OnOk result (AreSet codes.now levels.new (length codes.now)) }
     ensures runs { OnOk result (AreRuns runs.new.items (length codes.now)) }
     ensures directions { OnOk result ((k : ℕ) → direction_at runs.new.items k ≡ code_direction (slice_index codes.now k)) }
 {
     let size = codes.len() as u64;
     let most = most_runs(size);
-    let stretch = last_stretch(runs, codes, most)?;
+    let stretch = last_stretch(levels, runs, codes, most)?;
     close(runs, stretch, size, most)?;
     Ok(())
 }

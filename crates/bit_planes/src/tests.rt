@@ -244,12 +244,74 @@ fn runs_by_hand(rt: HostRuntime) -> Result<(), Fail> {
     Ok(())
 }
 
+// Words are set beside runs, and show what these do.
+#[test]
+fn words_beside_runs(rt: HostRuntime) -> Result<(), Fail> {
+    let mut codes = [0; 1300];
+    for (n, code) in codes.iter_mut().enumerate() {
+        *code = gapped_code(n);
+    }
+    let mut planes = Planes::room(rt.alloc(), 7, 1307, false)?;
+    planes.fill(&codes);
+    let high = planes.word_at(3, 690);
+    planes.fill_words(&codes);
+    assert!(rt; planes.levels().is_some());
+    assert_eq!(rt; planes.word_at(3, 690), high);
+    for i in 0..1500_u16 {
+        assert!(rt; is_filled(&codes, &planes, 7, i64::from(i) - 80));
+    }
+    Ok(())
+}
+
+// A code that turns at each sample.
+fn turning_code(n: usize) -> u8 {
+    code_of(n / 2, (n % 8) as u8)
+}
+
+// The room of planes is used again, for as many words and for fewer.
+#[test]
+fn room_again(rt: HostRuntime) -> Result<(), Fail> {
+    let mut codes = [0; 1300];
+    for (n, code) in codes.iter_mut().enumerate() {
+        *code = gapped_code(n);
+    }
+    let mut planes = Planes::room(rt.alloc(), 7, 1307, true)?;
+    planes.fill(&codes);
+    planes.fill_words(&codes);
+    let mut planes = planes.again(rt.alloc(), 100, 1390, true)?;
+    for i in 0..1500_u16 {
+        assert_eq!(rt; planes.at(i64::from(i)), Word::NONE);
+    }
+    let mut turning = [0; 1290];
+    for (n, code) in turning.iter_mut().enumerate() {
+        *code = turning_code(n);
+    }
+    planes.fill(&turning);
+    assert!(rt; planes.levels().is_none());
+    planes.fill_words(&turning);
+    for i in 0..1500_u16 {
+        assert!(rt; is_filled(&turning, &planes, 100, i64::from(i)));
+    }
+    let mut planes = planes.again(rt.alloc(), 0, 1300, true)?;
+    planes.fill(&codes);
+    assert!(rt; planes.levels().is_some());
+    for i in 0..1500_u16 {
+        assert!(rt; is_filled(&codes, &planes, 0, i64::from(i) - 80));
+    }
+    let mut planes = planes.again(rt.alloc(), 3, 73, false)?;
+    planes.fill(&codes[660..730]);
+    for i in 0..200_u16 {
+        assert!(rt; is_filled(&codes[660..730], &planes, 3, i64::from(i) - 80));
+    }
+    Ok(())
+}
+
 // Codes that turn at each sample are held by words alone.
 #[test]
 fn no_runs_of_turning_codes(rt: HostRuntime) -> Result<(), Fail> {
     let mut codes = [0; 1300];
     for (n, code) in codes.iter_mut().enumerate() {
-        *code = code_of(n / 2, (n % 8) as u8);
+        *code = turning_code(n);
     }
     let mut planes = Planes::room(rt.alloc(), 0, 1300, false)?;
     assert!(rt; planes.levels().is_some());

@@ -1,5 +1,5 @@
 //! The levels of the first station of a pair, by planes in words.
-ghost use Rattle.std.specs.Prelude.{◌≡◌, ◌<◌, ◌≤◌, ◌^◌, length, replicate, slice_set, IfOk};
+ghost use Rattle.std.specs.Prelude.{◌≡◌, ◌<◌, ◌≤◌, ◌^◌, length, replicate, slice_index, slice_set, IfOk};
 ghost use Rattle.std.specs.Int.{div_ceil};
 ghost use Rattle.level_sums.specs.Held.{plane_samples};
 
@@ -49,6 +49,15 @@ impl LevelPlanes {
         self.high[at] = high;
         self.low[at] = low;
         self.unit[at] = high ^ low;
+    }
+
+    /// The high bits of the codes of word `at`, and the low ones.
+    pub fn bits(&self, at: usize) -> (u64, u64)
+        requires { at < length self.now.high }
+        ensures high { result.0 ≡ slice_index self.now.high at }
+        ensures low { result.1 ≡ slice_index self.now.low at }
+    {
+        (self.high[at], self.low[at])
     }
 
     /// How many samples there are.

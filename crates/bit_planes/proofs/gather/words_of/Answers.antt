@@ -21,6 +21,7 @@ loop-i-preserved g c =
     let few : c.min-rest.result ≡ min (a.size - 64 * i) 64 = search rules in
     record {
       len = search rules;
+      room = omega (arith, old.room, c.in_ok-push.ensures.capacity);
       values = λ k h m.
           ap (λ ws. listed_value ws k) more
           ∙ listed_value-more value words word i a.size c.min-rest.result old.len few old.values

@@ -3,5 +3,5 @@ use Rattle.bit_planes.proofs.stretches.find_runs.Goals as goal
 
 pub returns-clause-directions : goal.returns-clause-directions
 returns-clause-directions c =
-    directions-all c.args.codes.now c.last_stretch.new.runs.items c.close.new.runs.items c.in_ok-stretch.stretch c.in_ok-stretch.ensures
+    directions-all c.args.codes.now c.last_stretch.new.runs.items c.close.new.runs.items c.in_ok-stretch.stretch c.in_ok-stretch.ensures.found
     c.in_ok-close.ensures.runs c.in_ok-close.ensures.before c.in_ok-close.ensures.here

@@ -1,14 +1,13 @@
-use Rattle.std.proofs.Common.{◌+◌, pos, ◌+ℤ◌, sym, ap, refl, ◌∙◌}
-use Rattle.bit_planes.specs.Planes.{PlanesFields, listed_value, plane_value, plane_bit}
-use Rattle.bit_planes.proofs.ValueLemmas.{plane_value-listed}
+use Rattle.std.proofs.Common.{rules, FitsSigned, ◌<◌, ◌≡◌, sym, ap, arith, ◌∙◌}
+use Rattle.std.specs.Int.{w64}
+use Rattle.std.proofs.lemmas.Int.{ints}
+use Rattle.bit_planes.specs.Planes.{PlanesFields, plane_value, plane_bit}
 use Rattle.bit_planes.proofs.planes.Planes.word_at.Goals as goal
 
 pub returns : goal.returns
 returns c k h =
-    let p : PlanesFields = record { from = c.self.inside.from; to = c.self.inside.to; words = c.self.inside.words.items; levels = c.self.inside.levels } in
-    let at = c.args.bit + k in
-    c.shown_bits.ensures k h
-    ∙ ap (plane_bit c.args.plane)
-    (c.word_from.ensures k h ∙ ap (λ words. listed_value words at) c.deref.ensures.value
-    ∙ sym (plane_value-listed p c.self.invariant (p.from +ℤ pos at) at refl)
-    ∙ ap (λ p. plane_value p (p.from +ℤ pos at)) c.self.view_is)
+    let fits : FitsSigned w64 c.self.inside.from = search rules in
+    let far : FitsSigned w64 c.self.inside.to = search rules in
+    let from : c.args.self.now.from ≡ c.self.inside.from = ap (λ (q : PlanesFields). q.from) (sym c.self.view_is) in
+    let inside : c.args.bit < c.samples_between.result = c.if-bit-samples_between.false in
+    c.shown_bits.ensures k h ∙ ap (plane_bit c.args.plane) (c.at.ensures k h ∙ ap (plane_value c.args.self.now) (omega (arith, ints, from, inside, c.samples_between.ensures, c.self.invariant.0.start, c.self.invariant.0.end)))

@@ -1,0 +1,34 @@
+use Rattle.std.proofs.Common.{◌*◌, ◌/◌, ◌<◌, ℕ, List, length, length-set, ap, arith, ◌∙◌}
+use Rattle.value_codes.specs.Codes.{high_of, low_of}
+use Rattle.level_sums.specs.Levels.{plane_bit}
+use Rattle.bit_planes.proofs.CodeLemmas.{get_or-rest}
+use Rattle.bit_planes.proofs.LevelLemmas.{plane_bit-filled}
+use Rattle.bit_planes.proofs.levels.set_last.Goals as goal
+
+pub returns-then-whole-codes-clause-len : goal.returns-then-whole-codes-clause-len
+returns-then-whole-codes-clause-len c =
+    let levels = c.args.levels.now in
+    let i = length c.args.codes.now / 64 in
+    let bits = c.code_bits-bits.result in
+    record {
+      high = ap length c.set.ensures.high ∙ length-set levels.high i bits.high;
+      low = ap length c.set.ensures.low ∙ length-set levels.low i bits.low;
+    }
+
+pub returns-then-whole-codes-clause-set : goal.returns-then-whole-codes-clause-set
+returns-then-whole-codes-clause-set c =
+    let codes = c.args.codes.now in
+    let i = length codes / 64 in
+    let levels = c.args.levels.now in
+    let bits = c.code_bits-bits in
+    let inside : i < length levels.high = omega (arith, c.requires.long) in
+    record {
+      high = λ k h.
+          ap (λ (l : List ℕ). plane_bit l k) c.set.ensures.high
+          ∙ plane_bit-filled high_of levels.high codes c.last_codes.result i bits.result.high inside c.requires.set.high bits.ensures.high
+          (λ j. c.last_codes.ensures j ∙ get_or-rest codes (64 * i) j) k (omega arith);
+      low = λ k h.
+          ap (λ (l : List ℕ). plane_bit l k) c.set.ensures.low
+          ∙ plane_bit-filled low_of levels.low codes c.last_codes.result i bits.result.low (omega (arith, inside, c.requires.even)) c.requires.set.low
+          bits.ensures.low (λ j. c.last_codes.ensures j ∙ get_or-rest codes (64 * i) j) k (omega arith);
+    }

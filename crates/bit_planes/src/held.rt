@@ -1,0 +1,74 @@
+//! Words of 64 values by levels and runs.
+ghost use Rattle.std.specs.Prelude.{◌≡◌, ◌<◌, ◌≤◌, ◌+◌, ◌-◌, ◌*◌, ◌^◌, ℕ, pos, ◌+ℤ◌, unsigned_abs, IfSome};
+ghost use Rattle.value_codes.specs.Codes.{value_of};
+ghost use Rattle.level_sums.specs.Levels.{plane_bit};
+ghost use Rattle.level_sums.specs.Held.{plane_samples};
+ghost use Rattle.bit_planes.specs.Word.{word_value};
+ghost use Rattle.bit_planes.specs.Runs.{AreRuns, direction_at, run_value, place_value};
+
+use crate::turned::coded_word;
+use crate::{LevelRuns, Run, Word};
+use level_sums::LevelPlanes;
+
+// The direction at place `k`, none where there is no value.
+fn direction_at(runs: &[Run], k: u64) -> Option<u8>
+    ensures value { result ≡ direction_at runs.now k }
+    ensures small { IfSome result (λ d. (size : ℕ) → AreRuns runs.now size → (d < 8) × (k < size)) }
+{
+    for i in 0..runs.len() {
+        let run = runs[i];
+        if run.from <= k && k < run.to {
+            return Some(run.direction);
+        }
+    }
+    None
+}
+
+// A code of the level at place `k`, the lowest of its four bits being 0.
+fn level_code(levels: &LevelPlanes, k: u64) -> u8
+    requires { k < plane_samples levels.now }
+    ensures { result ≡ 32 * plane_bit levels.now.high k + 16 * plane_bit levels.now.low k }
+{
+    let (high, low) = levels.bits((k / 64) as usize);
+    let shift = k % 64;
+    32 * (high >> shift & 1) as u8 + 16 * (low >> shift & 1) as u8
+}
+
+// A code of the value at place `k`.
+fn held_code(held: &LevelRuns, k: u64) -> u8
+    requires { AreRuns held.now.runs.items (plane_samples held.now.levels) }
+    ensures { value_of result ≡ run_value held.now k }
+{
+    match direction_at(&held.runs, k) {
+        Some(direction) => level_code(&held.levels, k) + 2 * direction + 1,
+        None => 0,
+    }
+}
+
+// A code of the value at a place that may be before place 0.
+fn place_code(held: &LevelRuns, place: i64) -> u8
+    requires { AreRuns held.now.runs.items (plane_samples held.now.levels) }
+    ensures { value_of result ≡ place_value held.now place }
+{
+    if place < 0 {
+        return 0;
+    }
+    held_code(held, place as u64)
+}
+
+// The 64 values from place `first` on, none before place 0.
+#[inline(never)]
+pub(crate) fn held_word(held: &LevelRuns, first: i64) -> Word
+    requires first { unsigned_abs first < 2 ^ 63 - 64 }
+    requires runs { AreRuns held.now.runs.items (plane_samples held.now.levels) }
+    ensures { (k : ℕ) → k < 64 → word_value result k ≡ place_value held.now (first +ℤ pos k) }
+{
+    if held.runs.is_empty() {
+        return Word::NONE;
+    }
+    let mut codes = [0; 64];
+    for k in 0..64_usize {
+        codes[k] = place_code(held, first + k as i64);
+    }
+    coded_word(&codes)
+}

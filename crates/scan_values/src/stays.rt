@@ -14,9 +14,11 @@ use job_plan::{Plan, ScanPlan, StayPlan};
 use station_stream::{Recording, Stream, StreamFault};
 use std::alloc::Global;
 
-/// The values of a station's part of a scan at the samples from `from` up to, not including, `to`.
+/// The values of a station's part of a scan at the samples from `from` up to, not including, `to`, in the room of spare
+/// lists.
 pub(crate) fn stay_stream<F: Shelf>(
     alloc: Global,
+    spare: &mut Vec<Vec<u8>>,
     shelf: &mut F,
     plan: &Plan,
     scan: &ScanPlan,
@@ -44,8 +46,9 @@ pub(crate) fn stay_stream<F: Shelf>(
     let recording = &recordings[number];
     let chans = chans_of(alloc, station, stay)?;
     let part = part_of(plan, scan, station, stay, recording, &chans);
-    let stream = Stream::load(
+    let stream = Stream::load_in(
         alloc,
+        spare,
         shelf,
         &recording.index,
         &part,

@@ -1,8 +1,7 @@
 -- The bytes of a station's channels, one channel after the other.
-use Rattle.std.proofs.Common.{◌≡◌, ◌≢◌, ◌∙◌, sym, ap, subst, ℕ, ◌+◌, ◌≤◌, ◌<◌, ⊎_elim, List, [], length, take, drop, ◌++◌, get_or, set, map, min, max, Option, Some, None, option_and_then, Vec, Global, below_more, arith}
+use Rattle.std.proofs.Common.{◌≡◌, ◌≢◌, ◌∙◌, sym, ap, subst, ℕ, ◌+◌, ◌≤◌, ◌<◌, List, [], ◌∷◌, length, take, drop, ◌++◌, get_or, set, map, min, max, Option, Some, None, option_and_then, Vec, Global, below_more, arith}
 use Rattle.std.specs.Vec.{with_items}
-use Rattle.std.proofs.lemmas.Bool.{cases_eq}
-use Rattle.std.proofs.lemmas.List.{length-map, length-set, take-append-le, take_all, map-set, get_or-set_same, get_or-set_other}
+use Rattle.std.proofs.lemmas.List.{length-set, take-append-le, take_all, get_or-map, get_or-set_same, get_or-set_other}
 use Rattle.std.proofs.lemmas.Option.{slice_get-get_or}
 use Rattle.dev_traits.specs.Told.{WhereTold}
 use Rattle.corr_model.specs.Cell.{Value}
@@ -11,9 +10,11 @@ use Rattle.station_stream.specs.declared.chan.StationChan.{StationChan}
 use Rattle.station_stream.specs.declared.part.StationPart.{StationPart}
 use Rattle.station_stream.specs.declared.window.Window.{Window}
 use Rattle.station_stream.specs.Part.{chan_at}
-use Rattle.station_stream.specs.Filled.{AreFilled, AllFilled, AllZeros}
+use Rattle.value_codes.specs.Codes.{value_of}
+use Rattle.station_stream.specs.Filled.{AreFilled, AllFilled, AllBlank, AllValues}
 use Rattle.station_stream.specs.Stream.{AreWhole}
-use Rattle.station_stream.proofs.FillLemmas.{AreFilled-zeros}
+use Rattle.station_stream.specs.Window.{AreValues}
+use Rattle.station_stream.proofs.FillLemmas.{AreFilled-blank, AreValues-filled}
 
 -- the channel at a place that there is
 pub chan_at-index : (chans : List (Option StationChan)) (i : ℕ) → i < length chans → chan_at chans i ≡ get_or chans i None
@@ -38,16 +39,6 @@ left-next Q chans i v old = λ k d behind inside.
     let ne : k ≢ i = omega (arith, behind) in
     subst (λ (x : Vec ℕ Global). Q k x.items) (sym (get_or-set_other chans i k v d ne)) (old k d (omega (arith, behind)) (omega (arith, inside, length-set chans i v)))
 
--- the same of what the lists stand for
-pub mapped-next : (f : Vec ℕ Global → List Value) (Q : ℕ → List Value → Type 0) (chans : List (Vec ℕ Global)) (i : ℕ) (v : Vec ℕ Global) → i < length chans
-    → ((k : ℕ) → k < i → Q k (get_or (map f chans) k [])) → Q i (f v)
-    → (k : ℕ) → k < i + 1 → Q k (get_or (map f (set chans i v)) k [])
-mapped-next f Q chans i v below old new =
-    below_more (λ j. Q j (get_or (map f (set chans i v)) j [])) i
-    (λ j under. let ne : j ≢ i = omega (arith, under) in
-    subst (Q j) (sym (ap (λ (xs : List (List Value)). get_or xs j []) (map-set f chans i v) ∙ get_or-set_other (map f chans) i j (f v) [] ne)) (old j under))
-    (subst (Q i) (sym (ap (λ (xs : List (List Value)). get_or xs i []) (map-set f chans i v) ∙ get_or-set_same (map f chans) i (f v) [] (omega (arith, below, length-map chans f)))) new)
-
 -- what is told of each place is told of all
 pub WhereTold-each : {A : Type 0} (told : Option A) (Q : ℕ → Type 0) (P : A → ℕ → Type 0)
     → ((k : ℕ) → Q k → WhereTold told (λ t. P t k)) → WhereTold told (λ t. (k : ℕ) → Q k → P t k)
@@ -57,10 +48,10 @@ WhereTold-each (Some t) Q P each = each
 -- ---- the bytes of a window
 
 -- where no byte is filled in yet
-pub AllFilled-zeros : (told : Option Shelved) (part : StationPart) (w : Window) (upto : ℕ) (chans : List (Vec ℕ Global))
-    → upto ≡ min (max part.from w.from) (w.from + w.count) → AllZeros part w.count chans → AllFilled told part w upto chans
-AllFilled-zeros told part w upto chans e zeros = λ i d h.
-    AreFilled-zeros told part (chan_at part.chans.now i) w upto (get_or chans i d).items e (zeros i d h)
+pub AllFilled-blank : (told : Option Shelved) (part : StationPart) (w : Window) (upto : ℕ) (chans : List (Vec ℕ Global))
+    → upto ≡ min (max part.from w.from) (w.from + w.count) → AllBlank part w chans → AllFilled told part w upto chans
+AllFilled-blank told part w upto chans e blank = λ i d h.
+    AreFilled-blank told part (chan_at part.chans.now i) w upto (get_or chans i d).items e (blank i d h)
 
 -- the same bytes told by other terms
 pub AreFilled-as : (told told' : Option Shelved) (part : StationPart) (chan chan' : Option StationChan) (w : Window) (upto upto' : ℕ) (codes codes' : List ℕ)
@@ -86,7 +77,7 @@ with_items-kept v codes same = take-kept v.items codes v.len v.ok.0 same
 whole-filled : (told : Option Shelved) (part : StationPart) (chan : Option StationChan) (w : Window) (upto : ℕ) (codes : List ℕ)
     → AreFilled told part chan w upto codes → length codes ≢ 0 → length codes ≡ w.count
 whole-filled told part None w upto codes filled some = absurd (some (ap length filled))
-whole-filled told part (Some chan) w upto codes filled some = filled.long
+whole-filled told part (Some chan) w upto codes filled some = filled.blank.long
 
 -- and those of each
 pub AreWhole-filled : (told : Option Shelved) (part : StationPart) (w : Window) (upto : ℕ) (chans : List (Vec ℕ Global))
@@ -94,15 +85,20 @@ pub AreWhole-filled : (told : Option Shelved) (part : StationPart) (w : Window) 
 AreWhole-filled told part w upto chans filled = λ i d h.
     whole-filled told part (chan_at part.chans.now i) w upto (get_or chans i d).items (filled i d h)
 
--- as many bytes in one list's stead
-pub AreWhole-set : (count : ℕ) (chans : List (Vec ℕ Global)) (i : ℕ) (v d : Vec ℕ Global) → i < length chans
-    → length v.items ≡ length (get_or chans i d).items → AreWhole count chans → AreWhole count (set chans i v)
-AreWhole-set count chans i v d inside same whole = λ k e h.
-    let below : k < length chans = omega (arith, h, length-set chans i v) in
-    ⊎_elim
-    (λ (here : k ≡ i).
-    subst (λ (x : Vec ℕ Global). length x.items ≢ 0 → length x.items ≡ count) (sym (ap (λ (j : ℕ). get_or (set chans i v) j e) here ∙ get_or-set_same chans i v e inside))
-    (subst (λ (n : ℕ). n ≢ 0 → n ≡ count) (sym same) (whole i d inside)))
-    (λ (other : k ≢ i).
-    subst (λ (x : Vec ℕ Global). length x.items ≢ 0 → length x.items ≡ count) (sym (get_or-set_other chans i k v e other)) (whole k e below))
-    (cases_eq k i)
+-- ---- the values of each channel that is filled up to the part's end
+
+item_of : (chans : List (Vec ℕ Global)) (i : ℕ) → i < length chans → Vec ℕ Global
+item_of [] i h = absurd (omega (arith, h))
+item_of (codes ∷ _) i h = codes
+
+pub AllValues-filled : (told : Option Shelved) (part : StationPart) (w : Window) (chans : List (Vec ℕ Global))
+    → length chans ≡ length part.chans.now → AllFilled told part w part.to chans → WhereTold told (λ t. AllValues t part w.from w.count chans)
+AllValues-filled told part w chans each filled =
+    WhereTold-each told (λ i. i < length part.chans.now)
+    (λ t i. AreValues t part (chan_at part.chans.now i) w.from w.count (get_or (map (λ codes. map value_of codes.items) chans) i []))
+    (λ i h.
+    let there : i < length chans = omega (arith, each, h) in
+    let d : Vec ℕ Global = item_of chans i there in
+    subst (λ (values : List Value). WhereTold told (λ t. AreValues t part (chan_at part.chans.now i) w.from w.count values))
+    (sym (get_or-map (λ (codes : Vec ℕ Global). map value_of codes.items) chans i d [] there))
+    (AreValues-filled told part (chan_at part.chans.now i) w (get_or chans i d).items (filled i d there)))

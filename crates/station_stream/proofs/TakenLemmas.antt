@@ -34,6 +34,16 @@ value_of-turned code sector (Some level) some sixteen taken =
     let sum : (code + sector) % 256 ≡ 1 + 16 * taken.0 + sector = omega (arith, four, is, sixteen) in
     ap value_of sum ∙ value_of-code taken.0 sector four sixteen ∙ ap (λ (x : ℤ). Some (turned x sector)) (sym taken.1.1.1)
 
+-- the sector 0 is in it already
+pub value_of-taken : (code sector : ℕ) (level : Option ℤ) → sector ≡ 0 → IsTaken code level
+    → value_of code ≡ option_map (λ x. turned x sector) level
+value_of-taken code sector None zero taken = ap value_of taken
+value_of-taken code sector (Some level) zero taken =
+    let four : taken.0 < 4 = taken.1.0 in
+    let is : code ≡ 1 + 16 * taken.0 = taken.1.1.0 in
+    let sum : code ≡ 1 + 16 * taken.0 + sector = omega (arith, is, zero) in
+    ap value_of sum ∙ value_of-code taken.0 sector four (omega (arith, zero)) ∙ ap (λ (x : ℤ). Some (turned x sector)) (sym taken.1.1.1)
+
 -- ---- levels of the frames
 
 -- sample k of those from `next` on lies in the frame in which that one does

@@ -1,30 +1,31 @@
 -- The bytes of a window while its sweeps are filled in.
-use Rattle.std.specs.Prelude.{◌≡◌, ℕ, ◌+◌, ◌≤◌, ◌<◌, List, [], length, map, Option, Some, None, replicate, slice_index, slice_index_or, Vec}
+use Rattle.std.specs.Prelude.{◌≡◌, ℕ, ◌+◌, ◌≤◌, ◌<◌, List, [], length, map, Option, Some, None, slice_index, slice_index_or, Vec}
 use Rattle.std.specs.Global.{Global}
-use Rattle.std.specs.Option.{ForSome}
 use Rattle.dev_traits.specs.Told.{WhereTold}
 use Rattle.frame_index.specs.Recording.{Shelved}
 use Rattle.station_stream.specs.declared.chan.StationChan.{StationChan}
 use Rattle.station_stream.specs.declared.part.StationPart.{StationPart}
 use Rattle.station_stream.specs.declared.window.Window.{Window}
-use Rattle.station_stream.specs.Part.{chan_at, chan_sample}
-use Rattle.station_stream.specs.Sweep.{recorded_at}
+use Rattle.station_stream.specs.Part.{chan_at, chan_value}
 use Rattle.value_codes.specs.Codes.{value_of}
-use Rattle.value_codes.specs.Taken.{IsTaken}
 use Rattle.station_stream.specs.Window.{AreValues}
 
--- the bytes at the part's samples before `upto` are the levels of a channel there
-abbrev pub AreTaken : Shelved → StationPart → StationChan → ℕ → ℕ → List ℕ → Type 0
-AreTaken told part chan from upto codes =
+-- the bytes at the part's samples before `upto` are those of a channel's values there
+abbrev pub AreValuesBefore : Shelved → StationPart → StationChan → ℕ → ℕ → List ℕ → Type 0
+AreValuesBefore told part chan from upto codes =
     (k : ℕ) → k < length codes → part.from ≤ from + k → from + k < upto
-    → IsTaken (slice_index codes k) (chan_sample told part chan (recorded_at part.track (from + k)))
+    → value_of (slice_index codes k) ≡ chan_value told part chan (from + k)
 
--- and all others are 0
-pub record IsFilled (told : Option Shelved) (part : StationPart) (chan : StationChan) (w : Window) (upto : ℕ) (codes : List ℕ) : Type 0 where
+-- a byte for each sample of the window, 0 at those outside the part
+pub record IsBlank (part : StationPart) (w : Window) (codes : List ℕ) : Type 0 where
   pub long : length codes ≡ w.count
-  pub taken : WhereTold told (λ told. AreTaken told part chan w.from upto codes)
   pub before : (k : ℕ) → w.from + k < part.from → slice_index codes k ≡ 0
-  pub behind : (k : ℕ) → upto ≤ w.from + k → slice_index codes k ≡ 0
+  pub behind : (k : ℕ) → part.to ≤ w.from + k → slice_index codes k ≡ 0
+
+-- those before `upto` are filled in
+pub record IsFilled (told : Option Shelved) (part : StationPart) (chan : StationChan) (w : Window) (upto : ℕ) (codes : List ℕ) : Type 0 where
+  pub blank : IsBlank part w codes
+  pub values : WhereTold told (λ told. AreValuesBefore told part chan w.from upto codes)
 
 -- no bytes of a channel that the station lacks
 abbrev pub AreFilled : Option Shelved → StationPart → Option StationChan → Window → ℕ → List ℕ → Type 0
@@ -36,19 +37,15 @@ abbrev pub AllFilled : Option Shelved → StationPart → Window → ℕ → Lis
 AllFilled told part w upto chans =
     (i : ℕ) (d : Vec ℕ Global) → i < length chans → AreFilled told part (chan_at part.chans.now i) w upto (slice_index_or chans i d).items
 
--- a 0 for each sample of the window
-abbrev pub AreZeros : Option StationChan → ℕ → List ℕ → Type 0
-AreZeros None count codes = codes ≡ []
-AreZeros (Some chan) count codes = codes ≡ replicate count 0
+-- the bytes of a channel of which none is filled in yet
+abbrev pub AreBlank : StationPart → Option StationChan → Window → List ℕ → Type 0
+AreBlank part None w codes = codes ≡ []
+AreBlank part (Some chan) w codes = IsBlank part w codes
 
-abbrev pub AllZeros : StationPart → ℕ → List (Vec ℕ Global) → Type 0
-AllZeros part count chans =
-    (i : ℕ) (d : Vec ℕ Global) → i < length chans → AreZeros (chan_at part.chans.now i) count (slice_index_or chans i d).items
-
--- a byte for each sample of the window
-abbrev pub AllLong : StationPart → ℕ → List (Vec ℕ Global) → Type 0
-AllLong part count chans =
-    (i : ℕ) (d : Vec ℕ Global) → i < length chans → ForSome (chan_at part.chans.now i) (λ _. length (slice_index_or chans i d).items ≡ count)
+-- those of each channel
+abbrev pub AllBlank : StationPart → Window → List (Vec ℕ Global) → Type 0
+AllBlank part w chans =
+    (i : ℕ) (d : Vec ℕ Global) → i < length chans → AreBlank part (chan_at part.chans.now i) w (slice_index_or chans i d).items
 
 -- the values of each channel
 abbrev pub AllValues : Shelved → StationPart → ℕ → ℕ → List (Vec ℕ Global) → Type 0

@@ -2,6 +2,11 @@
 use Rattle.std.specs.Prelude.{◌≡◌, ℕ, ◌*◌, ◌/◌, ◌%◌, ◌^◌, ◌<◌, ℤ, pos, ◌+ℤ◌, ◌-ℤ◌, ◌≤ℤ◌, unsigned_abs, false, List, length, take, drop, Option, Some, None, slice_index_or, if◌then◌else◌}
 use Rattle.vdif_frame.specs.Shape.{ShapeFields, head_bytes, chans_of, samples_per_frame}
 use Rattle.sample_unpack.specs.Level.{level_at}
+use Rattle.corr_model.specs.Cell.{Value}
+use Rattle.corr_model.specs.Rotated.{value_at}
+use Rattle.delay_track.specs.Track.{model_of}
+use Rattle.station_stream.specs.declared.chan.StationChan.{StationChan}
+use Rattle.station_stream.specs.declared.part.StationPart.{StationPart}
 use Rattle.station_stream.specs.declared.thread_frames.ThreadFrames.{ThreadFrames}
 
 -- the bytes of frame i
@@ -19,6 +24,10 @@ level_in_frame shape f index i k =
 abbrev pub level_in_frames : ShapeFields → ThreadFrames → ℕ → ℤ → Option ℤ
 level_in_frames shape f index p =
     level_in_frame shape f index (unsigned_abs (p -ℤ f.start) / samples_per_frame shape) (unsigned_abs (p -ℤ f.start) % samples_per_frame shape)
+
+-- the value of a channel at sample n of the scan
+abbrev pub value_in_frames : StationPart → StationChan → ThreadFrames → ℕ → Value
+value_in_frames p c f n = value_at (level_in_frames p.shape f c.index) (model_of p.track) (record { hertz = c.hertz; upper = c.upper }) n
 
 -- they hold the samples from `first` up to, not including, `last`
 pub record Reach (shape : ShapeFields) (first last : ℤ) (f : ThreadFrames) : Type 0 where

@@ -3,7 +3,8 @@
 //! for delays and sectors, on `value_codes` for levels and values in bytes, and on a `Shelf` for the files.
 //!
 //! A stream keeps one byte for a sample, a code. It is loaded sweep by sweep, a sweep being samples whose recorded ones lie side by
-//! side: a window's slots of a thread are read one behind the other, once, for all its channels. Where the shelf tells its
+//! side: a window's slots of a thread are read one behind the other, once, for all its channels. The bytes of a stream that is done with
+//! are room for those of another. Where the shelf tells its
 //! content, the values are those of the definition in `specs/Part`; a fault of a read comes only where the shelf had one.
 //! (Thompson, Moran and Swenson, chapters 8 and 9.)
 #![tactic(auto)]
@@ -13,8 +14,10 @@ mod fault;
 mod frame_run;
 mod levels;
 mod part;
+mod piece;
 mod place;
 mod recording;
+mod room;
 mod samples;
 mod slot;
 mod stream;

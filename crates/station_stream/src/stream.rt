@@ -7,6 +7,7 @@ ghost use Rattle.station_stream.specs.Stream.{AreLevelled, AreWhole, stream_valu
 ghost use Rattle.value_codes.specs.Codes.{value_of};
 ghost use Rattle.station_stream.specs.Faults.{CountsReads};
 
+use crate::room::leave_room;
 use crate::window::channels;
 use crate::{StationPart, StreamFault};
 use dev_traits::Shelf;
@@ -61,9 +62,39 @@ impl Stream {
             → stream_value s chan n ≡ part_value told part.now chan n)) }
         ensures counts { CountsReads (F.faults shelf.old) (F.faults shelf.new) result }
     {
+        Stream::load_in(alloc, &mut Vec::new(alloc), shelf, index, part, from, to)
+    }
+
+    /// The same, in the room of spare lists. `spare` keeps those that are not needed.
+    pub fn load_in<F: Shelf>(
+        alloc: Global,
+        spare: &mut Vec<Vec<u8>>,
+        shelf: &mut F,
+        index: &Index,
+        part: &StationPart<'_>,
+        from: i64,
+        to: i64,
+    ) -> Result<Stream, StreamFault>
+        requires indexed { WhereTold (F.told shelf.old) (λ told. IsIndexed told part.now index.now) }
+        requires begin { pos 0 ≤ℤ from }
+        requires order { from ≤ℤ to }
+        requires end { to ≤ℤ pos part.now.track.samples }
+        ensures same { F.told shelf.new ≡ F.told shelf.old }
+        ensures window { IfOk result (λ s. (s.from ≡ from) × ((s.to ≡ to) × (length s.values ≡ length part.now.chans.now))) }
+        ensures values { IfOk result (λ s. WhereTold (F.told shelf.old) (λ told. (chan : ℕ) (n : ℤ) → from ≤ℤ n → n <ℤ to
+            → stream_value s chan n ≡ part_value told part.now chan n)) }
+        ensures counts { CountsReads (F.faults shelf.old) (F.faults shelf.new) result }
+    {
         let count = (to - from) as usize;
-        let chans = channels(alloc, shelf, index, part, from as u64, count)?;
+        let chans = channels(alloc, spare, shelf, index, part, from as u64, count)?;
         Ok(Stream { from, to, chans })
+    }
+
+    /// Gives the room of the stream to the spare lists, from which `load_in` takes it.
+    pub fn leave(self, spare: &mut Vec<Vec<u8>>) {
+        for codes in self.chans {
+            leave_room(spare, codes);
+        }
     }
 
     /// The first sample of the window.

@@ -103,18 +103,24 @@ fn track_of<'a>(polys: &'a PolyList, clocks: &'a ClockList) -> Option<Track<'a>>
     Some(model.track())
 }
 
-// The stream of the scan, of which the station's part is the samples from `from` up to `to`.
-fn stream_of<F: Shelf>(
+// The stream of the samples of the scan from `begin` up to `end`, of which the station's part is those from `from` up to
+// `to`: in the room of spare lists where there are any to take.
+fn window_of<F: Shelf>(
     alloc: Global,
+    spare: Option<&mut Vec<Vec<u8>>>,
     shelf: &mut F,
     delay: i64,
     hertz: u64,
     from: u64,
     to: u64,
+    begin: u32,
+    end: u32,
 ) -> Result<Result<Stream, StreamFault>, Fail>
     requires frequency { hertz < 2 ^ 40 }
     requires order { from ≤ to }
     requires inside { to ≤ 64 }
+    requires window { begin ≤ end }
+    requires window_inside { end ≤ 64 }
 {
     let files = [file_of(alloc, shelf, "a.vdif")?];
     let index = Index::build(alloc, shelf, &files, &SHAPE)?;
@@ -135,7 +141,27 @@ fn stream_of<F: Shelf>(
         to,
         chans: &[Some(chan), None],
     };
-    Ok(Stream::load(alloc, shelf, &index, &part, 0, 64))
+    let (begin, end) = (i64::from(begin), i64::from(end));
+    Ok(match spare {
+        Some(spare) => Stream::load_in(alloc, spare, shelf, &index, &part, begin, end),
+        None => Stream::load(alloc, shelf, &index, &part, begin, end),
+    })
+}
+
+// The stream of the scan.
+fn stream_of<F: Shelf>(
+    alloc: Global,
+    shelf: &mut F,
+    delay: i64,
+    hertz: u64,
+    from: u64,
+    to: u64,
+) -> Result<Result<Stream, StreamFault>, Fail>
+    requires frequency { hertz < 2 ^ 40 }
+    requires order { from ≤ to }
+    requires inside { to ≤ 64 }
+{
+    window_of(alloc, None, shelf, delay, hertz, from, to, 0, 64)
 }
 
 // The stream of a recording.
@@ -203,6 +229,64 @@ fn codes_of_the_channels(rt: HostRuntime) -> Result<(), Fail> {
     codes[8..60].fill(49);
     assert_eq!(rt; codes_of(&stream, 0), Some(&codes[..]));
     assert_eq!(rt; codes_of(&stream, 1), Some(&[][..]));
+    Ok(())
+}
+
+// A window has the code 49 at the part's samples before sample `there`, and 0 at others: in room of its own, and in that of
+// spare lists, to which it leaves it.
+fn has_codes(
+    rt: &impl Abort,
+    alloc: Global,
+    spare: &mut Vec<Vec<u8>>,
+    slots: &[&[u8]],
+    there: u64,
+    from: u64,
+    to: u64,
+    begin: u32,
+    end: u32,
+) -> Result<(), Fail>
+    requires order { from ≤ to }
+    requires inside { to ≤ 64 }
+    requires window { begin ≤ end }
+    requires window_inside { end ≤ 64 }
+{
+    let mut wanted = Vec::new(alloc);
+    for n in begin..end {
+        let n = u64::from(n);
+        let code = if from <= n && n < to && n < there {
+            49u8
+        } else {
+            0
+        };
+        wanted.push(code)?;
+    }
+    let mut shelf = shelf_of(alloc, slots, Vec::new(alloc))?;
+    let plain = window_of(alloc, None, &mut shelf, 0, 0, from, to, begin, end)??;
+    let stream = window_of(alloc, Some(spare), &mut shelf, 0, 0, from, to, begin, end)??;
+    assert_eq!(rt; codes_of(&plain, 0), Some(&wanted[..]));
+    assert_eq!(rt; codes_of(&stream, 0), Some(&wanted[..]));
+    stream.leave(spare);
+    Ok(())
+}
+
+// One list takes the codes and one the frames. The windows: the part and what lies round it, a shorter one, a longer one, one
+// with a gap, one outside the part on either side, and the whole again.
+#[test]
+fn room_that_is_used_again(rt: HostRuntime) -> Result<(), Fail> {
+    let alloc = rt.alloc();
+    let (f0, f1, gap) = (frame(0, 0xFF), frame(1, 0xFF), invalid(1, 0xFF));
+    let (whole, broken) = ([&f0[..], &f1[..]], [&f0[..], &gap[..]]);
+    let mut spare = vec![in alloc; vec![in alloc; 7u8; 100]?, vec![in alloc; 7u8; 5]?]?;
+    has_codes(&rt, alloc, &mut spare, &whole, 64, 8, 60, 0, 64)?;
+    has_codes(&rt, alloc, &mut spare, &whole, 64, 8, 60, 4, 20)?;
+    has_codes(&rt, alloc, &mut spare, &whole, 64, 0, 64, 0, 64)?;
+    has_codes(&rt, alloc, &mut spare, &broken, 32, 0, 64, 0, 64)?;
+    has_codes(&rt, alloc, &mut spare, &whole, 64, 0, 64, 0, 64)?;
+    has_codes(&rt, alloc, &mut spare, &whole, 64, 0, 10, 16, 64)?;
+    has_codes(&rt, alloc, &mut spare, &whole, 64, 0, 64, 0, 64)?;
+    has_codes(&rt, alloc, &mut spare, &whole, 64, 50, 60, 0, 32)?;
+    has_codes(&rt, alloc, &mut spare, &whole, 64, 0, 64, 0, 64)?;
+    assert_eq!(rt; spare.len(), 2);
     Ok(())
 }
 

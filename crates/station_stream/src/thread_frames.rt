@@ -11,6 +11,7 @@ ghost use Rattle.station_stream.specs.Faults.{CountsReads};
 
 use crate::frame_run::read_run;
 use crate::place::{FramePlace, slot_len};
+use crate::room::take_room;
 use crate::{StationPart, StreamFault};
 use dev_traits::Shelf;
 use frame_index::Index;
@@ -26,9 +27,11 @@ pub(crate) struct ThreadFrames {
 }
 
 impl ThreadFrames {
-    /// Reads the frames of a thread in which the samples from `first` up to, not including, `last` lie, each once.
+    /// Reads the frames of a thread in which the samples from `first` up to, not including, `last` lie, each once, in the room
+    /// of a spare list.
     pub(crate) fn read<F: Shelf>(
         alloc: Global,
+        spare: &mut Vec<Vec<u8>>,
         shelf: &mut F,
         index: &Index,
         part: &StationPart<'_>,
@@ -53,7 +56,7 @@ impl ThreadFrames {
             return Err(StreamFault::Memory);
         };
         let mut there = vec![in alloc; false; count]?;
-        let mut bytes = vec![in alloc; 0u8; size]?;
+        let mut bytes = take_room(alloc, spare, size)?;
         fill(shelf, index, part, thread, start, &mut there, &mut bytes)?;
         Ok(ThreadFrames {
             start,

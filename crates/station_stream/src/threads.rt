@@ -1,4 +1,5 @@
 //! The frames of a sweep, by thread.
+use crate::room::leave_room;
 use crate::sweep::Sweep;
 use crate::thread_frames::ThreadFrames;
 use crate::{StationPart, StreamFault};
@@ -39,6 +40,7 @@ impl Threads {
     pub(crate) fn place<F: Shelf>(
         &mut self,
         alloc: Global,
+        spare: &mut Vec<Vec<u8>>,
         shelf: &mut F,
         index: &Index,
         part: &StationPart<'_>,
@@ -58,9 +60,16 @@ impl Threads {
             return Ok(i);
         }
         let (first, last) = (self.sweep.first, self.sweep.last);
-        let frames = ThreadFrames::read(alloc, shelf, index, part, thread, first, last)?;
+        let frames = ThreadFrames::read(alloc, spare, shelf, index, part, thread, first, last)?;
         self.numbers.push(thread)?;
         self.frames.push(frames)?;
         Ok(self.frames.len() - 1)
+    }
+
+    /// Gives the room of the frames to the spare lists.
+    pub(crate) fn leave(self, spare: &mut Vec<Vec<u8>>) {
+        for frames in self.frames {
+            leave_room(spare, frames.bytes);
+        }
     }
 }

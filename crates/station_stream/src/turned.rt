@@ -21,12 +21,15 @@ fn turned_code(code: u8, sector: u8) -> u8
     }
 }
 
-// Turns levels by one sector.
+// Turns levels by one sector. The sector 0 leaves them as they are.
 fn turn_codes(sector: u8, codes: &mut [u8])
     requires { sector < 16 }
     ensures { (k : ℕ) (level : Option ℤ) → k < length codes.old → IsTaken (slice_index codes.old k) level
         → value_of (slice_index codes.new k) ≡ option_map (λ l. turned l sector) level }
 {
+    if sector == 0 {
+        return;
+    }
     for code in codes.iter_mut() {
         *code = turned_code(*code, sector);
     }

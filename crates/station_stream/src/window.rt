@@ -1,23 +1,21 @@
 //! The values of a station's channels in a window of a scan.
-ghost use Rattle.std.specs.Prelude.{◌≡◌, ◌+◌, ◌<◌, ◌≤◌, ◌^◌, ℕ, Option, [], IfOk, OnOk, length, map, min, max, slice_index, slice_index_or};
+ghost use Rattle.std.specs.Prelude.{◌≡◌, ◌+◌, ◌<◌, ◌≤◌, ◌^◌, ℕ, [], IfOk, OnOk, length, map, min, max, slice_index, slice_index_or};
 ghost use Rattle.std.specs.Option.{ForSome};
 ghost use Rattle.dev_traits.specs.Told.{WhereTold};
-ghost use Rattle.frame_index.specs.Recording.{Shelved};
 ghost use Rattle.station_stream.specs.Ranges.{IsChanOf};
-ghost use Rattle.station_stream.specs.Part.{IsIndexed, chan_at, chan_sample};
+ghost use Rattle.station_stream.specs.Part.{IsIndexed, chan_at, chan_value};
 ghost use Rattle.value_codes.specs.Codes.{value_of};
-ghost use Rattle.station_stream.specs.Sweep.{recorded_at, LieIn};
-ghost use Rattle.value_codes.specs.Taken.{IsTaken};
+ghost use Rattle.station_stream.specs.Sweep.{LieIn};
 ghost use Rattle.station_stream.specs.Threads.{AreThreads};
-ghost use Rattle.station_stream.specs.Filled.{AreFilled, AllFilled, AreZeros, AllZeros, AllLong, AllValues};
+ghost use Rattle.station_stream.specs.Filled.{IsBlank, AreFilled, AllFilled, AreBlank, AllBlank};
 ghost use Rattle.station_stream.specs.Stream.{AreWhole};
 ghost use Rattle.station_stream.specs.Window.{AreValues};
 ghost use Rattle.station_stream.specs.Faults.{CountsReads};
 
-use crate::levels::fill_levels;
+use crate::piece::fill_values;
+use crate::room::take_room;
 use crate::sweep::Sweep;
 use crate::threads::Threads;
-use crate::turned::turn_levels;
 use crate::{StationChan, StationPart, StreamFault};
 use dev_traits::Shelf;
 use frame_index::Index;
@@ -49,31 +47,70 @@ impl Window {
     }
 }
 
-// A byte 0 for each of so many samples; no bytes of a channel that the station lacks.
-fn zeros(alloc: Global, chan: &Option<StationChan>, count: usize) -> Result<Vec<u8>, AllocError>
-    ensures { IfOk result (λ codes. AreZeros chan.now count codes.items) }
+// Sets the bytes from one place up to, not including, another to 0.
+fn clear(at: usize, to: usize, codes: &mut [u8])
+    requires order { at ≤ to }
+    requires inside { to ≤ length codes.old }
+    ensures cleared { (k : ℕ) → at ≤ k → k < to → slice_index codes.new k ≡ 0 }
+    ensures before { (k : ℕ) → k < at → slice_index codes.new k ≡ slice_index codes.old k }
 {
-    match chan {
-        Some(_) => vec![in alloc; 0u8; count],
-        None => Ok(Vec::new(alloc)),
-    }
+    codes[at..to].fill(0);
+}
+
+// Sets the bytes at the samples of a window that lie outside the part to 0.
+fn clear_outside(part: &StationPart<'_>, window: Window, codes: &mut [u8])
+    requires window { window.from + window.count ≤ part.now.track.samples }
+    requires long { length codes.old ≡ window.count }
+    ensures { IsBlank part.now window codes.new }
+{
+    let at = window.place(window.clip(part.from));
+    let to = window.place(window.clip(part.to));
+    clear(0, at, codes);
+    clear(to, codes.len(), codes);
+}
+
+// A byte for each sample of a window, 0 at those outside the part, in the room of a spare list; no bytes of a channel
+// that the station lacks.
+fn blank(
+    alloc: Global,
+    spare: &mut Vec<Vec<u8>>,
+    part: &StationPart<'_>,
+    window: Window,
+    chan: &Option<StationChan>,
+) -> Result<Vec<u8>, AllocError>
+    requires { window.from + window.count ≤ part.now.track.samples }
+    ensures { IfOk result (λ codes. AreBlank part.now chan.now window codes.items) }
+{
+    let Some(_) = chan else {
+        return Ok(Vec::new(alloc));
+    };
+    let mut codes = take_room(alloc, spare, window.count)?;
+    clear_outside(part, window, &mut codes);
+    Ok(codes)
 }
 
 // The same for each channel.
-fn empty(alloc: Global, part: &StationPart<'_>, count: usize) -> Result<Vec<Vec<u8>>, AllocError>
+fn empty(
+    alloc: Global,
+    spare: &mut Vec<Vec<u8>>,
+    part: &StationPart<'_>,
+    window: Window,
+) -> Result<Vec<Vec<u8>>, AllocError>
+    requires { window.from + window.count ≤ part.now.track.samples }
     ensures each { IfOk result (λ chans. length chans.items ≡ length part.now.chans.now) }
-    ensures zeros { IfOk result (λ chans. AllZeros part.now count chans.items) }
+    ensures blank { IfOk result (λ chans. AllBlank part.now window chans.items) }
 {
     let mut chans = Vec::new(alloc);
     for chan in part.chans {
-        chans.push(zeros(alloc, chan, count)?)?;
+        chans.push(blank(alloc, spare, part, window, chan)?)?;
     }
     Ok(chans)
 }
 
-// Sets bytes to the levels of a channel from the first sample of a sweep on.
+// Sets bytes to the values of a channel from the first sample of a sweep on.
 fn fill_chan<F: Shelf>(
     alloc: Global,
+    spare: &mut Vec<Vec<u8>>,
     shelf: &mut F,
     index: &Index,
     part: &StationPart<'_>,
@@ -89,28 +126,19 @@ fn fill_chan<F: Shelf>(
     ensures same { F.told shelf.new ≡ F.told shelf.old }
     ensures sweep { threads.new.sweep ≡ threads.old.sweep }
     ensures threads { OnOk result (AreThreads (F.told shelf.old) part.now threads.new) }
-    ensures taken { OnOk result (WhereTold (F.told shelf.old) (λ told. (k : ℕ) → k < length codes.new
-        → IsTaken (slice_index codes.new k) (chan_sample told part.now chan.now (recorded_at part.now.track (threads.old.sweep.from + k))))) }
+    ensures values { OnOk result (WhereTold (F.told shelf.old) (λ told. (k : ℕ) → k < length codes.new
+        → value_of (slice_index codes.new k) ≡ chan_value told part.now chan.now (threads.old.sweep.from + k))) }
     ensures counts { CountsReads (F.faults shelf.old) (F.faults shelf.new) result }
 {
-    let place = threads.place(alloc, shelf, index, part, chan.thread)?;
-    let sweep = threads.sweep;
-    let frames = &threads.frames[place];
-    fill_levels(
-        frames,
-        part,
-        chan.index,
-        sweep.first,
-        sweep.last,
-        sweep.from,
-        codes,
-    );
+    let place = threads.place(alloc, spare, shelf, index, part, chan.thread)?;
+    fill_values(&threads.frames[place], part, chan, threads.sweep, codes);
     Ok(())
 }
 
 // Goes on with a channel's bytes in a window through a sweep.
 fn fill_on<F: Shelf>(
     alloc: Global,
+    spare: &mut Vec<Vec<u8>>,
     shelf: &mut F,
     index: &Index,
     part: &StationPart<'_>,
@@ -124,6 +152,7 @@ fn fill_on<F: Shelf>(
     requires begun { max part.now.from window.from ≤ threads.old.sweep.from }
     requires order { threads.old.sweep.from ≤ threads.old.sweep.to }
     requires inside { threads.old.sweep.to ≤ window.from + window.count }
+    requires ends { threads.old.sweep.to ≤ max part.now.to window.from }
     requires lie { LieIn part.now.track threads.old.sweep.from threads.old.sweep.to threads.old.sweep.first threads.old.sweep.last }
     requires indexed { WhereTold (F.told shelf.old) (λ told. IsIndexed told part.now index.now) }
     requires threads { AreThreads (F.told shelf.old) part.now threads.old }
@@ -141,12 +170,22 @@ fn fill_on<F: Shelf>(
         window.place(threads.sweep.from),
         window.place(threads.sweep.to),
     );
-    fill_chan(alloc, shelf, index, part, threads, chan, &mut codes[at..to])
+    fill_chan(
+        alloc,
+        spare,
+        shelf,
+        index,
+        part,
+        threads,
+        chan,
+        &mut codes[at..to],
+    )
 }
 
 // Goes on with the bytes of each channel through a sweep. The frames of each thread are read once.
 fn fill_sweep<F: Shelf>(
     alloc: Global,
+    spare: &mut Vec<Vec<u8>>,
     shelf: &mut F,
     index: &Index,
     part: &StationPart<'_>,
@@ -158,6 +197,7 @@ fn fill_sweep<F: Shelf>(
     requires begun { max part.now.from window.from ≤ sweep.from }
     requires order { sweep.from ≤ sweep.to }
     requires inside { sweep.to ≤ window.from + window.count }
+    requires ends { sweep.to ≤ max part.now.to window.from }
     requires lie { LieIn part.now.track sweep.from sweep.to sweep.first sweep.last }
     requires indexed { WhereTold (F.told shelf.old) (λ told. IsIndexed told part.now index.now) }
     requires each { length chans.old ≡ length part.now.chans.now }
@@ -170,6 +210,7 @@ fn fill_sweep<F: Shelf>(
     for (i, codes) in chans.iter_mut().enumerate() {
         fill_on(
             alloc,
+            spare,
             shelf,
             index,
             part,
@@ -179,12 +220,14 @@ fn fill_sweep<F: Shelf>(
             codes,
         )?;
     }
+    threads.leave(spare);
     Ok(())
 }
 
-// Sets the bytes of each channel at the part's samples in a window to the levels there.
+// Sets the bytes of each channel at the part's samples in a window to the values there.
 fn fill<F: Shelf>(
     alloc: Global,
+    spare: &mut Vec<Vec<u8>>,
     shelf: &mut F,
     index: &Index,
     part: &StationPart<'_>,
@@ -194,7 +237,7 @@ fn fill<F: Shelf>(
     requires window { window.from + window.count ≤ part.now.track.samples }
     requires indexed { WhereTold (F.told shelf.old) (λ told. IsIndexed told part.now index.now) }
     requires each { length chans.old ≡ length part.now.chans.now }
-    requires zeros { AllZeros part.now window.count chans.old }
+    requires blank { AllBlank part.now window chans.old }
     ensures same { F.told shelf.new ≡ F.told shelf.old }
     ensures filled { OnOk result (AllFilled (F.told shelf.old) part.now window part.now.to chans.new) }
     ensures counts { CountsReads (F.faults shelf.old) (F.faults shelf.new) result }
@@ -203,45 +246,17 @@ fn fill<F: Shelf>(
     let mut at = window.clip(part.from);
     while at < to {
         let sweep = Sweep::of(part, at, to);
-        fill_sweep(alloc, shelf, index, part, sweep, window, chans)?;
+        fill_sweep(alloc, spare, shelf, index, part, sweep, window, chans)?;
         at = sweep.to;
     }
     Ok(())
 }
 
-// Turns the levels of a channel at the part's samples in a window.
-fn turn(part: &StationPart<'_>, window: Window, chan: &Option<StationChan>, codes: &mut [u8])
-    requires chan { ForSome chan.now (IsChanOf part.now.shape) }
-    requires window { window.from + window.count ≤ part.now.track.samples }
-    requires long { ForSome chan.now (λ _. length codes.old ≡ window.count) }
-    ensures { (told : Option Shelved) → AreFilled told part.now chan.now window part.now.to codes.old
-        → WhereTold told (λ told. AreValues told part.now chan.now window.from window.count (map value_of codes.new)) }
-{
-    if let Some(chan) = chan {
-        let from = window.clip(part.from);
-        let (at, to) = (window.place(from), window.place(window.clip(part.to)));
-        turn_levels(part, chan, from, &mut codes[at..to]);
-    }
-}
-
-// Turns those of each channel.
-fn turn_each(part: &StationPart<'_>, window: Window, chans: &mut [Vec<u8>])
-    requires window { window.from + window.count ≤ part.now.track.samples }
-    requires each { length chans.old ≡ length part.now.chans.now }
-    requires long { AllLong part.now window.count chans.old }
-    requires whole { AreWhole window.count chans.old }
-    ensures whole { AreWhole window.count chans.new }
-    ensures values { (told : Option Shelved) → AllFilled told part.now window part.now.to chans.old
-        → WhereTold told (λ told. AllValues told part.now window.from window.count chans.new) }
-{
-    for (i, codes) in chans.iter_mut().enumerate() {
-        turn(part, window, &part.chans[i], codes);
-    }
-}
-
-/// The bytes of each channel's values at `count` samples from `from` on; no bytes of a channel that the station lacks.
+/// The bytes of each channel's values at `count` samples from `from` on, in the room of spare lists; no bytes of a channel
+/// that the station lacks.
 pub(crate) fn channels<F: Shelf>(
     alloc: Global,
+    spare: &mut Vec<Vec<u8>>,
     shelf: &mut F,
     index: &Index,
     part: &StationPart<'_>,
@@ -259,8 +274,7 @@ pub(crate) fn channels<F: Shelf>(
     ensures counts { CountsReads (F.faults shelf.old) (F.faults shelf.new) result }
 {
     let window = Window { from, count };
-    let mut chans = empty(alloc, part, count)?;
-    fill(alloc, shelf, index, part, window, &mut chans)?;
-    turn_each(part, window, &mut chans);
+    let mut chans = empty(alloc, spare, part, window)?;
+    fill(alloc, spare, shelf, index, part, window, &mut chans)?;
     Ok(chans)
 }

@@ -17,8 +17,8 @@ part_of-part-requires-clause-modelled g c =
     (slice_get-item c.items.result.now c.args.plan.now.stations c.args.stay.now.station c.index-items-number.result c.items.ensures c.requires.stay.station c.index-items-number.is)
     c.requires.stands
 
-pub load-requires-clause-indexed : goal.load-requires-clause-indexed
-load-requires-clause-indexed g c =
+pub load_in-requires-clause-indexed : goal.load_in-requires-clause-indexed
+load_in-requires-clause-indexed g c =
     let there : c.args.stay.now.station < length c.args.recordings.now = omega arith in
     WhereTold-weaker (g.F.Shelf.told c.args.shelf.now) _ _
     (λ files recorded. IsIndexed-part files c.args.plan.now c.args.scan.now c.index-items-number.result c.args.stay.now c.index-recordings-number.result c.part_of-part.result

@@ -1,5 +1,5 @@
 use Rattle.std.proofs.Common.{refl, arith}
-use Rattle.station_stream.proofs.ChansLemmas.{AllFilled-zeros}
+use Rattle.station_stream.proofs.ChansLemmas.{AllFilled-blank}
 use Rattle.station_stream.proofs.window.fill.Goals as goal
 
 pub loop-at-init : goal.loop-at-init
@@ -8,5 +8,5 @@ loop-at-init g c = record {
   faults = refl;
   begun = omega (arith, c.clip-at.ensures);
   within = omega (arith, c.clip-at.ensures, c.clip-to.ensures, c.args.part.now.sound.order);
-  filled = AllFilled-zeros (g.F.Shelf.told c.args.shelf.now) c.args.part.now c.args.window c.clip-at.result c.args.chans.now c.clip-at.ensures c.requires.zeros;
+  filled = AllFilled-blank (g.F.Shelf.told c.args.shelf.now) c.args.part.now c.args.window c.clip-at.result c.args.chans.now c.clip-at.ensures c.requires.blank;
 }

@@ -20,11 +20,11 @@ returns-clause-filled g c =
     let new = take at old ++ (mid ++ drop (to - at) (drop at old)) in
     let filled : IsFilled told part c.in-Some.chan w sweep.from old = subst (λ (chan : Option StationChan). AreFilled told part chan w sweep.from old) c.in-Some.is c.requires.filled in
     let order : at ≤ to = omega (arith, c.place-at.ensures, c.place-to.ensures, c.requires.order) in
-    let inside : to ≤ length old = omega (arith, c.place-to.ensures, c.requires.inside, filled.long) in
+    let inside : to ≤ length old = omega (arith, c.place-to.ensures, c.requires.inside, filled.blank.long) in
     let count : length mid ≡ to - at = omega (arith, c.fill_chan.auto.codes, length-take (to - at) (drop at old), length-drop at old, order, inside) in
     let begun = c.requires.begun in
     subst (λ (chan : Option StationChan). OnOk c.fill_chan.result (AreFilled told part chan w sweep.to new)) (sym c.in-Some.is)
     (on_ok_weaker c.fill_chan.result
-    (λ taken. IsFilled-on told part c.in-Some.chan w at to sweep.from sweep.to old mid new c.place-at.ensures c.place-to.ensures (omega (arith, begun)) c.requires.order
-    (IsPut-of at to old mid order inside count) filled taken)
-    c.fill_chan.ensures.taken)
+    (λ values. IsFilled-on told part c.in-Some.chan w at to sweep.from sweep.to old mid new c.place-at.ensures c.place-to.ensures (omega (arith, begun)) c.requires.order c.requires.ends
+    (IsPut-of at to old mid order inside count) filled values)
+    c.fill_chan.ensures.values)

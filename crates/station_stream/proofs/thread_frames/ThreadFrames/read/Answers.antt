@@ -18,7 +18,7 @@ returns-clause-reach g c =
     let begins = BeginsAt-place part c.args.first c.of-start.result c.slot_len.ensures.invariant c.requires.near_first c.of-start.ensures in
     let count : c.in_ok-there.there.len ≡ c.frames_up_to-count.result = first_of (search rules, omega (arith, c.in_ok-there.ensures.len)) in
     let size : c.in-Some.size ≡ c.frames_up_to-count.result * c.slot_len.result = first_of (search rules, grind (arith, common_steps)) in
-    let total : c.in_ok-bytes.bytes.len ≡ c.in-Some.size = first_of (search rules, omega (arith, c.in_ok-bytes.ensures.len)) in
+    let total : c.in_ok-bytes.bytes.len ≡ c.in-Some.size = c.in_ok-bytes.bytes.ok.0 ∙ c.in_ok-bytes.ensures in
     Reach-read part c.args.first c.args.last c.of-start.result.start c.frames_up_to-count.result c.samples_per_frame.result
     (record {
       start = to_z w64 (of_z w64 c.of-start.result.start);

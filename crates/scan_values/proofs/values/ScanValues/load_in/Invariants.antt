@@ -4,7 +4,7 @@ use Rattle.dev_traits.specs.Told.{WhereTold}
 use Rattle.job_plan.specs.declared.plan.StayPlan.{StayPlan}
 use Rattle.scan_values.specs.Values.{IsOfWindow}
 use Rattle.scan_values.proofs.ValuesLemmas.{AreOfStays}
-use Rattle.scan_values.proofs.values.ScanValues.load.Given as goal
+use Rattle.scan_values.proofs.values.ScanValues.load_in.Given as goal
 
 abbrev pub invariant-loop-stay : goal.invariant-loop-stay
 invariant-loop-stay g l = record {

@@ -4,7 +4,7 @@ use Rattle.std.proofs.lemmas.List.Elements.{All-push}
 use Rattle.std.proofs.lemmas.Option.{slice_get_read}
 use Rattle.scan_values.specs.Values.{IsOfWindow}
 use Rattle.scan_values.proofs.ValuesLemmas.{is_some-stay_of, stations-push, AreOfStays-push, stations-all, values_in-rotated, values_in-outside}
-use Rattle.scan_values.proofs.values.ScanValues.load.Goals as goal
+use Rattle.scan_values.proofs.values.ScanValues.load_in.Goals as goal
 
 pub stay_stream-requires-clause-stands : goal.stay_stream-requires-clause-stands
 stay_stream-requires-clause-stands g c =

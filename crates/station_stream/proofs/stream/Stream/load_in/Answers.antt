@@ -4,7 +4,7 @@ use Rattle.std.proofs.lemmas.List.{length-map}
 use Rattle.frame_index.proofs.ToldLemmas.{WhereTold-weaker}
 use Rattle.station_stream.specs.Stream.{AreWhole}
 use Rattle.station_stream.proofs.StreamLemmas.{part_value-lists}
-use Rattle.station_stream.proofs.stream.Stream.load.Goals as goal
+use Rattle.station_stream.proofs.stream.Stream.load_in.Goals as goal
 
 pub invariant_of-result : goal.invariant_of-result
 invariant_of-result g c =

@@ -1,5 +1,5 @@
 //! All lags of a range, by levels and runs.
-ghost use Rattle.std.specs.Prelude.{◌≡◌, ℕ, ◌+◌, ◌-◌, ◌/◌, ◌<◌, ◌≤◌, ◌^◌, max, length, slice_index_or};
+ghost use Rattle.std.specs.Prelude.{◌≡◌, ◌≢◌, ℕ, ◌+◌, ◌-◌, ◌/◌, ◌%◌, ◌<◌, ◌≤◌, ◌^◌, max, length, slice_index_or};
 ghost use Rattle.corr_model.specs.declared.cell.Cell.{Cell};
 ghost use Rattle.corr_model.specs.Cell.{cell_in, cell_plus};
 ghost use Rattle.corr_model.specs.Lags.{lag_of};
@@ -69,11 +69,48 @@ fn add_block(
     ensures adds { AddsEach out.old out.new (λ i. cell_in (side_samples a.now b.now) plane_pair samples (lag_of (length out.old) i) at stop) }
     ensures grown { (k : ℕ) (d : Cell) → k < length out.old → IsGrown (slice_index_or out.new k d) (pairs + (stop - at)) }
 {
+    for copy in 0..8 {
+        add_copy(a, first, b, second, at, stop, samples, pairs, copy, out);
+    }
+}
+
+// The same for the lags number `copy`, `copy + 8` and so on: the second station's levels of all these stand in one of its copies,
+// which stays near from one to the next.
+fn add_copy(
+    a: &First,
+    first: usize,
+    b: &Second,
+    second: usize,
+    at: u64,
+    stop: u64,
+    samples: u64,
+    pairs: u64,
+    copy: usize,
+    out: &mut [Cell],
+)
+    requires lags { length out.old ≤ 1024 }
+    requires copy { copy < 8 }
+    requires order { at ≤ stop }
+    requires inside { stop ≤ samples }
+    requires scan { samples ≤ 2 ^ 40 }
+    requires most { pairs + (stop - at) ≤ 2 ^ 36 }
+    requires first { first ≤ length a.now.runs.now }
+    requires second { second ≤ length b.now.runs.now }
+    requires past_a { ArePast a.now.runs.now first (max at a.now.from - a.now.from) }
+    requires past_b { ArePast b.now.runs.now second (max at a.now.from - (length out.old / 2 + b.now.from)) }
+    requires grown { (k : ℕ) (d : Cell) → k < length out.old → k % 8 ≡ copy → IsGrown (slice_index_or out.old k d) pairs }
+    ensures adds { (k : ℕ) (d : Cell) → k < length out.old → k % 8 ≡ copy
+        → slice_index_or out.new k d ≡ cell_plus (slice_index_or out.old k d) (cell_in (side_samples a.now b.now) plane_pair samples (lag_of (length out.old) k) at stop) }
+    ensures grown { (k : ℕ) (d : Cell) → k < length out.old → k % 8 ≡ copy → IsGrown (slice_index_or out.new k d) (pairs + (stop - at)) }
+    ensures others { (k : ℕ) (d : Cell) → k % 8 ≢ copy → slice_index_or out.new k d ≡ slice_index_or out.old k d }
+{
     let lags = out.len();
-    for (i, cell) in out.iter_mut().enumerate() {
-        *cell = add_lag(
-            a, first, b, second, at, stop, samples, lags, i, pairs, *cell,
+    let mut i = copy;
+    while i < lags {
+        out[i] = add_lag(
+            a, first, b, second, at, stop, samples, lags, i, pairs, out[i],
         );
+        i += 8;
     }
 }
 

@@ -1,4 +1,4 @@
-use Rattle.std.proofs.Common.{◌≡◌, ℕ, ◌+◌, ◌-◌, ◌<◌, ◌≤◌, length, get_or}
+use Rattle.std.proofs.Common.{◌≡◌, ℕ, ◌+◌, ◌-◌, ◌%◌, ◌<◌, ◌≤◌, length, get_or}
 use Rattle.corr_model.specs.declared.cell.Cell.{Cell}
 use Rattle.corr_model.specs.Cell.{cell_in, cell_plus}
 use Rattle.corr_model.specs.Lags.{lag_of}
@@ -7,9 +7,11 @@ use Rattle.lag_kernel.specs.Planes.{plane_pair}
 use Rattle.lag_kernel.specs.Sides.{side_samples}
 use Rattle.lag_kernel.proofs.blocks.add_block.Given as goal
 
-abbrev pub invariant-loop-i : goal.invariant-loop-i
-invariant-loop-i l = record {
-  done : (k : ℕ) (d : Cell) → k < l.i → get_or l.out k d ≡ cell_plus (get_or l.initial.out k d) (cell_in (side_samples l.a l.b) plane_pair l.samples (lag_of (length l.fn.out) k) l.at l.stop);
-  grown : (k : ℕ) (d : Cell) → k < l.i → IsGrown (get_or l.out k d) (l.pairs + (l.stop - l.at));
-  left : (k : ℕ) (d : Cell) → l.i ≤ k → get_or l.out k d ≡ get_or l.initial.out k d;
+abbrev pub invariant-loop-copy : goal.invariant-loop-copy
+invariant-loop-copy l = record {
+  len : length l.out ≡ length l.initial.out;
+  done : (k : ℕ) (d : Cell) → k < length l.initial.out → k % 8 < l.copy
+      → get_or l.out k d ≡ cell_plus (get_or l.initial.out k d) (cell_in (side_samples l.a l.b) plane_pair l.samples (lag_of (length l.initial.out) k) l.at l.stop);
+  grown : (k : ℕ) (d : Cell) → k < length l.initial.out → k % 8 < l.copy → IsGrown (get_or l.out k d) (l.pairs + (l.stop - l.at));
+  left : (k : ℕ) (d : Cell) → l.copy ≤ k % 8 → get_or l.out k d ≡ get_or l.initial.out k d;
 }

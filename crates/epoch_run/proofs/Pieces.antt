@@ -17,7 +17,7 @@ use Rattle.piece_plan.specs.Parts.{part_at}
 use Rattle.piece_plan.specs.Pieces.{IsCut, per_group, piece_of, pieces_of}
 use Rattle.piece_plan.proofs.Quotients.{quotient_is}
 use Rattle.piece_plan.proofs.PieceLemmas.{length-groups, piece-IsPiece, quotient-lt}
-use Rattle.epoch_run.specs.Streamed.{streamed}
+use Rattle.epoch_run.specs.Planes.{planed}
 use Rattle.epoch_run.specs.Amounts.{WorkFields, amounts_in, amounts_of, bias_of, cut_of, pair_amounts, piece_amounts}
 use Rattle.epoch_run.specs.Levelled.{IsWithin, IsWork}
 use Rattle.epoch_run.specs.Part.{IsPart}
@@ -95,7 +95,7 @@ pub amounts_of-at : (w : WorkFields) (is : IsWork w) (g k l r : ℕ) (pair : Pai
     → k < per_group (cut_of w) → l < w.epoch.lags → r < 3
     → slice_get w.pairs g ≡ Some pair
     → get_or (amounts_of w (g * per_group (cut_of w) + k)) (l * 3 + r) 0
-    ≡ part_amount (streamed w.streams) pair w.samples (lag_of w.epoch.lags l) is.levelled r w.epoch.from w.epoch.to w.piece
+    ≡ part_amount (planed w.planes) pair w.samples (lag_of w.epoch.lags l) is.levelled r w.epoch.from w.epoch.to w.piece
     (omega (arith, is.summed.epoch.some)) (omega (arith, is.summed.some)) k
 amounts_of-at w is g k l r pair low less inside third there =
     let per = per_group (cut_of w) in
@@ -114,7 +114,7 @@ amounts_of-at w is g k l r pair low less inside third there =
     split.1 in
     let group : p.product * w.epoch.baselines + p.baseline ≡ g = div-add-mod' (n / per) w.epoch.baselines ∙ split.0 in
     let f : Cell → List ℕ = amounts_in (bias_of (part.to - part.from)) in
-    let cell : ℕ → Cell = λ i. cell_in (streamed w.streams) pair w.samples (lag_of w.epoch.lags i) part.from part.to in
+    let cell : ℕ → Cell = λ i. cell_in (planed w.planes) pair w.samples (lag_of w.epoch.lags i) part.from part.to in
     let cells : List Cell = map cell (range_with_len 0 w.epoch.lags) in
     let here : get_or cells l (cell l) ≡ cell l =
     get_or-map-range_with_len cell 0 w.epoch.lags l l (cell l) inside (omega arith) in

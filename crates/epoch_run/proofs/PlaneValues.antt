@@ -1,13 +1,14 @@
 -- The values of planes and of streams.
-use Rattle.std.specs.Prelude.{int_le, int_lt, ◌&&◌, if◌then◌else◌, option_and_then, slice_get}
+use Rattle.std.specs.Prelude.{int_le, int_lt, ◌&&◌, if◌then◌else◌, option_and_then, slice_get, IfSome}
 use Rattle.std.specs.List.{range_with_len}
-use Rattle.std.proofs.Common.{◌≡◌, ℕ, zero, suc, ◌+◌, ◌^◌, ◌≤◌, ◌<◌, min, Bool, true, false, ℤ, pos, ◌+ℤ◌, ◌-ℤ◌, ◌≤ℤ◌, ◌<ℤ◌, unsigned_abs, List, [], ◌∷◌, ◌++◌, length, map, get_or, Option, Some, None, Vec, Global, inl, inr, refl, sym, ap, subst, ◌∙◌, arith}
+use Rattle.std.proofs.Common.{◌≡◌, ℕ, zero, suc, ◌+◌, ◌^◌, ◌≤◌, ◌<◌, min, Bool, true, false, ℤ, pos, ◌+ℤ◌, ◌-ℤ◌, ◌≤ℤ◌, ◌<ℤ◌, unsigned_abs, List, [], ◌∷◌, ◌++◌, length, map, get_or, Option, Some, None, Vec, Global, inl, inr, refl, sym, ap, ap₂, subst, ◌∙◌, arith, All}
 use Rattle.std.specs.Vec.{with_items}
 use Rattle.std.proofs.Math.Seq.{get_or-append_seam}
 use Rattle.std.proofs.lemmas.Bool.{cases_lt}
 use Rattle.std.proofs.lemmas.Int.{ints}
 use Rattle.std.proofs.lemmas.List.{same_lists, get_or_past, get_or_default, get_or_append_left, map-append, length-map}
 use Rattle.std.proofs.lemmas.Option.{slice_get-get_or, slice_get_past}
+use Rattle.std.proofs.lemmas.List.Elements.{All-head, All-tail}
 use Rattle.std.proofs.lemmas.List.FromFn.{length-map-range_with_len, get_or-map-range_with_len}
 use Rattle.corr_model.specs.declared.cell.Cell.{Cell}
 use Rattle.corr_model.specs.declared.cell.Pair.{Pair}
@@ -17,10 +18,12 @@ use Rattle.corr_model.proofs.CellLemmas.{cell_in-values}
 use Rattle.bit_planes.specs.Planes.{PlanesFields, plane_value}
 use Rattle.bit_planes.proofs.ValueLemmas.{plane_value-before, plane_value-past}
 use Rattle.lag_kernel.specs.Planes.{plane_samples, plane_pair}
-use Rattle.station_stream.specs.Stream.{StreamFields, stream_value, windowed}
-use Rattle.epoch_run.specs.Sums.{pair_cells}
+use Rattle.station_stream.specs.Stream.{StreamFields, AreLevelled, stream_value, windowed}
+use Rattle.piece_plan.specs.declared.epoch.EpochPlan.{EpochPlan}
+use Rattle.epoch_run.specs.Sums.{pair_cells, cells_in_epoch}
+use Rattle.epoch_run.specs.Levelled.{AllLevelled, IsLevelled}
 use Rattle.epoch_run.specs.Streamed.{streamed}
-use Rattle.epoch_run.specs.Planes.{chans_value, planed, HoldStreams, HoldChans, AreFilled}
+use Rattle.epoch_run.specs.Planes.{chans_value, planed, IsNumbered, HoldStreams, HoldChans, AreFilled}
 use Rattle.station_stream.proofs.ChansLemmas.{take-kept}
 use Rattle.epoch_run.proofs.Streams.{streamed-there, streamed-past}
 
@@ -32,17 +35,17 @@ abbrev no_planes : PlanesFields
 no_planes = record { from = pos 0; to = pos 0; words = []; levels = None }
 
 -- cells over equal values are equal
-pub pair_cells-planes : (a b : PlanesFields) (z : Samples) (pair : Pair) (samples lags from to : ℕ)
-    → ((n : ℤ) → plane_value a n ≡ z pair.a pair.x n)
-    → ((n : ℤ) → plane_value b n ≡ z pair.b pair.y n)
-    → pair_cells (plane_samples a b) samples lags from to plane_pair ≡ pair_cells z samples lags from to pair
-pair_cells-planes a b z pair samples lags from to first second = same_lists (map f (range_with_len 0 lags)) (map g (range_with_len 0 lags)) long each
+pub pair_cells-values : (y z : Samples) (p q : Pair) (samples lags from to : ℕ)
+    → ((n : ℤ) → y p.a p.x n ≡ z q.a q.x n)
+    → ((n : ℤ) → y p.b p.y n ≡ z q.b q.y n)
+    → pair_cells y samples lags from to p ≡ pair_cells z samples lags from to q
+pair_cells-values y z p q samples lags from to first second = same_lists (map f (range_with_len 0 lags)) (map g (range_with_len 0 lags)) long each
   where
     f : ℕ → Cell
-    f i = cell_in (plane_samples a b) plane_pair samples (lag_of lags i) from to
+    f i = cell_in y p samples (lag_of lags i) from to
 
     g : ℕ → Cell
-    g i = cell_in z pair samples (lag_of lags i) from to
+    g i = cell_in z q samples (lag_of lags i) from to
 
     long : length (map f (range_with_len 0 lags)) ≡ length (map g (range_with_len 0 lags))
     long = length-map-range_with_len f 0 lags ∙ sym (length-map-range_with_len g 0 lags)
@@ -51,9 +54,28 @@ pair_cells-planes a b z pair samples lags from to first second = same_lists (map
     each i d h =
         let inside : i < lags = omega (arith, h, length-map-range_with_len f 0 lags) in
         get_or-map-range_with_len f 0 lags i i d inside (omega arith)
-        ∙ cell_in-values (plane_samples a b) z plane_pair pair samples (lag_of lags i) from to
+        ∙ cell_in-values y z p q samples (lag_of lags i) from to
         (λ n _ _. first (pos n)) (λ n _ _ _. second (pos n +ℤ lag_of lags i))
         ∙ sym (get_or-map-range_with_len g 0 lags i i d inside (omega arith))
+
+-- so are those of two channels and of their planes
+pub pair_cells-planes : (a b : PlanesFields) (z : Samples) (pair : Pair) (samples lags from to : ℕ)
+    → ((n : ℤ) → plane_value a n ≡ z pair.a pair.x n)
+    → ((n : ℤ) → plane_value b n ≡ z pair.b pair.y n)
+    → pair_cells (plane_samples a b) samples lags from to plane_pair ≡ pair_cells z samples lags from to pair
+pair_cells-planes a b z pair samples lags from to first second = pair_cells-values (plane_samples a b) z plane_pair pair samples lags from to first second
+
+-- the sums of an epoch over equal values are equal
+pub cells_in_epoch-values : (y z : Samples) (pairs : List Pair) (samples : ℕ) (e : EpochPlan)
+    → ((station chan : ℕ) (n : ℤ) → station < 2 ^ 32 → chan < 2 ^ 32 → y station chan n ≡ z station chan n)
+    → All IsNumbered pairs
+    → cells_in_epoch y pairs samples e ≡ cells_in_epoch z pairs samples e
+cells_in_epoch-values y z [] samples e same numbered = refl
+cells_in_epoch-values y z (pair ∷ pairs) samples e same numbered =
+    let own = All-head IsNumbered pair pairs numbered in
+    ap₂ (λ (xs ys : List Cell). xs ++ ys)
+    (pair_cells-values y z pair pair samples e.lags e.from e.to (λ n. same pair.a pair.x n own.a own.x) (λ n. same pair.b pair.y n own.b own.y))
+    (cells_in_epoch-values y z pairs samples e same (All-tail IsNumbered pair pairs numbered))
 
 -- a window of a stream holds nothing before it and past it
 windowed-before : (s : StreamFields) (chan : ℕ) (n : ℤ) → int_le s.from n ≡ false → windowed s chan n ≡ None
@@ -162,6 +184,19 @@ mapped f [] i x e h is = absurd (omega arith)
 mapped f (y ∷ xs) zero x e h is = ap f (is x)
 mapped f (y ∷ xs) (suc i) x e h is = mapped f xs i x e (omega arith) is
 
+-- the stream of a station and its planes
+filled-at : (streams : List StreamFields) (stations : List (Vec PlanesFields Global)) → AreFilled streams stations
+    → (station : ℕ) → station < length stations
+    → (s : StreamFields) × (chans : List PlanesFields) × (slice_get streams station ≡ Some s)
+    × (get_or (map (λ (v : Vec PlanesFields Global). v.items) stations) station [] ≡ chans) × HoldChans s chans
+filled-at streams stations filled station h =
+    let few_streams : station < length streams = omega (arith, filled.count) in
+    let v = there stations station h in
+    let s = there streams station few_streams in
+    let is : slice_get streams station ≡ Some s.0 = slice_get-get_or streams station s.0 few_streams ∙ ap Some (s.1 s.0) in
+    let hold : HoldChans s.0 v.0.items = subst (λ (w : Vec PlanesFields Global). HoldChans s.0 w.items) (v.1 v.0) (filled.each station v.0 h s.0 is) in
+    (s.0, v.0.items, is, mapped (λ (w : Vec PlanesFields Global). w.items) stations station v.0 [] h v.1, hold)
+
 -- planes of every stream that hold the values of its channels
 pub HoldStreams-filled : (streams : List StreamFields) (stations : List (Vec PlanesFields Global)) → AreFilled streams stations
     → HoldStreams (map (λ (v : Vec PlanesFields Global). v.items) stations) streams
@@ -173,11 +208,34 @@ HoldStreams-filled streams stations filled =
 
     each : (station chan : ℕ) (n : ℤ) → station < length stations → chan < 2 ^ 32 → planed (map items stations) station chan n ≡ streamed streams station chan n
     each station chan n h few =
-        let few_streams : station < length streams = omega (arith, filled.count) in
-        let v = there stations station h in
-        let s = there streams station few_streams in
-        let is : slice_get streams station ≡ Some s.0 = slice_get-get_or streams station s.0 few_streams ∙ ap Some (s.1 s.0) in
-        let hold : HoldChans s.0 v.0.items = subst (λ (w : Vec PlanesFields Global). HoldChans s.0 w.items) (v.1 v.0) (filled.each station v.0 h s.0 is) in
-        ap (λ (chans : List PlanesFields). chans_value chans chan n) (mapped items stations station v.0 [] h v.1)
-        ∙ chans_value-each v.0.items s.0 (length v.0.items) (2 ^ 32) refl (omega (arith, hold.count)) (λ k d lt m. hold.each k d lt m) chan n few
-        ∙ sym (streamed-there streams station chan n s.0 is)
+        let f = filled-at streams stations filled station h in
+        ap (λ (chans : List PlanesFields). chans_value chans chan n) f.3
+        ∙ chans_value-each f.1 f.0 (length f.1) (2 ^ 32) refl (omega (arith, f.4.count)) (λ k d lt m. (f.4.each k d lt).values m) chan n few
+        ∙ sym (streamed-there streams station chan n f.0 f.2)
+
+-- planes of a stream whose values are levelled hold such values alone
+levelled-chans : (s : StreamFields) (chans : List PlanesFields) → HoldChans s chans → IsLevelled s
+    → (chan : ℕ) (n : ℤ) → IfSome (chans_value chans chan n) AreLevelled
+levelled-chans s chans hold levelled chan n =
+    elim (cases_lt chan (length chans)) [
+      | inl q ↦
+          subst (λ (v : Value). IfSome v AreLevelled) (sym (chans_value-there chans chan n no_planes q ∙ (hold.each chan no_planes q).values n)) (levelled chan n)
+      | inr q ↦ subst (λ (v : Value). IfSome v AreLevelled) (sym (ap (value_of n) (slice_get_past chans chan q))) tt
+    ]
+
+-- and so do those of all streams
+pub AllLevelled-filled : (streams : List StreamFields) (stations : List (Vec PlanesFields Global)) → AreFilled streams stations
+    → AllLevelled (streamed streams) → AllLevelled (planed (map (λ (v : Vec PlanesFields Global). v.items) stations))
+AllLevelled-filled streams stations filled all station chan n =
+    elim (cases_lt station (length stations)) [
+      | inl q ↦
+          let f = filled-at streams stations filled station q in
+          subst (λ (chans : List PlanesFields). IfSome (chans_value chans chan n) AreLevelled) (sym f.3)
+          (levelled-chans f.0 f.1 f.4
+          (λ c m. subst (λ (v : Value). IfSome v AreLevelled) (streamed-there streams station c m f.0 f.2) (all station c m)) chan n)
+      | inr q ↦
+          let past : length (map (λ (v : Vec PlanesFields Global). v.items) stations) ≤ station = omega (arith, length-map stations (λ (v : Vec PlanesFields Global). v.items)) in
+          subst (λ (v : Value). IfSome v AreLevelled)
+          (sym (ap (λ (chans : List PlanesFields). chans_value chans chan n) (get_or_past (map (λ (v : Vec PlanesFields Global). v.items) stations) station [] past)
+          ∙ ap (value_of n) (slice_get_past [] chan (omega arith)))) tt
+    ]

@@ -18,8 +18,8 @@ use Rattle.piece_plan.proofs.Quotients.{quotient_is}
 use Rattle.piece_plan.proofs.PieceLemmas.{per_group-some, quotient-lt}
 use Rattle.atomic_sums.specs.Seats.{EachOnce}
 use Rattle.atomic_sums.specs.Sums.{cell_at, totals_of, unbiased}
-use Rattle.epoch_run.specs.Streamed.{streamed}
 use Rattle.epoch_run.specs.Sums.{cells_in_epoch, pair_cells}
+use Rattle.epoch_run.specs.Planes.{planed}
 use Rattle.epoch_run.specs.Amounts.{WorkFields, IsBoardOf, HaveAmounts, amounts_of, bias_of, cut_of}
 use Rattle.epoch_run.specs.Levelled.{IsWork}
 use Rattle.epoch_run.proofs.Within.{IsWithin-cell_in}
@@ -41,7 +41,7 @@ module _ (w : WorkFields) (k : Sizes) (finished : List Piece) (is : IsWork w) (b
 
   -- the cell of lag l in group g
   abbrev cell_of : ℕ → ℕ → Cell
-  cell_of g l = cell_in (streamed w.streams) (get_or w.pairs g no_pair) w.samples (lag_of w.epoch.lags l) w.epoch.from w.epoch.to
+  cell_of g l = cell_in (planed w.planes) (get_or w.pairs g no_pair) w.samples (lag_of w.epoch.lags l) w.epoch.from w.epoch.to
 
   -- what a finished piece adds to a sum of its group, by the piece's number
   abbrev adds : ℕ → ℕ → ℕ → ℕ
@@ -77,10 +77,10 @@ module _ (w : WorkFields) (k : Sizes) (finished : List Piece) (is : IsWork w) (b
       ∙ ap (sum_below (in_group h per g some)) groups
       ∙ sum_below-group h per g some (w.epoch.products * w.epoch.baselines) low
       ∙ sum_below-agree (λ n. h (g * per + n))
-      (part_amount (streamed w.streams) pair w.samples (lag_of w.epoch.lags l) is.levelled r w.epoch.from w.epoch.to w.piece order step)
+      (part_amount (planed w.planes) pair w.samples (lag_of w.epoch.lags l) is.levelled r w.epoch.from w.epoch.to w.piece order step)
       per
       (λ n lt. amounts_of-at w is g n l r pair low lt inside third there)
-      ∙ all_parts (streamed w.streams) pair w.samples
+      ∙ all_parts (planed w.planes) pair w.samples
       (lag_of w.epoch.lags l) is.levelled r w.epoch.from w.epoch.to w.piece order step
 
   abbrev totals : List ℕ
@@ -119,12 +119,12 @@ module _ (w : WorkFields) (k : Sizes) (finished : List Piece) (is : IsWork w) (b
           let c = cell_of (x / 3 / w.epoch.lags) (x / 3 % w.epoch.lags) in
           let is_amount = total-is (x / 3) (x % 3) (omega (arith, h, length-totals)) (omega arith) in
           let most = amount_in-most (x % 3) c samples_in
-          (IsWithin-cell_in (streamed w.streams) (get_or w.pairs (x / 3 / w.epoch.lags) no_pair) w.samples
+          (IsWithin-cell_in (planed w.planes) (get_or w.pairs (x / 3 / w.epoch.lags) no_pair) w.samples
           (lag_of w.epoch.lags (x / 3 % w.epoch.lags)) w.epoch.from w.epoch.to is.levelled) in
           omega (arith, ap (λ (y : ℕ). get_or totals y 0) place, is_amount, most, is.summed.epoch.short)
 
   abbrev rows : Pair → List Cell
-  rows = pair_cells (streamed w.streams) w.samples w.epoch.lags w.epoch.from w.epoch.to
+  rows = pair_cells (planed w.planes) w.samples w.epoch.lags w.epoch.from w.epoch.to
 
   abbrev found : List Cell
   found = map (cell_at (bias_of samples_in) totals) (range_with_len 0 (length totals / 3))
@@ -134,13 +134,13 @@ module _ (w : WorkFields) (k : Sizes) (finished : List Piece) (is : IsWork w) (b
 
   -- the cells without the bias are those of the epoch
   pub cells-epoch : (unbiased (bias_of samples_in) (totals_of k finished)).cells
-      ≡ cells_in_epoch (streamed w.streams) w.pairs w.samples w.epoch
+      ≡ cells_in_epoch (planed w.planes) w.pairs w.samples w.epoch
   cells-epoch = same_lists found wanted (many ∙ sym all) each
     where
       length-row : (pair : Pair) → length (rows pair) ≡ w.epoch.lags
       length-row pair =
           length-map-range_with_len
-          (λ i. cell_in (streamed w.streams) pair w.samples (lag_of w.epoch.lags i) w.epoch.from w.epoch.to) 0 w.epoch.lags
+          (λ i. cell_in (planed w.planes) pair w.samples (lag_of w.epoch.lags i) w.epoch.from w.epoch.to) 0 w.epoch.lags
 
       thirds : length totals / 3 ≡ w.epoch.products * w.epoch.baselines * w.epoch.lags
       thirds = omega (arith, length-totals)
@@ -161,10 +161,10 @@ module _ (w : WorkFields) (k : Sizes) (finished : List Piece) (is : IsWork w) (b
           let group : i / lags < w.epoch.products * w.epoch.baselines =
           quotient-lt i lags (w.epoch.products * w.epoch.baselines) inside in
           let pair = get_or w.pairs (i / lags) no_pair in
-          let cell : ℕ → Cell = λ l. cell_in (streamed w.streams) pair w.samples (lag_of lags l) w.epoch.from w.epoch.to in
+          let cell : ℕ → Cell = λ l. cell_in (planed w.planes) pair w.samples (lag_of lags l) w.epoch.from w.epoch.to in
           let first : 3 * i ≡ 3 * i + 0 = omega arith in
           let within =
-          IsWithin-cell_in (streamed w.streams) pair w.samples (lag_of lags (i % lags)) w.epoch.from w.epoch.to is.levelled in
+          IsWithin-cell_in (planed w.planes) pair w.samples (lag_of lags (i % lags)) w.epoch.from w.epoch.to is.levelled in
           get_or-map-range_with_len (cell_at (bias_of samples_in) totals) 0 (length totals / 3) i i d
           (omega (arith, inside, thirds)) (omega arith)
           ∙ cell-amounts (cell (i % lags)) samples_in (get_or totals (3 * i) 0) (get_or totals (3 * i + 1) 0)

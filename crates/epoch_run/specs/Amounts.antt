@@ -10,14 +10,14 @@ use Rattle.piece_claim.specs.State.{Piece as Finished}
 use Rattle.piece_plan.specs.declared.epoch.EpochPlan.{EpochPlan}
 use Rattle.piece_plan.specs.declared.piece.Piece.{Piece}
 use Rattle.piece_plan.specs.Pieces.{PieceSizes, pieces_of, per_group}
-use Rattle.station_stream.specs.Stream.{StreamFields}
-use Rattle.epoch_run.specs.Streamed.{streamed}
+use Rattle.bit_planes.specs.Planes.{PlanesFields}
+use Rattle.epoch_run.specs.Planes.{planed}
 use Rattle.epoch_run.specs.Sums.{pair_cells}
 
--- what the workers of an epoch read: the streams of its stations, the pair of each group, the scan's length, the epoch and the
+-- what the workers of an epoch read: the planes of its stations' channels, the pair of each group, the scan's length, the epoch and the
 -- most samples in a piece
 pub record WorkFields : Type 0 where
-  pub streams : List StreamFields
+  pub planes : List (List PlanesFields)
   pub pairs : List Pair
   pub samples : ℕ
   pub epoch : EpochPlan
@@ -33,7 +33,7 @@ amounts_in bias c = unsigned_abs (c.re +ℤ pos bias) ∷ unsigned_abs (c.im +�
 -- those of the samples from `from` up to, not including, `to` of a pair
 abbrev pub pair_amounts : WorkFields → ℕ → ℕ → Pair → List ℕ
 pair_amounts w from to pair =
-    flat_map (amounts_in (bias_of (to - from))) (pair_cells (streamed w.streams) w.samples w.epoch.lags from to pair)
+    flat_map (amounts_in (bias_of (to - from))) (pair_cells (planed w.planes) w.samples w.epoch.lags from to pair)
 
 -- the epoch's pieces
 abbrev pub cut_of : WorkFields → PieceSizes

@@ -3,7 +3,7 @@ use Rattle.std.specs.Prelude.{ℕ, ◌*◌, ◌≤◌, ℤ, pos, neg_ℤ, ◌≤
 use Rattle.corr_model.specs.declared.cell.Cell.{Cell}
 use Rattle.corr_model.specs.Cell.{Samples}
 use Rattle.station_stream.specs.Stream.{StreamFields, windowed, AreLevelled}
-use Rattle.epoch_run.specs.Streamed.{streamed}
+use Rattle.epoch_run.specs.Planes.{planed}
 use Rattle.epoch_run.specs.Sums.{IsSummed}
 use Rattle.epoch_run.specs.Amounts.{WorkFields}
 
@@ -26,4 +26,4 @@ pub record IsWithin (c : Cell) (pairs : ℕ) : Type 0 where
 -- what is true of all that the workers read
 pub record IsWork (w : WorkFields) : Type 0 where
   pub summed : IsSummed w.pairs w.samples w.epoch w.piece
-  pub levelled : AllLevelled (streamed w.streams)
+  pub levelled : AllLevelled (planed w.planes)

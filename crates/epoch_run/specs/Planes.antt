@@ -1,6 +1,7 @@
 -- Planes of bits of the channels of streams.
 use Rattle.std.specs.Prelude.{◌≡◌, ℕ, ◌^◌, ◌<◌, ℤ, min, List, [], length, Some, None, Vec, option_and_then, slice_get, slice_index_or}
 use Rattle.std.specs.Global.{Global}
+use Rattle.corr_model.specs.declared.cell.Pair.{Pair}
 use Rattle.corr_model.specs.Cell.{Value, Samples}
 use Rattle.bit_planes.specs.Planes.{PlanesFields, plane_value}
 use Rattle.station_stream.specs.Stream.{StreamFields, windowed}
@@ -19,6 +20,13 @@ abbrev pub HoldStreams : List (List PlanesFields) → List StreamFields → Type
 HoldStreams stations streams =
     (station chan : ℕ) (n : ℤ) → station < 2 ^ 32 → chan < 2 ^ 32 → planed stations station chan n ≡ streamed streams station chan n
 
+-- a pair has such numbers
+pub record IsNumbered (pair : Pair) : Type 0 where
+  pub a : pair.a < 2 ^ 32
+  pub x : pair.x < 2 ^ 32
+  pub b : pair.b < 2 ^ 32
+  pub y : pair.y < 2 ^ 32
+
 -- planes of a stream's window that hold no value yet
 pub record HasRoom (s : StreamFields) (p : PlanesFields) : Type 0 where
   pub from : p.from ≡ s.from
@@ -30,10 +38,16 @@ pub record HaveRoom (s : StreamFields) (chans : List PlanesFields) : Type 0 wher
   pub count : length chans ≡ min (length s.values) (2 ^ 32)
   pub each : (k : ℕ) (d : PlanesFields) → k < length chans → HasRoom s (slice_index_or chans k d)
 
+-- planes of a stream's window that hold the values of a channel
+pub record HoldsChan (s : StreamFields) (chan : ℕ) (p : PlanesFields) : Type 0 where
+  pub from : p.from ≡ s.from
+  pub to : p.to ≡ s.to
+  pub values : (n : ℤ) → plane_value p n ≡ windowed s chan n
+
 -- planes that hold the values of each channel
 pub record HoldChans (s : StreamFields) (chans : List PlanesFields) : Type 0 where
   pub count : length chans ≡ min (length s.values) (2 ^ 32)
-  pub each : (k : ℕ) (d : PlanesFields) → k < length chans → (n : ℤ) → plane_value (slice_index_or chans k d) n ≡ windowed s k n
+  pub each : (k : ℕ) (d : PlanesFields) → k < length chans → HoldsChan s k (slice_index_or chans k d)
 
 -- the same for the stream at a place
 abbrev pub IsRoomAt : List StreamFields → ℕ → List PlanesFields → Type 0

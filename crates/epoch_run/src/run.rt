@@ -1,8 +1,12 @@
 //! The workers of an epoch.
-ghost use Rattle.std.specs.Prelude.{◌≡◌, ◌≤◌, IfOk, length};
+ghost use Rattle.std.specs.Prelude.{◌≡◌, ◌<◌, ◌≤◌, ◌^◌, List, IfOk, length};
+ghost use Rattle.std.specs.List.{All};
+ghost use Rattle.station_stream.specs.Stream.{StreamFields};
+ghost use Rattle.epoch_run.specs.Planes.{HoldStreams, IsNumbered, planed};
 ghost use Rattle.epoch_run.specs.Streamed.{streamed};
 ghost use Rattle.epoch_run.specs.Sums.{IsSummed, cells_in_epoch, pieces_in_epoch};
 
+use crate::planes::EpochPlanes;
 use crate::team::{join_team, make_team, run_team};
 use crate::work::Work;
 use atomic_sums::EpochSums;
@@ -35,11 +39,66 @@ pub fn run_epoch<R: Threads + Sync, G: Gate + Sync>(
     ensures cells { IfOk result (λ sums. sums.cells ≡ cells_in_epoch (streamed streams.now) pairs.now samples plan.now) }
     ensures pieces { IfOk result (λ sums. sums.pieces ≡ pieces_in_epoch plan.now piece) }
 {
-    let work = Work::new(rt, alloc, streams, pairs, samples, plan, piece, workers)?;
+    let planes = EpochPlanes::build(rt, alloc, None, streams, pairs, workers)?;
+    sum_planes(
+        rt, alloc, &planes, pairs, samples, plan, piece, workers, gate,
+    )
+}
+
+/// The sums of an epoch as those of `run_epoch`, from the planes of its streams, which stay as they are: in a pair `a` and `b` are
+/// places among the stations of `planes`, `x` and `y` channels of these. All memory but that of the totals is taken before the
+/// first piece.
+pub fn sum_planes<R: Threads + Sync, G: Gate + Sync>(
+    rt: &R,
+    alloc: Global,
+    planes: &EpochPlanes,
+    pairs: &[Pair],
+    samples: u64,
+    plan: &EpochPlan,
+    piece: u64,
+    workers: u32,
+    gate: &G,
+) -> Result<EpochSums, AllocError>
+    requires epoch { IsSummed pairs.now samples plan.now piece }
+    requires workers { (1 ≤ workers) × (workers ≤ 64) }
+    ensures cells { IfOk result (λ sums. sums.cells ≡ cells_in_epoch (planed planes.now) pairs.now samples plan.now) }
+    ensures streams { IfOk result (λ sums. (streams : List StreamFields) → HoldStreams planes.now streams
+        → sums.cells ≡ cells_in_epoch (streamed streams) pairs.now samples plan.now) }
+    ensures pieces { IfOk result (λ sums. sums.pieces ≡ pieces_in_epoch plan.now piece) }
+{
+    are_numbered(pairs);
+    let work = Work::new(planes, pairs, samples, plan, piece);
     let shares = u64::from(workers);
     let (board, seat) = work.board(alloc, shares)?;
     let mut team = make_team(alloc, &board, seat, shares, plan.lags)?;
     run_team(rt, &work, &board, &mut team, gate);
     let seat = join_team(&board, team, &work);
-    work.sums(alloc, board, seat)
+    let sums = work.sums(alloc, board, seat)?;
+    Ok(sums)
+}
+
+// The numbers of each pair are those of stations and channels that planes are made for. The call does nothing: it brings this law.
+fn are_numbered(pairs: &[Pair])
+    ensures { All IsNumbered pairs.now }
+{
+    for pair in pairs {
+        is_numbered(pair);
+    }
+}
+
+// Those of a pair are.
+fn is_numbered(pair: &Pair)
+    ensures { IsNumbered pair.now }
+{
+    is_number(pair.a);
+    is_number(pair.x);
+    is_number(pair.b);
+    is_number(pair.y);
+}
+
+// A number of 32 bits is below 2^32.
+fn is_number(n: u32)
+    ensures { n < 2 ^ 32 }
+{
+    let _ = n;
 }

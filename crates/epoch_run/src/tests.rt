@@ -1,11 +1,12 @@
-//! Epochs of one station, which is paired with itself: a scan of 64 samples of level +3 in two frames, and no delay.
-ghost use Rattle.std.specs.Prelude.{◌≡◌, ◌≤◌, [], IfOk, IfSome, length};
+//! Epochs of one station, which is paired with itself: a scan of 64 samples of two bits in two frames, and no delay. Where nothing
+//! else is said all samples have the level +3.
+ghost use Rattle.std.specs.Prelude.{◌≡◌, ◌≤◌, ◌≤ℤ◌, pos, [], IfOk, IfSome, length};
 ghost use Rattle.std.specs.List.{All};
 ghost use Rattle.dev_traits.specs.Told.{WhereTold};
 ghost use Rattle.num_time.specs.Times.{IsSecond};
 ghost use Rattle.frame_index.specs.Recording.{IsOnShelf};
 
-use crate::run_epoch;
+use crate::{EpochPlanes, run_epoch, sum_planes};
 use atomic_sums::EpochSums;
 use corr_model::Pair;
 use delay_poly::{Poly, PolyEntry, PolyList};
@@ -35,21 +36,46 @@ const SHAPE: Shape = Shape {
     frames: 2,
 };
 
-// A frame of the scan's second.
-fn frame(number: u8) -> [u8; 40] {
+// The pair of each group.
+const PAIR: Pair = Pair {
+    a: 0,
+    x: 0,
+    b: 0,
+    y: 0,
+};
+
+// The scan as one epoch with two groups of one piece each.
+const PLAN: EpochPlan = EpochPlan {
+    scan: 0,
+    m: 0,
+    from: 0,
+    to: 64,
+    products: 2,
+    baselines: 1,
+    lags: 2,
+};
+
+// A byte of four samples of level +3.
+const HIGH: u8 = 0xFF;
+
+// A byte of four samples, one of each level.
+const EACH: u8 = 0xE4;
+
+// A frame of the scan's second, with `four` for each four samples.
+fn frame(number: u8, four: u8) -> [u8; 40] {
     let mut bytes = [0; 40];
     bytes[4] = number;
     bytes[7] = 20;
     bytes[8] = 5;
     bytes[12] = 1;
     bytes[15] = 4;
-    bytes[32..].fill(0xFF);
+    bytes[32..].fill(four);
     bytes
 }
 
 // A shelf with one file of both frames.
-fn shelf_of(alloc: Global) -> Result<MemShelf, AllocError> {
-    let (first, second) = (frame(0), frame(1));
+fn shelf_of(alloc: Global, four: u8) -> Result<MemShelf, AllocError> {
+    let (first, second) = (frame(0, four), frame(1, four));
     let slots: [&[u8]; 2] = [&first, &second];
     let name = String::from_str(alloc, "a.vdif")?;
     let files = vec![in alloc; (name, slots.concat(alloc)?)]?;
@@ -102,8 +128,10 @@ fn track_of<'a>(polys: &'a PolyList, clocks: &'a ClockList) -> Option<Track<'a>>
     Some(model.track())
 }
 
-// The stream of a recording.
-fn stream_of<F: Shelf>(alloc: Global, shelf: &mut F) -> Result<Stream, Fail> {
+// The stream of a recording, from its first sample up to, not including, `to`.
+fn stream_of<F: Shelf>(alloc: Global, shelf: &mut F, to: i64) -> Result<Stream, Fail>
+    requires { (pos 0 ≤ℤ to) × (to ≤ℤ pos 64) }
+{
     let files = [file_of(alloc, shelf, "a.vdif")?];
     let index = Index::build(alloc, shelf, &files, &SHAPE)?;
     let polys = polys_of(alloc)?;
@@ -123,10 +151,10 @@ fn stream_of<F: Shelf>(alloc: Global, shelf: &mut F) -> Result<Stream, Fail> {
         to: 64,
         chans: &[Some(chan)],
     };
-    Ok(Stream::load(alloc, shelf, &index, &part, 0, 64)?)
+    Ok(Stream::load(alloc, shelf, &index, &part, 0, to)?)
 }
 
-// The sums of the scan as one epoch with two groups of one piece each.
+// The sums of the scan.
 fn summed<R: Threads + Sync, G: Gate + Sync>(
     rt: &R,
     alloc: Global,
@@ -137,31 +165,47 @@ fn summed<R: Threads + Sync, G: Gate + Sync>(
     requires { (1 ≤ workers) × (workers ≤ 64) }
     ensures { IfOk result (λ sums. length sums.cells ≡ 4) }
 {
-    let pair = Pair {
-        a: 0,
-        x: 0,
-        b: 0,
-        y: 0,
-    };
-    let plan = EpochPlan {
-        scan: 0,
-        m: 0,
-        from: 0,
-        to: 64,
-        products: 2,
-        baselines: 1,
-        lags: 2,
-    };
     run_epoch(
         rt,
         alloc,
         &[stream],
-        &[pair, pair],
+        &[PAIR, PAIR],
         64,
-        &plan,
+        &PLAN,
         64,
         workers,
         gate,
+    )
+}
+
+// The planes of the scan.
+fn planed<R: Threads + Sync>(
+    rt: &R,
+    alloc: Global,
+    spare: Option<EpochPlanes>,
+    stream: Stream,
+) -> Result<EpochPlanes, AllocError> {
+    EpochPlanes::build(rt, alloc, spare, &[stream], &[PAIR, PAIR], 1)
+}
+
+// The sums of the scan from its planes.
+fn summed_planes<R: Threads + Sync>(
+    rt: &R,
+    alloc: Global,
+    planes: &EpochPlanes,
+) -> Result<EpochSums, AllocError>
+    ensures { IfOk result (λ sums. length sums.cells ≡ 4) }
+{
+    sum_planes(
+        rt,
+        alloc,
+        planes,
+        &[PAIR, PAIR],
+        64,
+        &PLAN,
+        64,
+        1,
+        &OpenGate::new(),
     )
 }
 
@@ -180,7 +224,7 @@ fn has_cells(rt: &impl Abort, sums: &EpochSums)
 #[test]
 fn two_pieces_by_one_worker(rt: HostRuntime) -> Result<(), Fail> {
     let alloc = rt.alloc();
-    let stream = stream_of(alloc, &mut shelf_of(alloc)?)?;
+    let stream = stream_of(alloc, &mut shelf_of(alloc, HIGH)?, 64)?;
     let sums = summed(&rt, alloc, stream, 1, &OpenGate::new())?;
     has_cells(&rt, &sums);
     Ok(())
@@ -191,9 +235,46 @@ fn two_pieces_by_one_worker(rt: HostRuntime) -> Result<(), Fail> {
 fn two_pieces_by_three_workers(rt: HostRuntime) -> Result<(), Fail> {
     let alloc = rt.alloc();
     let gate = HoldGate::new();
-    let stream = stream_of(alloc, &mut shelf_of(alloc)?)?;
+    let stream = stream_of(alloc, &mut shelf_of(alloc, HIGH)?, 64)?;
     let sums = summed(&rt, alloc, stream, 3, &gate)?;
     has_cells(&rt, &sums);
     assert!(rt; gate.saw_second());
+    Ok(())
+}
+
+#[test]
+fn planes_are_summed_twice(rt: HostRuntime) -> Result<(), Fail> {
+    let alloc = rt.alloc();
+    let stream = stream_of(alloc, &mut shelf_of(alloc, HIGH)?, 64)?;
+    let planes = planed(&rt, alloc, None, stream)?;
+    has_cells(&rt, &summed_planes(&rt, alloc, &planes)?);
+    has_cells(&rt, &summed_planes(&rt, alloc, &planes)?);
+    Ok(())
+}
+
+// The sums of the scan, built in the room of planes of other samples up to `to`.
+fn built_again<R: Threads + Sync>(
+    rt: &R,
+    alloc: Global,
+    four: u8,
+    to: i64,
+) -> Result<EpochSums, Fail>
+    requires { (pos 0 ≤ℤ to) × (to ≤ℤ pos 64) }
+    ensures { IfOk result (λ sums. length sums.cells ≡ 4) }
+{
+    let other = stream_of(alloc, &mut shelf_of(alloc, four)?, to)?;
+    let spare = planed(rt, alloc, None, other)?;
+    let stream = stream_of(alloc, &mut shelf_of(alloc, HIGH)?, 64)?;
+    let planes = planed(rt, alloc, Some(spare), stream)?;
+    Ok(summed_planes(rt, alloc, &planes)?)
+}
+
+// The planes that were there before have other values, another window, or both.
+#[test]
+fn planes_in_room_of_others(rt: HostRuntime) -> Result<(), Fail> {
+    let alloc = rt.alloc();
+    for (four, to) in [(EACH, 64), (HIGH, 32), (EACH, 0)] {
+        has_cells(&rt, &built_again(&rt, alloc, four, to)?);
+    }
     Ok(())
 }

@@ -5,36 +5,31 @@ ghost use Rattle.piece_claim.specs.State.{new_seat};
 ghost use Rattle.piece_claim.specs.Moves.{CanDraw};
 ghost use Rattle.atomic_sums.specs.Seats.{seat_of};
 ghost use Rattle.piece_plan.specs.Pieces.{per_group, pieces_of};
-ghost use Rattle.epoch_run.specs.Streamed.{streamed};
 ghost use Rattle.epoch_run.specs.Sums.{IsSummed, cells_in_epoch, pair_cells, pieces_in_epoch};
 ghost use Rattle.epoch_run.specs.Amounts.{IsBoardOf, HaveAmounts, amounts_of, cut_of};
-ghost use Rattle.epoch_run.specs.Planes.{HoldStreams};
-ghost use Rattle.epoch_run.specs.Levelled.{AllLevelled, IsWithin};
+ghost use Rattle.epoch_run.specs.Planes.{planed};
+ghost use Rattle.epoch_run.specs.Levelled.{IsWithin};
 ghost use Rattle.epoch_run.specs.Part.{IsPart};
 
 use crate::amounts::write_amounts;
-use crate::planes::StationPlanes;
+use crate::planes::EpochPlanes;
 use atomic_sums::{BoardSeat, EpochSums, SumBoard};
 use corr_model::{Cell, Pair};
 use dev_traits::Gate;
 use lag_kernel::plane_lags;
 use piece_plan::{EpochPlan, Piece, PiecePlan};
-use station_stream::Stream;
 use std::alloc::{AllocError, Global};
 use std::marker::Model;
-use std::thread::Threads;
 
-/// What the workers of an epoch read: the streams of its stations, the pair of each group in the order of the groups' numbers,
-/// the scan's length in samples, the epoch, the most samples in a piece, and the planes of the streams' channels.
+/// What the workers of an epoch read: the planes of its stations' channels, the pair of each group in the order of the groups'
+/// numbers, the scan's length in samples, the epoch, and the most samples in a piece.
 #[derive(Drop)]
 pub struct Work<'a> {
-    streams: &'a [Stream],
+    planes: &'a EpochPlanes,
     pairs: &'a [Pair],
     samples: u64,
     epoch: &'a EpochPlan,
     piece: u64,
-    planes: StationPlanes,
-    ghost held: { HoldStreams planes streams.now },
 }
 
 impl<'a> Model for Work<'a> {
@@ -44,7 +39,7 @@ impl<'a> Model for Work<'a> {
     ghost Value = { WorkFields };
 
     ghost view = { λ w. record {
-      streams = w.streams.now;
+      planes = w.planes.now;
       pairs = w.pairs.now;
       samples = w.samples;
       epoch = w.epoch.now;
@@ -52,7 +47,7 @@ impl<'a> Model for Work<'a> {
     } };
 
     ghost invariant = { λ w. IsWork (record {
-      streams = w.streams.now;
+      planes = w.planes.now;
       pairs = w.pairs.now;
       samples = w.samples;
       epoch = w.epoch.now;
@@ -61,38 +56,32 @@ impl<'a> Model for Work<'a> {
 }
 
 impl<'a> Work<'a> {
-    /// What the workers of an epoch read. In a pair `a` and `b` are places in `streams`, and `x` and `y` are channels of
-    /// these. It takes the memory for the planes of all their channels, and then fills them, by `workers` threads, 1 to 64.
-    pub fn new<R: Threads + Sync>(
-        rt: &R,
-        alloc: Global,
-        streams: &'a [Stream],
+    /// What the workers of an epoch read. In a pair `a` and `b` are places among the stations of `planes`, and `x` and `y` are
+    /// channels of these.
+    pub fn new(
+        planes: &'a EpochPlanes,
         pairs: &'a [Pair],
         samples: u64,
         plan: &'a EpochPlan,
         piece: u64,
-        workers: u32,
-    ) -> Result<Work<'a>, AllocError>
-        requires epoch { IsSummed pairs.now samples plan.now piece }
-        requires workers { 1 ≤ workers }
-        ensures { IfOk result (λ w. w ≡ record {
-          streams = streams.now;
+    ) -> Work<'a>
+        requires { IsSummed pairs.now samples plan.now piece }
+        ensures { result ≡ record {
+          planes = planes.now;
           pairs = pairs.now;
           samples = samples;
           epoch = plan.now;
           piece = piece;
-        }) }
+        } }
     {
-        are_levelled(streams);
-        let planes = StationPlanes::build(rt, alloc, streams, pairs, workers)?;
-        Ok(Work {
-            streams,
+        planes.is_levelled();
+        Work {
+            planes,
             pairs,
             samples,
             epoch: plan,
             piece,
-            planes,
-        })
+        }
     }
 
     /// The epoch's board, and its first seat, which has all shares, 1 to 64.
@@ -135,7 +124,7 @@ impl<'a> Work<'a> {
     fn sum_piece(&self, piece: &Piece, pair: &Pair, cells: &mut [Cell])
         requires part { IsPart self.now piece.now }
         requires cells { length cells.old ≡ self.now.epoch.lags }
-        ensures cells { cells.new ≡ pair_cells (streamed self.now.streams) self.now.samples self.now.epoch.lags piece.now.from piece.now.to pair.now }
+        ensures cells { cells.new ≡ pair_cells (planed self.now.planes) self.now.samples self.now.epoch.lags piece.now.from piece.now.to pair.now }
         ensures few { length cells.new ≤ 1024 }
         ensures within { All (λ c. IsWithin c (piece.now.to - piece.now.from)) cells.new }
     {
@@ -171,21 +160,12 @@ impl<'a> Work<'a> {
         requires shares { seat.state.shares ≡ board.sizes.shares }
         requires amounts { HaveAmounts self.now seat.state.finished }
         ensures cells { IfOk result
-            (λ sums. sums.cells ≡ cells_in_epoch (streamed self.now.streams) self.now.pairs self.now.samples self.now.epoch) }
+            (λ sums. sums.cells ≡ cells_in_epoch (planed self.now.planes) self.now.pairs self.now.samples self.now.epoch) }
         ensures pieces { IfOk result (λ sums. sums.pieces ≡ pieces_in_epoch self.now.epoch self.now.piece) }
     {
         let bias = 18 * (self.epoch.to - self.epoch.from);
         let totals = board.close(alloc, seat)?;
         Ok(totals.unbias(bias))
-    }
-}
-
-// Each value of the streams has components of magnitude 0, 1 or 3.
-fn are_levelled(streams: &[Stream])
-    ensures { AllLevelled (streamed streams.now) }
-{
-    for stream in streams {
-        stream.is_levelled();
     }
 }
 

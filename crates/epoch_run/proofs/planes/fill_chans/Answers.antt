@@ -1,8 +1,7 @@
-use Rattle.std.proofs.Common.{◌≡◌, ◌≢◌, ◌<◌, ◌∙◌, inl, inr, length, get_or, slice_set, ap, subst, sym, arith}
+use Rattle.std.proofs.Common.{◌≡◌, ◌≢◌, ◌<◌, ◌∙◌, inl, inr, length, get_or, slice_set, subst, sym, arith}
 use Rattle.std.proofs.lemmas.Bool.{cases_lt}
 use Rattle.std.proofs.lemmas.List.{get_or-set_same, get_or-set_other}
-use Rattle.bit_planes.specs.Planes.{PlanesFields, plane_value}
-use Rattle.station_stream.specs.Stream.{windowed}
+use Rattle.epoch_run.specs.Planes.{HoldsChan}
 use Rattle.epoch_run.proofs.planes.fill_chans.Goals as goal
 
 pub loop-chan-preserved : goal.loop-chan-preserved
@@ -13,15 +12,15 @@ loop-chan-preserved c =
     let chans = c.loop-chan.chans in
     let new = c.fill_chan.new.planes in
     record {
-      done = λ k d h n.
+      done = λ k d h.
           elim (cases_lt k chan) [
             | inl q ↦
-                let ne : k ≢ chan = omega (arith) in
-                ap (λ (p : PlanesFields). plane_value p n) (get_or-set_other chans chan k new d ne) ∙ old.done k d q n
+                let ne : k ≢ chan = omega arith in
+                subst (HoldsChan stream k) (sym (get_or-set_other chans chan k new d ne)) (old.done k d q)
             | inr q ↦
                 let same : chan ≡ k = omega arith in
-                subst (λ j. plane_value (get_or (slice_set chans chan new) j d) n ≡ windowed stream j n) same
-                (ap (λ (p : PlanesFields). plane_value p n) (get_or-set_same chans chan new d (omega arith)) ∙ c.fill_chan.ensures n)
+                subst (λ j. HoldsChan stream j (get_or (slice_set chans chan new) j d)) same
+                (subst (HoldsChan stream chan) (sym (get_or-set_same chans chan new d (omega arith))) c.fill_chan.ensures)
           ];
       left = λ k d behind.
           let ne : k ≢ chan = omega (arith, behind) in

@@ -3,7 +3,7 @@ use Rattle.std.proofs.lemmas.List.{take_all}
 use Rattle.std.proofs.Common.{All}
 use Rattle.epoch_run.specs.Levelled.{IsLevelled}
 use Rattle.epoch_run.proofs.Streams.{AllLevelled-streams}
-use Rattle.epoch_run.proofs.work.are_levelled.Goals as goal
+use Rattle.epoch_run.proofs.planes.are_levelled.Goals as goal
 
 pub returns : goal.returns
 returns c =

@@ -1,2 +1,3 @@
 pub mod ExtendLemmas
 pub mod RoomLemmas
+pub mod RefusedLemmas

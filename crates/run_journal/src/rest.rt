@@ -17,14 +17,15 @@ use checkpoint_journal::Journal;
 use dev_traits::{Disk, Gate, Shelf};
 use run_notes::Refusal;
 use run_ready::Ready;
-use run_sums::Ahead;
+use run_sums::{Ahead, Spare};
 use std::alloc::Global;
 use std::thread::Threads;
 
 /// Opens the job's journal, and reads, sums and appends every epoch that it does not keep yet, in their order, with `workers`
 /// threads for the sums, 1 to 64, and pieces of at most `piece` samples, 64 to 4,194,304. While an epoch is summed, the next one
-/// is read and the one before it is appended. What the journal kept is neither summed nor written again. Where the journal and
-/// the shelf fail at the same time, the fault is the journal's. The values of two epochs are in memory at most.
+/// is read, its planes are made, by as many threads again, and the one before it is appended. What the journal kept is neither
+/// summed nor written again. Where the journal and the shelf fail at the same time, the fault is the journal's. In memory are at
+/// most the planes of two epochs, the codes of one, and the room that epochs before them have left.
 pub fn resume<R: Threads + Sync, F: Shelf + Send, D: Disk + Send, G: Gate + Sync>(
     rt: &R,
     alloc: Global,
@@ -54,8 +55,9 @@ pub fn resume<R: Threads + Sync, F: Shelf + Send, D: Disk + Send, G: Gate + Sync
         sums: None,
         values: None,
     };
+    let mut spare = Spare::none(alloc);
     'epochs: while journal.kept() < count {
-        ahead = round(
+        let next = round(
             rt,
             alloc,
             ready,
@@ -63,10 +65,13 @@ pub fn resume<R: Threads + Sync, F: Shelf + Send, D: Disk + Send, G: Gate + Sync
             disk,
             &mut journal,
             &ahead,
+            &mut spare,
             workers,
             piece,
             gate,
         )?;
+        spare.keep(ahead.values);
+        ahead = next;
     }
     Ok(journal)
 }

@@ -19,12 +19,12 @@ use checkpoint_journal::{AppendFault, Journal};
 use dev_traits::{Disk, Gate, Shelf};
 use run_notes::Refusal;
 use run_ready::Ready;
-use run_sums::{Ahead, advance, behind};
+use run_sums::{Ahead, Spare, advance, behind};
 use std::alloc::Global;
 use std::thread::{Threads, join_mut};
 
-/// Appends the epoch that is summed, if one is, while the one behind it is summed and the next one read. A fault of the journal
-/// is answered before one of the shelf. What is summed in a round that fails is not kept.
+/// Appends the epoch that is summed, if one is, while the one behind it is summed and the next one read, in room of `spare`. A
+/// fault of the journal is answered before one of the shelf. What is summed in a round that fails is not kept.
 pub(crate) fn round<R: Threads + Sync, F: Shelf + Send, D: Disk + Send, G: Gate + Sync>(
     rt: &R,
     alloc: Global,
@@ -33,6 +33,7 @@ pub(crate) fn round<R: Threads + Sync, F: Shelf + Send, D: Disk + Send, G: Gate 
     disk: &mut D,
     journal: &mut Journal,
     ahead: &Ahead,
+    spare: &mut Spare,
     workers: u32,
     piece: u64,
     gate: &G,
@@ -70,6 +71,7 @@ pub(crate) fn round<R: Threads + Sync, F: Shelf + Send, D: Disk + Send, G: Gate 
             advance(
                 rt,
                 alloc,
+                spare,
                 ready,
                 shelf,
                 e,

@@ -3,3 +3,4 @@ pub mod PlaceLemmas
 pub mod FoundLemmas
 pub mod ReachLemmas
 pub mod SumsLemmas
+pub mod ValuesLemmas

@@ -1,12 +1,13 @@
 -- The sums of an epoch from the streams of its scan are those of the plan's definition.
-use Rattle.std.specs.Prelude.{flat_map, option_map, slice_get}
+use Rattle.std.specs.Prelude.{flat_map, option_map, slice_get, IfSome}
 use Rattle.std.specs.List.{range_with_len}
 use Rattle.std.specs.Option.{option_map_or}
-use Rattle.std.proofs.Common.{◌≡◌, ℕ, ◌*◌, ◌<◌, pos, ◌+ℤ◌, List, [], ◌∷◌, ◌++◌, length, map, Option, Some, refl, sym, ap, subst, ◌∙◌, arith}
+use Rattle.std.proofs.Common.{◌≡◌, ℕ, ◌*◌, ◌<◌, pos, ◌+ℤ◌, List, [], ◌∷◌, ◌++◌, length, map, Option, Some, None, refl, sym, ap, subst, ◌∙◌, arith}
 use Rattle.std.proofs.lemmas.List.{length-append, length-map}
 use Rattle.std.proofs.lemmas.List.Concat.{flat_map-append}
 use Rattle.std.proofs.lemmas.List.Folds.{flat_map-map}
 use Rattle.std.proofs.lemmas.List.FromFn.{length-map-range_with_len, get_or-map-range_with_len, fill_by_all}
+use Rattle.std.proofs.lemmas.Option.{same_Some, slice_get_within}
 use Rattle.dev_traits.specs.Told.{WhereTold}
 use Rattle.frame_index.proofs.ToldLemmas.{WhereTold-weaker}
 use Rattle.corr_model.specs.declared.cell.Cell.{Cell}
@@ -26,11 +27,14 @@ use Rattle.job_plan.specs.Values.{rotated}
 use Rattle.job_epochs.specs.Sums.{pair_of, lag_cells, baseline_cells, range_cells, epoch_sums, sums_of}
 use Rattle.job_epochs.specs.Sizes.{sizes_of}
 use Rattle.scan_values.specs.declared.values.ScanValues.{ScanValues}
+use Rattle.station_stream.specs.Stream.{StreamFields}
+use Rattle.epoch_run.specs.Planes.{HoldStreams}
 use Rattle.epoch_run.specs.Streamed.{streamed}
 use Rattle.epoch_run.specs.Sums.{pair_cells, cells_in_epoch}
 use Rattle.run_sums.specs.Found.{IsEpochOf, IsFound}
 use Rattle.run_ready.specs.declared.ready.Ready.{Ready}
-use Rattle.run_sums.specs.Reach.{AreReached, IsReached}
+use Rattle.run_sums.specs.declared.values.EpochValues.{EpochValues}
+use Rattle.run_sums.specs.Reach.{AreReached, HaveGroups, IsReached}
 use Rattle.run_sums.specs.Pairs.{placed_pair, pairs_in}
 use Rattle.run_sums.proofs.PlaceLemmas.{streamed-place}
 use Rattle.run_sums.proofs.FoundLemmas.{same-epoch, same-scan}
@@ -125,28 +129,48 @@ sums_of-reached plan job i e scan v files sums found cut are_cells are =
     ∙ sym (ap (λ o. option_map_or (epoch_sums plan files) o []) at
     ∙ ap (λ o. option_map_or (λ (s : ScanPlan). range_cells plan (rotated plan files s) s e.from e.to) o []) found.there)
 
--- the same from values that the epoch's lags reach, whichever way the epoch is found
-pub sums_of-values : (told : Option Files) (ready : Ready) (plan : Plan) (i : ℕ) (e : EpochPlan) (scan : ScanPlan) (v : ScanValues) (sums : List Cell)
+-- the same from planes of values that the epoch's lags reach, whichever way the epoch is found
+pub sums_of-values : (told : Option Files) (ready : Ready) (plan : Plan) (i : ℕ) (e : EpochPlan) (scan : ScanPlan) (v : EpochValues) (sums : List Cell)
     → plan ≡ ready.plan → IsFound plan ready.epochs i e scan
-    → sums ≡ cells_in_epoch (streamed v.streams.items) (pairs_in v plan scan) scan.samples e
+    → ((streams : List StreamFields) → HoldStreams v.planes streams → sums ≡ cells_in_epoch (streamed streams) v.pairs.items scan.samples e)
     → IsReached told ready i v → WhereTold told (λ (files : Files). sums ≡ sums_of ready.plan files i)
 sums_of-values told ready plan i e scan v sums same found are_cells reached =
-    let z : Samples = streamed v.streams.items in
+    let z : Samples = streamed reached.whole.streams.items in
+    let pairs : List Pair = pairs_in reached.whole ready.plan reached.scan in
     let here : IsFound ready.plan ready.epochs i e scan = subst (λ (p : Plan). IsFound p ready.epochs i e scan) same found in
     let epoch = same-epoch ready.plan ready.epochs i e reached.epoch scan reached.scan here reached.found in
     let of = same-scan ready.plan ready.epochs i e reached.epoch scan reached.scan here reached.found in
-    let cells : sums ≡ cells_in_epoch z (pairs_in v ready.plan reached.scan) reached.scan.samples reached.epoch =
-    are_cells ∙ ap (λ (p : Plan). cells_in_epoch z (pairs_in v p scan) scan.samples e) same
-    ∙ ap (λ (s : ScanPlan). cells_in_epoch z (pairs_in v ready.plan s) s.samples e) of
-    ∙ ap (λ (x : EpochPlan). cells_in_epoch z (pairs_in v ready.plan reached.scan) reached.scan.samples x) epoch in
-    WhereTold-weaker told (AreReached ready.plan reached.scan reached.epoch v) (λ (files : Files). sums ≡ sums_of ready.plan files i)
-    (λ files are. sums_of-reached ready.plan ready.epochs i reached.epoch reached.scan v files sums reached.found ready.cut cells are)
+    let cells : sums ≡ cells_in_epoch z pairs reached.scan.samples reached.epoch =
+    are_cells reached.whole.streams.items reached.held ∙ ap (λ (ps : List Pair). cells_in_epoch z ps scan.samples e) reached.pairs
+    ∙ ap (λ (s : ScanPlan). cells_in_epoch z pairs s.samples e) of
+    ∙ ap (λ (x : EpochPlan). cells_in_epoch z pairs reached.scan.samples x) epoch in
+    WhereTold-weaker told (AreReached ready.plan reached.scan reached.epoch reached.whole) (λ (files : Files). sums ≡ sums_of ready.plan files i)
+    (λ files are. sums_of-reached ready.plan ready.epochs i reached.epoch reached.scan reached.whole files sums reached.found ready.cut cells are)
     reached.values
 
-pub cells_of_epoch-found : (plan : Plan) (job : JobSizes) (i : ℕ) (e : EpochPlan) (scan : ScanPlan) (v : ScanValues) (sums : List Cell)
-    → IsFound plan job i e scan → sums ≡ cells_in_epoch (streamed v.streams.items) (pairs_in v plan scan) scan.samples e
+-- a cell for each lag of each group
+pub cells_of_epoch-found : (job : JobSizes) (i : ℕ) (e : EpochPlan) (z : Samples) (pairs : List Pair) (samples : ℕ) (sums : List Cell)
+    → slice_get (epochs_of job) i ≡ Some e → length pairs ≡ e.products * e.baselines → sums ≡ cells_in_epoch z pairs samples e
     → cells_of_epoch job i ≡ Some (length sums)
-cells_of_epoch-found plan job i e scan v sums found are_cells =
-    ap (option_map cell_count) found.at
-    ∙ ap Some (sym (ap length are_cells ∙ length-cells_in_epoch (streamed v.streams.items) (pairs_in v plan scan) scan.samples e
-    ∙ ap (λ n. n * e.lags) (length-pairs_in_epoch v plan scan e found.of_scan)))
+cells_of_epoch-found job i e z pairs samples sums at groups are_cells =
+    ap (option_map cell_count) at
+    ∙ ap Some (sym (ap length are_cells ∙ length-cells_in_epoch z pairs samples e ∙ ap (λ n. n * e.lags) groups))
+
+-- ---- the pairs of the epoch that is read
+
+pub groups-reached : (told : Option Files) (ready : Ready) (i : ℕ) (v : EpochValues) → IsReached told ready i v → HaveGroups ready i v
+groups-reached told ready i v reached e at =
+    let same : reached.epoch ≡ e = same_Some reached.epoch e (sym reached.found.at ∙ at) in
+    ap length reached.pairs ∙ length-pairs_in_epoch reached.whole ready.plan reached.scan reached.epoch reached.found.of_scan
+    ∙ ap (λ (x : EpochPlan). x.products * x.baselines) same
+
+-- the same where values are there
+pub groups_held : (told : Option Files) (ready : Ready) (i : ℕ) (o : Option EpochValues) → IfSome o (IsReached told ready i) → IfSome o (HaveGroups ready i)
+groups_held told ready i None reached = tt
+groups_held told ready i (Some v) reached = groups-reached told ready i v reached
+
+-- an epoch that is read is one of the job
+pub inside_held : (told : Option Files) (ready : Ready) (i : ℕ) (o : Option EpochValues) → IfSome o (IsReached told ready i)
+    → IfSome o (λ v. i < length (epochs_of ready.epochs))
+inside_held told ready i None reached = tt
+inside_held told ready i (Some v) reached = slice_get_within (epochs_of ready.epochs) i reached.epoch reached.found.at

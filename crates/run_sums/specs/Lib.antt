@@ -1,5 +1,5 @@
 pub mod Refused
 pub mod Found
+pub mod Pairs
 pub mod Reach
 pub mod Ahead
-pub mod Pairs

@@ -8,16 +8,17 @@ ghost use Rattle.station_stream.specs.Recorded.{AreRecorded};
 ghost use Rattle.epoch_run.specs.Sums.{pieces_in_epoch};
 ghost use Rattle.run_notes.specs.Counted.{CountsReads};
 ghost use Rattle.run_sums.specs.Ahead.{behind, AreSumsOf, IsAhead};
-ghost use Rattle.run_sums.specs.Reach.{IsReached};
+ghost use Rattle.run_sums.specs.Reach.{HaveGroups, IsReached};
 ghost use Rattle.run_sums.specs.Refused.{IsOfReads};
 
 use crate::reached::reach;
+use crate::spare::Spare;
 use crate::sums::sum;
+use crate::values::EpochValues;
 use atomic_sums::EpochSums;
 use dev_traits::{Gate, Shelf};
 use run_notes::Refusal;
 use run_ready::Ready;
-use scan_values::ScanValues;
 use std::alloc::{AllocError, Global};
 use std::thread::{Threads, join_mut};
 
@@ -26,7 +27,7 @@ use std::thread::{Threads, join_mut};
 #[derive(Drop)]
 pub struct Ahead {
     pub sums: Option<EpochSums>,
-    pub values: Option<ScanValues>,
+    pub values: Option<EpochValues>,
 }
 
 /// The epoch behind epoch `i` where something of that is there, and else epoch `i`.
@@ -40,16 +41,17 @@ pub fn behind<T>(held: &Option<T>, i: u64) -> u64
     }
 }
 
-/// Sums epoch `e` where its values are there, and reads those of the next one at the same time, where the job has such; with no
-/// values, those of epoch `e` are the next. `workers` and `piece` are as for `sum`. A read fault is answered before want of
-/// memory for the sums.
+/// Sums epoch `e` where its values are there, and reads those of the next one at the same time, where the job has such, in room
+/// of `spare`; with no values, those of epoch `e` are the next. `workers` and `piece` are as for `sum`. A read fault is answered
+/// before want of memory for the sums.
 pub fn advance<R: Threads + Sync, F: Shelf + Send, G: Gate + Sync>(
     rt: &R,
     alloc: Global,
+    spare: &mut Spare,
     ready: &Ready,
     shelf: &mut F,
     e: u64,
-    values: &Option<ScanValues>,
+    values: &Option<EpochValues>,
     workers: u32,
     piece: u64,
     gate: &G,
@@ -69,13 +71,17 @@ pub fn advance<R: Threads + Sync, F: Shelf + Send, G: Gate + Sync>(
     ensures counts { CountsReads (F.faults shelf.old) (F.faults shelf.new) result }
     ensures no_fall { F.faults shelf.old ≤ F.faults shelf.new }
 {
+    are_of_epoch(shelf, ready, values, e);
     let next = behind(values, e);
     let (read, summed) = join_mut(
         rt,
-        &mut || reach_next(alloc, ready, shelf, next),
+        &mut ||
+            requires recorded { WhereTold (F.told shelf.now) (λ files. AreRecorded files ready.now.plan.stations ready.now.recordings.items) }
+            requires workers { (1 ≤ workers) × (workers ≤ 64) }
+        { reach_next(rt, alloc, spare, ready, shelf, next, workers) },
         &mut ||
             requires inside { IfSome values.now (λ v. e < length (epochs_of ready.now.epochs)) }
-            requires few { IfSome values.now (λ v. length v.streams.items ≤ 32) }
+            requires groups { IfSome values.now (λ v. HaveGroups ready.now e v) }
             requires workers { (1 ≤ workers) × (workers ≤ 64) }
             requires piece { (64 ≤ piece) × (piece ≤ 4194304) }
         { sum_held(rt, alloc, ready, values, e, workers, piece, gate) },
@@ -85,14 +91,26 @@ pub fn advance<R: Threads + Sync, F: Shelf + Send, G: Gate + Sync>(
     Ok(Ahead { sums, values })
 }
 
+// Values that are read are those of an epoch of the job, with a pair for each of its groups. The call does nothing: it brings
+// this law.
+fn are_of_epoch<F: Shelf>(_shelf: &F, _ready: &Ready, _values: &Option<EpochValues>, _i: u64)
+    requires { IfSome _values.now (λ v. IsReached (F.told _shelf.now) _ready.now _i v) }
+    ensures inside { IfSome _values.now (λ v. _i < length (epochs_of _ready.now.epochs)) }
+    ensures groups { IfSome _values.now (λ v. HaveGroups _ready.now _i v) }
+{}
+
 // The values of epoch `i`, where the job has it.
-fn reach_next<F: Shelf>(
+fn reach_next<R: Threads + Sync, F: Shelf>(
+    rt: &R,
     alloc: Global,
+    spare: &mut Spare,
     ready: &Ready,
     shelf: &mut F,
     i: u64,
-) -> Result<Option<ScanValues>, Refusal>
+    workers: u32,
+) -> Result<Option<EpochValues>, Refusal>
     requires recorded { WhereTold (F.told shelf.old) (λ files. AreRecorded files ready.now.plan.stations ready.now.recordings.items) }
+    requires workers { (1 ≤ workers) × (workers ≤ 64) }
     ensures same { F.told shelf.new ≡ F.told shelf.old }
     ensures values { IfOk result (λ values. IfSome values (λ v. IsReached (F.told shelf.old) ready.now i v)) }
     ensures read { IfOk result (λ values. IsSome values ↔ (i < length (epochs_of ready.now.epochs))) }
@@ -101,7 +119,7 @@ fn reach_next<F: Shelf>(
     ensures no_fall { F.faults shelf.old ≤ F.faults shelf.new }
 {
     if i < ready.epochs.epochs() {
-        Ok(Some(reach(alloc, ready, shelf, i)?))
+        Ok(Some(reach(rt, alloc, spare, ready, shelf, i, workers)?))
     } else {
         Ok(None)
     }
@@ -112,14 +130,14 @@ fn sum_held<R: Threads + Sync, G: Gate + Sync>(
     rt: &R,
     alloc: Global,
     ready: &Ready,
-    values: &Option<ScanValues>,
+    values: &Option<EpochValues>,
     i: u64,
     workers: u32,
     piece: u64,
     gate: &G,
 ) -> Result<Option<EpochSums>, AllocError>
     requires inside { IfSome values.now (λ v. i < length (epochs_of ready.now.epochs)) }
-    requires few { IfSome values.now (λ v. length v.streams.items ≤ 32) }
+    requires groups { IfSome values.now (λ v. HaveGroups ready.now i v) }
     requires workers { (1 ≤ workers) × (workers ≤ 64) }
     requires piece { (64 ≤ piece) × (piece ≤ 4194304) }
     ensures sums { IfOk result (λ sums. (told : Option Files) → IfSome values.now (λ v. IsReached told ready.now i v)

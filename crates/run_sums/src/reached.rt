@@ -1,4 +1,4 @@
-//! The values that an epoch is summed from.
+//! The epoch that is read.
 ghost use Rattle.std.specs.Prelude.{◌≡◌, ◌<◌, ◌≤◌, IfOk, IfErr, length};
 ghost use Rattle.dev_traits.specs.Told.{WhereTold};
 ghost use Rattle.piece_plan.specs.Epochs.{epochs_of};
@@ -10,6 +10,8 @@ ghost use Rattle.run_sums.specs.Reach.{AreReached, IsReached};
 ghost use Rattle.run_sums.specs.Refused.{IsOfReads};
 
 use crate::epochs::found;
+use crate::spare::Spare;
+use crate::values::{EpochValues, planes_of};
 use crate::window::{reach_from, reach_to};
 use dev_traits::Shelf;
 use job_plan::{Plan, ScanPlan};
@@ -19,17 +21,23 @@ use run_ready::Ready;
 use scan_values::ScanValues;
 use station_stream::{Recording, StreamFault};
 use std::alloc::Global;
+use std::thread::Threads;
 
-/// Reads the values of the samples that the lags of epoch `i` reach. Epochs are counted from 0 through all scans and
-/// integrations of the job.
-pub fn reach<F: Shelf>(
+/// Reads the values of the samples that the lags of epoch `i` reach, and then makes their planes by `workers` threads, 1 to 64,
+/// both in room of `spare` where there is such. Epochs are counted from 0 through all scans and integrations of the job. A read
+/// fault is answered before want of memory for the planes.
+pub fn reach<R: Threads + Sync, F: Shelf>(
+    rt: &R,
     alloc: Global,
+    spare: &mut Spare,
     ready: &Ready,
     shelf: &mut F,
     i: u64,
-) -> Result<ScanValues, Refusal>
+    workers: u32,
+) -> Result<EpochValues, Refusal>
     requires recorded { WhereTold (F.told shelf.old) (λ files. AreRecorded files ready.now.plan.stations ready.now.recordings.items) }
     requires inside { i < length (epochs_of ready.now.epochs) }
+    requires workers { (1 ≤ workers) × (workers ≤ 64) }
     ensures same { F.told shelf.new ≡ F.told shelf.old }
     ensures values { IfOk result (λ v. IsReached (F.told shelf.old) ready.now i v) }
     ensures stage { IfErr result IsOfReads }
@@ -38,12 +46,18 @@ pub fn reach<F: Shelf>(
 {
     let plan = ready.plan.plan();
     let (e, scan) = found(plan, &ready.epochs, i);
-    load(alloc, shelf, plan, scan, &ready.recordings, &e)
+    let codes = &mut spare.codes;
+    let whole = load(alloc, codes, shelf, plan, scan, &ready.recordings, &e)?;
+    let planes = spare.planes.take();
+    let values = planes_of(rt, alloc, planes, plan, scan, &whole, workers)?;
+    whole.leave(&mut spare.codes);
+    Ok(values)
 }
 
 // The values of the samples that an epoch's lags reach.
 fn load<F: Shelf>(
     alloc: Global,
+    codes: &mut Vec<Vec<u8>>,
     shelf: &mut F,
     plan: &Plan,
     scan: &ScanPlan,
@@ -64,7 +78,7 @@ fn load<F: Shelf>(
 {
     let from = reach_from(e);
     let to = reach_to(e, scan.samples);
-    match ScanValues::load(alloc, shelf, plan, scan, recordings, from, to) {
+    match ScanValues::load_in(alloc, codes, shelf, plan, scan, recordings, from, to) {
         Ok(values) => Ok(values),
         Err(StreamFault::Read) => Err(Refusal::Read),
         Err(StreamFault::Memory) => Err(Refusal::Memory),

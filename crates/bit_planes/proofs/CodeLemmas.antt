@@ -1,12 +1,7 @@
 -- Values of codes.
-use Rattle.std.proofs.Common.{◌≡◌, ℕ, zero, suc, ◌+◌, ◌-◌, ◌/◌, ◌%◌, ◌<◌, ◌==◌, ◌&&◌, ◌||◌, unsigned_abs, ℤ, Bool, true, false, List, [], ◌∷◌, map, get_or, take, drop, replicate, length, ◌++◌, Some, None, IfSome, if◌then◌else◌, inl, inr, refl, sym, ap, ◌∙◌, arith}
+use Rattle.std.proofs.Common.{◌≡◌, ℕ, zero, suc, ◌+◌, ◌-◌, ◌<◌, ◌&&◌, Bool, true, List, get_or, take, drop, replicate, length, ◌++◌, inl, inr, refl, sym, ap, ◌∙◌, arith}
 use Rattle.std.proofs.lemmas.Bool.{and_parts, cases_lt}
-use Rattle.std.proofs.lemmas.Bool.Decides.{nat_tests}
 use Rattle.std.proofs.lemmas.List.{get_or_append_left, get_or-append_right, get_or-drop, get_or_past, take_rest}
-use Rattle.sample_unpack.specs.Level.{level_of}
-use Rattle.corr_model.specs.Rotated.{turned}
-use Rattle.value_codes.specs.Codes.{value_of}
-use Rattle.bit_planes.specs.Filled.{IsTernary, AreTernary}
 
 -- ---- tables
 
@@ -25,41 +20,9 @@ passed p (suc n) i h m =
           ap p same ∙ both.0
     ]
 
--- ---- ternary
-
-abbrev is_ternary : ℤ → Bool
-is_ternary x = unsigned_abs x == 0 || (unsigned_abs x == 1 || unsigned_abs x == 3)
-
-ternary : (x : ℤ) → is_ternary x ≡ true → IsTernary x
-ternary x h = grind (arith, nat_tests)
-
-abbrev are_ternary : ℕ → Bool
-are_ternary j = is_ternary (turned (level_of 2 (j / 16)) (j % 16)).0 && is_ternary (turned (level_of 2 (j / 16)) (j % 16)).1
-
-turned-ternary : (j : ℕ) → j < 64 → AreTernary (turned (level_of 2 (j / 16)) (j % 16))
-turned-ternary j h =
-    let value = turned (level_of 2 (j / 16)) (j % 16) in
-    let both = and_parts (is_ternary value.0) (is_ternary value.1) (passed are_ternary 64 j refl h) in
-    (ternary value.0 both.0, ternary value.1 both.1)
-
-pub value_of-ternary : (code : ℕ) → IfSome (value_of code) AreTernary
-value_of-ternary code = both (code == 0)
-  where
-    both : (t : Bool) → IfSome (if t then None else Some (turned (level_of 2 ((code - 1) / 16 % 4)) ((code - 1) % 16))) AreTernary
-    both true = tt
-    both false =
-        let level : (code - 1) % 64 / 16 ≡ (code - 1) / 16 % 4 = omega arith in
-        let sector : (code - 1) % 64 % 16 ≡ (code - 1) % 16 = omega arith in
-        rw (level, sector) at (turned-ternary ((code - 1) % 64) (omega arith))
-
 -- ---- lists of codes
 
-pub value_of-get_or : (codes : List ℕ) (k : ℕ) → get_or (map value_of codes) k None ≡ value_of (get_or codes k 0)
-value_of-get_or [] k = refl
-value_of-get_or (code ∷ codes) zero = refl
-value_of-get_or (code ∷ codes) (suc k) = value_of-get_or codes k
-
-pub zeros : (n k : ℕ) → get_or {A = ℕ} (replicate n 0) k 0 ≡ 0
+zeros : (n k : ℕ) → get_or {A = ℕ} (replicate n 0) k 0 ≡ 0
 zeros zero k = refl
 zeros (suc n) zero = refl
 zeros (suc n) (suc k) = zeros n k

@@ -1,27 +1,21 @@
 -- Levels by planes, and values by levels and runs.
-use Rattle.std.proofs.Common.{◌≡◌, ℕ, ◌+◌, ◌-◌, ◌*◌, ◌/◌, ◌%◌, ◌<◌, ◌==◌, ℤ, pos, int_lt, unsigned_abs, Bool, true, false, List, length, get_or, set, replicate, Some, None, if◌then◌else◌, inl, inr, refl, sym, subst, ap, ap₂, ◌∙◌, arith}
+use Rattle.std.proofs.Common.{◌≡◌, ℕ, ◌+◌, ◌*◌, ◌/◌, ◌%◌, ◌<◌, ◌==◌, ℤ, pos, int_lt, unsigned_abs, Bool, true, false, List, length, get_or, set, Some, None, if◌then◌else◌, inl, inr, refl, sym, ap, ap₂, ◌∙◌, arith}
 use Rattle.std.specs.Int.{bit_at}
-use Rattle.std.specs.Option.{option_map, ForSome}
+use Rattle.std.specs.Option.{option_map}
 use Rattle.std.proofs.lemmas.Bool.{cases_lt}
 use Rattle.std.proofs.lemmas.Bool.Decides.{nat_tests}
 use Rattle.std.proofs.lemmas.List.{get_or-set_same, get_or-set_other, get_or_past}
-use Rattle.std.proofs.lemmas.Nat.Bits.{bit_at-zero}
 use Rattle.sample_unpack.specs.Level.{level_of}
-use Rattle.corr_model.specs.Rotated.{turned}
 use Rattle.value_codes.specs.Codes.{value_of, high_of, low_of, direction_of, turned_by}
-use Rattle.level_sums.specs.Levels.{plane_bit, byte_bit}
-use Rattle.level_sums.specs.Held.{PlanesFields as LevelFields, CopiesFields, plane_level, plane_samples, copy_level, copy_samples}
+use Rattle.level_sums.specs.Levels.{plane_bit}
+use Rattle.level_sums.specs.Held.{plane_level}
 use Rattle.bit_planes.specs.declared.runs.LevelRuns.{LevelRuns}
-use Rattle.bit_planes.specs.Runs.{run_value, place_value, direction_at, AreRuns, AreCopied, IsRoom, AreSet, AreAsLong, HoldCodes}
+use Rattle.bit_planes.specs.Runs.{run_value, place_value, direction_at, AreRuns, IsRoom, AreSet, AreAsLong, HoldCodes}
 use Rattle.bit_planes.specs.Stretches.{code_direction}
-use Rattle.bit_planes.proofs.CodeLemmas.{zeros}
 use Rattle.bit_planes.proofs.RunLemmas.{direction_at-missed}
 use Rattle.bit_planes.proofs.TurnLemmas.{value_of-turned}
 
 -- ---- planes
-
-pub plane_bit-zeros : (n k : ℕ) → plane_bit (replicate n 0) k ≡ 0
-plane_bit-zeros n k = ap (λ w. bit_at w (k % 64)) (zeros n (k / 64)) ∙ bit_at-zero (k % 64)
 
 -- word i filled with the bits of codes that begin with code 64 * i
 pub plane_bit-filled : (f : ℕ → ℕ) (words codes part : List ℕ) (i word : ℕ) → i < length words
@@ -40,62 +34,46 @@ plane_bit-filled f words codes part i word h old new same k m =
           ∙ new (k % 64) (omega arith) ∙ ap f (same (k % 64) ∙ ap (λ n. get_or codes n 0) place)
     ]
 
--- levels of no code, by planes and by copies
-pub copy_level-none : (p : LevelFields) (c : CopiesFields) (words k : ℕ) → p.high ≡ replicate words 0 → p.low ≡ replicate words 0
-    → byte_bit c.high k ≡ 0 → byte_bit c.low k ≡ 0 → copy_level c k ≡ plane_level p k
-copy_level-none p c words k high low copied_high copied_low =
-    let h : plane_bit p.high k ≡ 0 = ap (λ (l : List ℕ). plane_bit l k) high ∙ plane_bit-zeros words k in
-    let l : plane_bit p.low k ≡ 0 = ap (λ (l : List ℕ). plane_bit l k) low ∙ plane_bit-zeros words k in
-    ap₂ (λ x y. level_of 2 (2 * x + y)) (copied_high ∙ sym h) (copied_low ∙ sym l)
-
 -- ---- values
 
-pub run_value-coded : (r : LevelRuns) (k code : ℕ) → code < 256 → direction_at r.runs.items k ≡ code_direction code
+pub run_value-coded : (r : LevelRuns) (k code : ℕ) → direction_at r.runs.items k ≡ code_direction code
     → ((code ≡ 0 → ⊥) → plane_bit r.levels.high k ≡ high_of code) → ((code ≡ 0 → ⊥) → plane_bit r.levels.low k ≡ low_of code)
     → run_value r k ≡ value_of code
-run_value-coded r k code h direction high low = both (code == 0) refl
+run_value-coded r k code direction high low = both (code == 0) refl
   where
     both : (b : Bool) → (code == 0) ≡ b → run_value r k ≡ value_of code
     both true e =
         let none : code_direction code ≡ None = ap (λ t. if t then None else Some (direction_of code)) e in
-        let empty : value_of code ≡ None = ap (λ t. if t then None else Some (turned (level_of 2 ((code - 1) / 16 % 4)) ((code - 1) % 16))) e in
+        let empty : value_of code ≡ None = ap (λ t. if t then None else Some (turned_by (level_of 2 (code / 64 % 4)) (direction_of code))) e in
         ap (option_map (turned_by (plane_level r.levels k))) (direction ∙ none) ∙ sym empty
     both false e =
         let there : code_direction code ≡ Some (direction_of code) = ap (λ t. if t then None else Some (direction_of code)) e in
         let some : code ≡ 0 → ⊥ = grind (arith, nat_tests) in
         ap (option_map (turned_by (plane_level r.levels k))) (direction ∙ there)
         ∙ ap₂ (λ x y. Some (turned_by (level_of 2 (2 * x + y)) (direction_of code))) (high some) (low some)
-        ∙ sym (value_of-turned code h some)
+        ∙ sym (value_of-turned code some)
 
 -- levels and runs that are set to those of codes
-pub HoldCodes-filled : (codes : List ℕ) (r : LevelRuns) → ((k : ℕ) → get_or codes k 0 < 256) → IsRoom (length codes) r
-    → ForSome r.copies (AreCopied r.levels (length codes)) → AreRuns r.runs.items (length codes)
+pub HoldCodes-filled : (codes : List ℕ) (r : LevelRuns) → IsRoom (length codes) r
+    → AreRuns r.runs.items (length codes)
     → ((k : ℕ) → direction_at r.runs.items k ≡ code_direction (get_or codes k 0))
     → AreSet codes r.levels (length codes)
     → HoldCodes codes r
-HoldCodes-filled codes r fits room copied runs directions set = record {
-  runs = record { long = room.long; even = room.even; copied = copied; runs = runs };
+HoldCodes-filled codes r room runs directions set = record {
+  runs = record { long = room.long; even = room.even; runs = runs };
   values = λ k. elim (cases_lt k (length codes)) [
-    | inl q ↦ run_value-coded r k (get_or codes k 0) (fits k) (directions k) (λ some. set.high k q) (λ some. set.low k q)
+    | inl q ↦ run_value-coded r k (get_or codes k 0) (directions k) (λ some. set.high k q) (λ some. set.low k q)
     | inr q ↦
         let past : get_or codes k 0 ≡ 0 = get_or_past codes k 0 q in
-        run_value-coded r k (get_or codes k 0) (fits k) (directions k) (λ some. absurd (some past)) (λ some. absurd (some past))
+        run_value-coded r k (get_or codes k 0) (directions k) (λ some. absurd (some past)) (λ some. absurd (some past))
   ];
 }
 
--- copies that are filled from planes
-pub ForSome-copied : (levels : LevelFields) (size : ℕ) (c : CopiesFields) → AreCopied levels size c → ForSome (Some c) (AreCopied levels size)
-ForSome-copied levels size c are x is =
-    let same : c ≡ x = cc in
-    subst (AreCopied levels size) same are
-
 -- room stays room, whatever levels and runs it has
-pub IsRoom-filled : (size : ℕ) (old new : LevelRuns) → IsRoom size old → AreAsLong old.levels new.levels
-    → ForSome new.copies (λ c. copy_samples c ≡ plane_samples old.levels) → IsRoom size new
-IsRoom-filled size old new room long copies = record {
+pub IsRoom-filled : (size : ℕ) (old new : LevelRuns) → IsRoom size old → AreAsLong old.levels new.levels → IsRoom size new
+IsRoom-filled size old new room long = record {
   long = omega (arith, room.long, long.high);
   even = long.low ∙ room.even ∙ sym long.high;
-  whole = λ c is. omega (arith, copies c is, long.high);
 }
 
 pub place_value-none : (r : LevelRuns) (n : ℤ) → length r.runs.items ≡ 0 → place_value r n ≡ None
@@ -110,11 +88,11 @@ place_value-none r n e = both (int_lt n (pos 0))
 -- ---- codes of levels and directions
 
 pub value_of-held : (high low d : ℕ) → high < 2 → low < 2 → d < 8
-    → value_of (32 * high + 16 * low + 2 * d + 1) ≡ Some (turned_by (level_of 2 (2 * high + low)) d)
+    → value_of (128 * high + 64 * low + 8 + d) ≡ Some (turned_by (level_of 2 (2 * high + low)) d)
 value_of-held high low d h l m =
-    let code : ℕ = 32 * high + 16 * low + 2 * d + 1 in
+    let code : ℕ = 128 * high + 64 * low + 8 + d in
     let some : (code == 0) ≡ false = grind (arith, nat_tests) in
-    let level : (code - 1) / 16 % 4 ≡ 2 * high + low = omega arith in
-    let sector : (code - 1) % 16 ≡ 2 * d = omega arith in
-    ap (λ t. if t then None else Some (turned (level_of 2 ((code - 1) / 16 % 4)) ((code - 1) % 16))) some
-    ∙ ap₂ (λ x y. Some (turned (level_of 2 x) y)) level sector
+    let level : code / 64 % 4 ≡ 2 * high + low = omega arith in
+    let direction : code % 8 ≡ d = omega arith in
+    ap (λ t. if t then None else Some (turned_by (level_of 2 (code / 64 % 4)) (code % 8))) some
+    ∙ ap₂ (λ x y. Some (turned_by (level_of 2 x) y)) level direction

@@ -2,8 +2,6 @@
 use Rattle.std.proofs.Common.{◌≡◌, ℕ, zero, suc, ◌+◌, ◌<◌, ◌≤◌, ◌==◌, Bool, true, false, cond, List, [], ◌∷◌, ◌++◌, length, get_or, Some, None, if◌then◌else◌, inl, inr, refl, sym, ap, ◌∙◌, arith, length-append}
 use Rattle.std.specs.List.{find}
 use Rattle.std.specs.Option.{option_map}
-use Rattle.std.specs.Int.{bit_at}
-use Rattle.std.proofs.lemmas.Nat.Bits.{bit_at_ones}
 use Rattle.std.proofs.lemmas.Bool.{cases_lt}
 use Rattle.std.proofs.lemmas.Bool.Decides.{nat_tests}
 use Rattle.std.proofs.lemmas.List.{get_or_append_left, get_or_at, get_or_past}
@@ -152,22 +150,10 @@ kind_direction-some kind some =
     let test : (kind == 8) ≡ false = grind (arith, nat_tests) in
     ap (λ t. if t then None else Some kind) test
 
--- a code of 64 that are all there and of one direction
-pub kind_of-all : (there directions k code kind : ℕ) → there ≡ 18446744073709551615 → directions ≡ 18446744073709551615 → k < 64
-    → bit_at there k ≡ (if code == 0 then 0 else 1) → bit_at directions k ≡ (if direction_of code == kind then 1 else 0)
-    → kind_of code ≡ kind
-kind_of-all there directions k code kind e f h value direction =
-    let ones : bit_at 18446744073709551615 k ≡ 1 = bit_at_ones 64 k h in
-    let some : cond (code == 0) zero 1 ≡ 1 = sym value ∙ ap (λ x. bit_at x k) e ∙ ones in
-    let same : cond (direction_of code == kind) 1 zero ≡ 1 = sym direction ∙ ap (λ x. bit_at x k) f ∙ ones in
-    both (code == 0) some (equal (direction_of code) kind same)
-  where
-    equal : (a b : ℕ) → cond (a == b) 1 zero ≡ 1 → a ≡ b
-    equal a b h = grind (arith, nat_tests)
-
-    both : (b : Bool) → cond b zero 1 ≡ 1 → direction_of code ≡ kind → (if b then 8 else direction_of code) ≡ kind
-    both true e q = absurd (omega arith)
-    both false e q = q
+pub kind_of-some : (code : ℕ) → (code ≡ 0 → ⊥) → kind_of code ≡ direction_of code
+kind_of-some code some =
+    let test : (code == 0) ≡ false = grind (arith, nat_tests) in
+    ap (λ t. if t then 8 else direction_of code) test
 
 -- the stretch goes on
 pub AreFound-far : (codes : List ℕ) (found : List Run) (s : Stretch) (n m : ℕ) → AreFound codes found s n → n ≤ m

@@ -1,11 +1,9 @@
 -- The directions of codes by bits.
-use Rattle.std.proofs.Common.{◌≡◌, ℕ, ◌+◌, ◌-◌, ◌*◌, ◌/◌, ◌%◌, ◌<◌, ◌==◌, ◌&&◌, ◌||◌, min, max, nat_lt, nat_le, ℤ, pos, ◌*ℤ◌, Bool, true, false, if◌then◌else◌, Some, None, refl, ap, ap₂, ◌∙◌, arith}
+use Rattle.std.proofs.Common.{◌≡◌, ℕ, ◌+◌, ◌-◌, ◌*◌, ◌/◌, ◌%◌, ◌<◌, ◌==◌, min, max, nat_lt, nat_le, ℤ, pos, ◌*ℤ◌, Bool, true, false, if◌then◌else◌, Some, None, refl, ap, ap₂, ◌∙◌, arith}
 use Rattle.std.specs.Int.{bit_at}
 use Rattle.std.specs.Ordering.{int_eq}
-use Rattle.std.proofs.lemmas.Bool.{and_parts}
 use Rattle.std.proofs.lemmas.Bool.Decides.{nat_tests, Decides-int_eq}
 use Rattle.sample_unpack.specs.Level.{level_of}
-use Rattle.corr_model.specs.Rotated.{turned}
 use Rattle.fringe_rotator.specs.Table.{cos3, sin3}
 use Rattle.value_codes.specs.Codes.{value_of, high_of, low_of, direction_of, turned_by}
 use Rattle.bit_planes.specs.declared.turned.Turns.{Turns}
@@ -65,31 +63,18 @@ by_bits some minus three = if some == 0 then pos 0 else signed minus (magnitude 
 abbrev shown : ℕ → ℤ → ℤ
 shown code x = by_bits (1 - none_bit x) ((1 - high_of code + minus_bit x) % 2) (1 - (high_of code + low_of code) % 2)
 
-abbrev is_shown : ℕ → Bool
-is_shown code =
-    code == 0
-    || (int_eq (shown code (cos3 (2 * direction_of code))) (level_of 2 ((code - 1) / 16 % 4) *ℤ cos3 ((code - 1) % 16))
-    && int_eq (shown code (sin3 (2 * direction_of code))) (level_of 2 ((code - 1) / 16 % 4) *ℤ sin3 ((code - 1) % 16)))
+-- the cosine or sine of the direction, times the level
+abbrev turned_part : (ℕ → ℤ) → ℕ → ℤ
+turned_part f code = level_of 2 (code / 64 % 4) *ℤ f (2 * direction_of code)
 
-right_of : (a b : Bool) → a ≡ false → (a || b) ≡ true → b ≡ true
-right_of false b e h = h
-right_of true b e h = absurd (cc)
+abbrev is_shown : (ℕ → ℤ) → ℕ → Bool
+is_shown f code = int_eq (shown code (f (2 * direction_of code))) (turned_part f code)
 
-shown_re : (code : ℕ) → code < 256 → (code == 0) ≡ false
-    → shown code (cos3 (2 * direction_of code)) ≡ level_of 2 ((code - 1) / 16 % 4) *ℤ cos3 ((code - 1) % 16)
-shown_re code h some =
-    let both = and_parts (int_eq (shown code (cos3 (2 * direction_of code))) (level_of 2 ((code - 1) / 16 % 4) *ℤ cos3 ((code - 1) % 16)))
-    (int_eq (shown code (sin3 (2 * direction_of code))) (level_of 2 ((code - 1) / 16 % 4) *ℤ sin3 ((code - 1) % 16)))
-    (right_of (code == 0) _ some (passed is_shown 256 code refl h)) in
-    (Decides-int_eq _ _).0 both.0
+shown_re : (code : ℕ) → code < 256 → shown code (cos3 (2 * direction_of code)) ≡ turned_part cos3 code
+shown_re code h = (Decides-int_eq _ _).0 (passed (is_shown cos3) 256 code refl h)
 
-shown_im : (code : ℕ) → code < 256 → (code == 0) ≡ false
-    → shown code (sin3 (2 * direction_of code)) ≡ level_of 2 ((code - 1) / 16 % 4) *ℤ sin3 ((code - 1) % 16)
-shown_im code h some =
-    let both = and_parts (int_eq (shown code (cos3 (2 * direction_of code))) (level_of 2 ((code - 1) / 16 % 4) *ℤ cos3 ((code - 1) % 16)))
-    (int_eq (shown code (sin3 (2 * direction_of code))) (level_of 2 ((code - 1) / 16 % 4) *ℤ sin3 ((code - 1) % 16)))
-    (right_of (code == 0) _ some (passed is_shown 256 code refl h)) in
-    (Decides-int_eq _ _).0 both.1
+shown_im : (code : ℕ) → code < 256 → shown code (sin3 (2 * direction_of code)) ≡ turned_part sin3 code
+shown_im code h = (Decides-int_eq _ _).0 (passed (is_shown sin3) 256 code refl h)
 
 -- the bits of a component of a code, its cosine or sine being x
 pub record PartAt (p : Part) (k there high low none turn : ℕ) : Type 0 where
@@ -113,32 +98,25 @@ pub word_value-coded : (w : Word) (t : Turns) (k code : ℕ) → code < 256 → 
 word_value-coded w t k code h there turns re im = both (code == 0) refl there
   where
     both : (b : Bool) → (code == 0) ≡ b → bit_at w.there k ≡ (if b then 0 else 1)
-        → word_value w k ≡ (if b then None else Some (turned (level_of 2 ((code - 1) / 16 % 4)) ((code - 1) % 16)))
+        → word_value w k ≡ (if b then None else Some (turned_by (level_of 2 (code / 64 % 4)) (direction_of code)))
     both true e one = ap (λ x. if x == 0 then None else Some (component w.re k, component w.im k)) one
     both false e one =
         let at : TurnsAt t k (direction_of code) = turns one in
-        let real : component w.re k ≡ level_of 2 ((code - 1) / 16 % 4) *ℤ cos3 ((code - 1) % 16) =
+        let real : component w.re k ≡ turned_part cos3 code =
         component-shown w.re k code (bit_at t.no_cos k) (bit_at t.minus_cos k) (cos3 (2 * direction_of code)) (rw one at re) at.no_cos at.minus_cos
-        ∙ shown_re code h e in
-        let imaginary : component w.im k ≡ level_of 2 ((code - 1) / 16 % 4) *ℤ sin3 ((code - 1) % 16) =
+        ∙ shown_re code h in
+        let imaginary : component w.im k ≡ turned_part sin3 code =
         component-shown w.im k code (bit_at t.no_sin k) (bit_at t.minus_sin k) (sin3 (2 * direction_of code)) (rw one at im) at.no_sin at.minus_sin
-        ∙ shown_im code h e in
+        ∙ shown_im code h in
         ap (λ x. if x == 0 then None else Some (component w.re k, component w.im k)) one
         ∙ ap₂ (λ x y. Some (x, y)) real imaginary
 
 -- ---- levels turned by a direction
 
-abbrev is_turned : ℕ → Bool
-is_turned code =
-    int_eq (level_of 2 ((code - 1) / 16 % 4) *ℤ cos3 ((code - 1) % 16)) (turned_by (level_of 2 (2 * high_of code + low_of code)) (direction_of code)).0
-    && int_eq (level_of 2 ((code - 1) / 16 % 4) *ℤ sin3 ((code - 1) % 16)) (turned_by (level_of 2 (2 * high_of code + low_of code)) (direction_of code)).1
-
-pub value_of-turned : (code : ℕ) → code < 256 → (code ≡ 0 → ⊥)
+pub value_of-turned : (code : ℕ) → (code ≡ 0 → ⊥)
     → value_of code ≡ Some (turned_by (level_of 2 (2 * high_of code + low_of code)) (direction_of code))
-value_of-turned code h some =
-    let v = turned (level_of 2 ((code - 1) / 16 % 4)) ((code - 1) % 16) in
-    let w = turned_by (level_of 2 (2 * high_of code + low_of code)) (direction_of code) in
+value_of-turned code some =
     let test : (code == 0) ≡ false = grind (arith, nat_tests) in
-    let both = and_parts (int_eq v.0 w.0) (int_eq v.1 w.1) (right_of (code == 0) (int_eq v.0 w.0 && int_eq v.1 w.1) test (passed (λ c. c == 0 || is_turned c) 256 code refl h)) in
-    ap (λ t. if t then None else Some v) test
-    ∙ ap₂ (λ x y. Some (x, y)) ((Decides-int_eq v.0 w.0).0 both.0) ((Decides-int_eq v.1 w.1).0 both.1)
+    let level : code / 64 % 4 ≡ 2 * high_of code + low_of code = omega arith in
+    ap (λ t. if t then None else Some (turned_by (level_of 2 (code / 64 % 4)) (direction_of code))) test
+    ∙ ap (λ c. Some (turned_by (level_of 2 c) (direction_of code))) level

@@ -6,11 +6,14 @@ use Rattle.std.proofs.lemmas.Bool.Decides.{nat_tests}
 use Rattle.std.proofs.lemmas.Int.{ints}
 use Rattle.std.proofs.lemmas.List.{get_or-set_same, get_or-set_other, get_or_append_left, get_or_at, get_or_past, length-append}
 use Rattle.std.proofs.lemmas.Nat.Bits.{bit_at_above}
-use Rattle.std.specs.Option.{ForSome, option_or}
+use Rattle.std.specs.Option.{ForSome, option_map, option_or}
 use Rattle.corr_model.specs.Cell.{Value}
 use Rattle.bit_planes.specs.declared.runs.LevelRuns.{LevelRuns}
-use Rattle.bit_planes.specs.Runs.{AreLevelRuns, IsRoom, HoldCodes, run_value, place_value}
-use Rattle.value_codes.specs.Codes.{value_of}
+use Rattle.bit_planes.specs.declared.runs.Run.{Run}
+use Rattle.bit_planes.specs.Runs.{AreRuns, AreLevelRuns, IsRoom, HoldCodes, direction_at, run_value, place_value}
+use Rattle.bit_planes.proofs.RunLemmas.{AreRuns-none, direction_at-none}
+use Rattle.level_sums.specs.Held.{plane_level}
+use Rattle.value_codes.specs.Codes.{value_of, turned_by}
 use Rattle.bit_planes.specs.declared.word.Word.{Word}
 use Rattle.bit_planes.specs.Word.{component, word_value}
 use Rattle.bit_planes.specs.Planes.{PlanesFields, ArePlanes, no_word, listed_value, held_value, plane_value, plane_bit, part_bit}
@@ -171,11 +174,6 @@ pub plane_value-listed : (p : PlanesFields) → ArePlanes p → 0 < length p.wor
     → plane_value p n ≡ listed_value p.words k
 plane_value-listed p are some n k e = plane_value-held p are n k e ∙ sym (are.words some k)
 
--- without words
-pub listed_value-empty : (words : List Word) (k : ℕ) → length words ≡ 0 → listed_value words k ≡ None
-listed_value-empty words k e =
-    ap (λ w. word_value w (k % 64)) (get_or_past words (k / 64) no_word (omega arith)) ∙ word_value-none (k % 64)
-
 -- where no value is held there is none
 pub plane_value-none : (p : PlanesFields) → ((k : ℕ) → held_value p.levels p.words k ≡ None) → (n : ℤ) → plane_value p n ≡ None
 plane_value-none p none n = both (int_le p.from n) (int_lt n p.to)
@@ -201,41 +199,28 @@ plane_value-placed p r are is place n e = both (int_lt place (pos 0)) refl
 
 -- ---- room
 
-pub ArePlanes-room : (from to : ℤ) (words : List Word) (r : LevelRuns) (size : ℕ) → pos 0 ≤ℤ from → to ≤ℤ pos (2 ^ 40)
-    → from +ℤ pos size ≡ to → words ≡ []
-    → AreLevelRuns size r → ((k : ℕ) → run_value r k ≡ None)
+pub run_value-none : (r : LevelRuns) (k : ℕ) → r.runs.items ≡ [] → run_value r k ≡ None
+run_value-none r k none =
+    ap (λ (l : List Run). option_map (turned_by (plane_level r.levels k)) (direction_at l k)) none
+    ∙ ap (option_map (turned_by (plane_level r.levels k))) (direction_at-none k)
+
+pub ArePlanes-empty : (from to : ℤ) (words : List Word) (r : LevelRuns) → pos 0 ≤ℤ from → to ≤ℤ pos (2 ^ 40) → from ≤ℤ to
+    → words ≡ [] → IsRoom (unsigned_abs (to -ℤ from)) r → r.runs.items ≡ []
     → ArePlanes (record { from = from; to = to; words = words; levels = Some r })
-ArePlanes-room from to words r size start end whole none runs empty =
-    let count : unsigned_abs (to -ℤ from) ≡ size = omega (arith, ints) in
+ArePlanes-empty from to words r start end order none room empty =
+    let size : ℕ = unsigned_abs (to -ℤ from) in
+    let runs : AreRuns r.runs.items size = subst (λ (l : List Run). AreRuns l size) (sym empty) (AreRuns-none size) in
+    let are : AreLevelRuns size r = record { long = room.long; even = room.even; runs = runs } in
     record {
       start = start;
-      order = omega (arith, ints);
+      order = order;
       end = end;
-      past = λ k h. empty k;
+      past = λ k h. run_value-none r k empty;
       levels = λ x is.
           let same : r ≡ x = cc in
-          subst (AreLevelRuns (unsigned_abs (to -ℤ from))) same (subst (λ n. AreLevelRuns n r) (sym count) runs);
+          subst (AreLevelRuns size) same are;
       words = λ h. absurd (omega (arith, ap length none));
     }
-
--- room in which levels hold no values
-pub ArePlanes-again : (from to : ℤ) (words : List Word) → pos 0 ≤ℤ from → to ≤ℤ pos (2 ^ 40) → from ≤ℤ to → words ≡ []
-    → ArePlanes (record { from = from; to = to; words = words; levels = None })
-ArePlanes-again from to words start end order none = record {
-  start = start;
-  order = order;
-  end = end;
-  past = λ k h. listed_value-empty words k (ap length none);
-  levels = λ x is. absurd (cc);
-  words = λ h k. refl;
-}
-
-pub IsRoom-held : (size : ℕ) (r : LevelRuns) → AreLevelRuns size r → IsRoom size r
-IsRoom-held size r are = record {
-  long = are.long;
-  even = are.even;
-  whole = λ c is. (are.copied c is).whole;
-}
 
 -- the levels of either are room
 pub ForSome-room : (size : ℕ) (a b : Option LevelRuns) → ForSome a (AreLevelRuns size) → ForSome b (IsRoom size)
@@ -243,13 +228,8 @@ pub ForSome-room : (size : ℕ) (a b : Option LevelRuns) → ForSome a (AreLevel
 ForSome-room size None b held spare = spare
 ForSome-room size (Some r) b held spare = λ x is.
     let same : r ≡ x = cc in
-    subst (IsRoom size) same (IsRoom-held size r (held r refl))
-
--- room for as many words
-pub IsRoom-again : (old new : ℕ) (o : Option LevelRuns) → (new + 63) / 64 ≡ (old + 63) / 64 → ForSome o (IsRoom old) → ForSome o (IsRoom new)
-IsRoom-again old new o e room x is =
-    let are = room x is in
-    record { long = omega (arith, are.long); even = are.even; whole = are.whole }
+    let are = held r refl in
+    subst (IsRoom size) same (record { long = are.long; even = are.even })
 
 -- ---- codes
 

@@ -1,11 +1,10 @@
 -- Values by two planes of levels and runs of one direction.
 use Rattle.std.specs.Prelude.{◌≡◌, ℕ, ◌<◌, ◌≤◌, ◌&&◌, Bool, nat_lt, nat_le, List, length, Option, None, option_map, ℤ, pos, int_lt, unsigned_abs, slice_index, slice_index_or, if◌then◌else◌}
-use Rattle.std.specs.Option.{ForSome}
 use Rattle.std.specs.List.{find}
 use Rattle.corr_model.specs.Cell.{Value}
 use Rattle.value_codes.specs.Codes.{value_of, high_of, low_of, turned_by}
 use Rattle.level_sums.specs.Levels.{plane_bit}
-use Rattle.level_sums.specs.Held.{PlanesFields as LevelFields, CopiesFields, plane_level, plane_samples, copy_level, copy_samples}
+use Rattle.level_sums.specs.Held.{PlanesFields as LevelFields, plane_level, plane_samples}
 use Rattle.bit_planes.specs.declared.runs.Run.{Run}
 use Rattle.bit_planes.specs.declared.runs.LevelRuns.{LevelRuns}
 
@@ -32,24 +31,16 @@ pub record AreRuns (runs : List Run) (size : ℕ) : Type 0 where
   pub inside : (i : ℕ) (d : Run) → i < length runs → (slice_index_or runs i d).to ≤ size
   pub turns : (i : ℕ) (d : Run) → i < length runs → (slice_index_or runs i d).direction < 8
 
--- copies of so many levels
-pub record AreCopied (levels : LevelFields) (size : ℕ) (copies : CopiesFields) : Type 0 where
-  pub long : size ≤ copy_samples copies
-  pub whole : copy_samples copies ≡ plane_samples levels
-  pub same : (k : ℕ) → k < size → copy_level copies k ≡ plane_level levels k
-
 -- levels and runs of so many places
 pub record AreLevelRuns (size : ℕ) (r : LevelRuns) : Type 0 where
   pub long : size ≤ plane_samples r.levels
   pub even : length r.levels.low ≡ length r.levels.high
-  pub copied : ForSome r.copies (AreCopied r.levels size)
   pub runs : AreRuns r.runs.items size
 
 -- room for the levels of so many places, whatever they are
 pub record IsRoom (size : ℕ) (r : LevelRuns) : Type 0 where
   pub long : size ≤ plane_samples r.levels
   pub even : length r.levels.low ≡ length r.levels.high
-  pub whole : ForSome r.copies (λ c. copy_samples c ≡ plane_samples r.levels)
 
 -- the levels up to place n are those of codes
 pub record AreSet (codes : List ℕ) (levels : LevelFields) (n : ℕ) : Type 0 where

@@ -32,6 +32,7 @@ pub(crate) fn set_words(words: &mut Vec<Word>, codes: &[u8])
     requires scan { length codes.now ≤ 2 ^ 40 }
     requires room { (length codes.now + 63) / 64 ≤ vec_capacity words.old }
     ensures room { vec_capacity words.old ≤ vec_capacity words.new }
+    ensures long { length words.new.items ≡ (length codes.now + 63) / 64 }
     ensures values { (k : ℕ) → listed_value words.new.items k ≡ value_of (slice_index codes.now k) }
 {
     let Ok(()) = words.resize((codes.len() + 63) >> 6, Word::NONE) else {

@@ -24,14 +24,14 @@ fn direction_at(runs: &[Run], k: u64) -> Option<u8>
     None
 }
 
-// A code of the level at place `k`, the lowest of its four bits being 0.
+// The two bits of the level at place `k`, where a code has them.
 fn level_code(levels: &LevelPlanes, k: u64) -> u8
     requires { k < plane_samples levels.now }
-    ensures { result ≡ 32 * plane_bit levels.now.high k + 16 * plane_bit levels.now.low k }
+    ensures { result ≡ 128 * plane_bit levels.now.high k + 64 * plane_bit levels.now.low k }
 {
     let (high, low) = levels.bits((k / 64) as usize);
     let shift = k % 64;
-    32 * (high >> shift & 1) as u8 + 16 * (low >> shift & 1) as u8
+    128 * (high >> shift & 1) as u8 + 64 * (low >> shift & 1) as u8
 }
 
 // A code of the value at place `k`.
@@ -40,7 +40,7 @@ fn held_code(held: &LevelRuns, k: u64) -> u8
     ensures { value_of result ≡ run_value held.now k }
 {
     match direction_at(&held.runs, k) {
-        Some(direction) => level_code(&held.levels, k) + 2 * direction + 1,
+        Some(direction) => level_code(&held.levels, k) + 8 + direction,
         None => 0,
     }
 }

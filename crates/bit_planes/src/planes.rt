@@ -3,9 +3,10 @@ ghost use Rattle.std.specs.Prelude.{◌≡◌, ◌<◌, ◌≤◌, ◌+◌, ◌/
 ghost use Rattle.std.specs.Int.{bit_at};
 ghost use Rattle.std.specs.Option.{ForSome};
 ghost use Rattle.std.specs.Vec.{vec_capacity};
+ghost use Rattle.level_sums.specs.Held.{plane_samples};
 ghost use Rattle.bit_planes.specs.Word.{word_value};
 ghost use Rattle.bit_planes.specs.Planes.{held_value, plane_value, plane_bit, size_of};
-ghost use Rattle.bit_planes.specs.Runs.{AreLevelRuns, HoldCodes, run_value};
+ghost use Rattle.bit_planes.specs.Runs.{AreLevelRuns, IsRoom, HoldCodes, run_value};
 ghost use Rattle.bit_planes.specs.Filled.{AreTernary};
 ghost use Rattle.value_codes.specs.Codes.{value_of};
 
@@ -78,9 +79,8 @@ impl Planes {
         })
     }
 
-    /// Room for the values of the samples from `from` up to, not including, `to`: none is there yet. `second` says whether
-    /// the station stands second in a pair, so that copies of its levels are wanted.
-    pub fn room(alloc: Global, from: i64, to: i64, second: bool) -> Result<Planes, AllocError>
+    /// Room for the values of the samples from `from` up to, not including, `to`: none is there yet.
+    pub fn room(alloc: Global, from: i64, to: i64) -> Result<Planes, AllocError>
         requires start { pos 0 ≤ℤ from }
         requires end { to ≤ℤ pos (2 ^ 40) }
         requires order { from ≤ℤ to }
@@ -89,53 +89,50 @@ impl Planes {
     {
         let size = samples_between(from, to);
         let words = no_words(alloc, size)?;
-        let levels = LevelRuns::room(alloc, size, second)?;
-        Ok(Planes {
-            from,
-            to,
-            words,
-            levels: Some(levels),
-            spare: None,
-        })
+        let levels = LevelRuns::room(alloc, size)?;
+        Ok(Planes::empty(words, levels, from, to))
     }
 
-    /// Room as `room` makes it, in the room of these planes where that is as large.
-    pub fn again(
-        self,
-        alloc: Global,
-        from: i64,
-        to: i64,
-        second: bool,
-    ) -> Result<Planes, AllocError>
+    /// Room as `room` makes it, in the room of these planes where that is large enough.
+    pub fn again(self, alloc: Global, from: i64, to: i64) -> Result<Planes, AllocError>
         requires start { pos 0 ≤ℤ from }
         requires end { to ≤ℤ pos (2 ^ 40) }
         requires order { from ≤ℤ to }
         ensures range { IfOk result (λ p. (p.from ≡ from) × (p.to ≡ to)) }
         ensures none { IfOk result (λ p. (n : ℤ) → plane_value p n ≡ None) }
     {
-        if !self.has_room(samples_between(from, to), second) {
-            drop(self);
-            return Planes::room(alloc, from, to, second);
+        let size = samples_between(from, to);
+        let words = self.words;
+        if let Some(levels) = self.levels.or(self.spare) {
+            if has_room(&words, &levels, size) {
+                return Ok(Planes::empty(words, levels, from, to));
+            }
         }
-        let mut words = self.words;
+        drop(words);
+        Planes::room(alloc, from, to)
+    }
+
+    // Planes without any value, in the room of words and of levels.
+    fn empty(words: Vec<Word>, levels: LevelRuns, from: i64, to: i64) -> Planes
+        requires start { pos 0 ≤ℤ from }
+        requires end { to ≤ℤ pos (2 ^ 40) }
+        requires order { from ≤ℤ to }
+        requires words { (unsigned_abs (to -ℤ from) + 63) / 64 ≤ vec_capacity words }
+        requires levels { IsRoom (unsigned_abs (to -ℤ from)) levels }
+        ensures range { (result.from ≡ from) × (result.to ≡ to) }
+        ensures none { (n : ℤ) → plane_value result n ≡ None }
+    {
+        let mut words = words;
+        let mut levels = levels;
         words.clear();
-        Ok(Planes {
+        levels.runs.clear();
+        Planes {
             from,
             to,
             words,
-            levels: None,
-            spare: self.levels.or(self.spare),
-        })
-    }
-
-    // Whether there is room for the words and levels of so many samples, with copies where they are wanted and only there.
-    fn has_room(&self, samples: u64, second: bool) -> bool
-        requires { samples ≤ 2 ^ 40 }
-        ensures { result ≡ true → (samples + 63) / 64 ≡ (size_of self.now + 63) / 64 }
-    {
-        let there = samples_between(self.from, self.to);
-        (is_alike(&self.levels, second) || is_alike(&self.spare, second))
-            && (samples + 63) >> 6 == (there + 63) >> 6
+            levels: Some(levels),
+            spare: None,
+        }
     }
 
     /// Sets the values to those of a code for each sample. Where the codes change their direction often, `levels` gives
@@ -158,6 +155,7 @@ impl Planes {
         requires shown { (n : ℤ) → self.old.from ≤ℤ n → n <ℤ self.old.to → plane_value self.old n ≡ value_of (slice_index codes.now (unsigned_abs (n -ℤ self.old.from))) }
         ensures range { (self.new.from ≡ self.old.from) × (self.new.to ≡ self.old.to) }
         ensures levels { self.new.levels ≡ self.old.levels }
+        ensures long { length self.new.words ≡ (length codes.now + 63) / 64 }
         ensures values { (n : ℤ) → plane_value self.new n ≡ plane_value self.old n }
     {
         set_words(&mut self.words, codes);
@@ -239,12 +237,13 @@ impl Planes {
     }
 }
 
-// Whether there are levels, with copies where they are wanted and only there.
-fn is_alike(room: &Option<LevelRuns>, second: bool) -> bool {
-    match room {
-        Some(room) => room.copies.is_some() == second,
-        None => false,
-    }
+// Whether there is room for the words and the levels of so many samples.
+fn has_room(words: &Vec<Word>, levels: &LevelRuns, samples: u64) -> bool
+    requires { samples ≤ 2 ^ 40 }
+    ensures words { result ≡ true → (samples + 63) / 64 ≤ vec_capacity words.now }
+    ensures levels { result ≡ true → samples ≤ plane_samples levels.now.levels }
+{
+    (samples + 63) >> 6 <= words.capacity() as u64 && samples <= levels.levels.samples()
 }
 
 // Sets the words to the values of the codes, and to none where levels and runs hold these.

@@ -1,15 +1,13 @@
 //! Runs of one direction, found in codes as their levels are set.
-ghost use Rattle.std.specs.Prelude.{◌≡◌, ◌<◌, ◌≤◌, ◌+◌, ◌*◌, ◌^◌, ◌==◌, ℕ, length, slice_index, if◌then◌else◌, true, IfOk, OnOk};
-ghost use Rattle.std.specs.Int.{bit_at};
+ghost use Rattle.std.specs.Prelude.{◌≡◌, ◌<◌, ◌≤◌, ◌+◌, ◌*◌, ◌^◌, ℕ, length, slice_index, true, IfOk, OnOk};
 ghost use Rattle.level_sums.specs.Held.{plane_samples};
-ghost use Rattle.value_codes.specs.Codes.{direction_of};
 ghost use Rattle.bit_planes.specs.Runs.{AreRuns, AreSet, AreAsLong, direction_at};
 ghost use Rattle.bit_planes.specs.Stretches.{kind_of, kind_direction, code_direction, AreFound};
 
 use crate::Run;
 use crate::levels::{set_last, set_word};
 use level_sums::LevelPlanes;
-use value_codes::direction_bits;
+use value_codes::{are_none, are_of};
 
 // There are more runs than there is room for.
 #[derive(Clone, Copy, Debug, PartialEq, Eq)]
@@ -41,21 +39,20 @@ fn kind_of(code: u8) -> u8
     if code == 0 {
         return GAP;
     }
-    code % 16 / 2
+    code % 8
 }
 
-// Whether the first 64 codes are of a kind, `there` saying by bits where there is a value.
+// Whether the first 64 codes are of a kind.
 #[inline(always)]
-fn are_all(codes: &[u8], there: u64, kind: u8) -> bool
+fn are_all(codes: &[u8], kind: u8) -> bool
     requires room { 64 ≤ length codes.now }
-    requires there { (k : ℕ) → k < 64 → bit_at there k ≡ (if slice_index codes.now k == 0 then 0 else 1) }
     requires kind { kind ≤ 8 }
     ensures { result ≡ true → (k : ℕ) → k < 64 → kind_of (slice_index codes.now k) ≡ kind }
 {
     if kind == GAP {
-        return there == 0;
+        return are_none(codes);
     }
-    there == u64::MAX && direction_bits(codes, kind) == u64::MAX
+    are_of(codes, kind)
 }
 
 // Adds the run of a stretch that ends before place `to`.
@@ -129,22 +126,20 @@ fn walk(
     Ok(stretch)
 }
 
-// The stretch 64 codes after code `n`, `there` saying by bits where these have a value.
+// The stretch 64 codes after code `n`.
 #[inline(always)]
 fn step_word(
     runs: &mut Vec<Run>,
     stretch: Stretch,
     codes: &[u8],
     n: usize,
-    there: u64,
     most: u64,
 ) -> Result<Stretch, TooMany>
     requires found { AreFound codes.now runs.old.items stretch n }
     requires inside { n + 64 ≤ length codes.now }
-    requires there { (k : ℕ) → k < 64 → bit_at there k ≡ (if slice_index codes.now (n + k) == 0 then 0 else 1) }
     ensures { IfOk result (λ s. AreFound codes.now runs.new.items s (n + 64)) }
 {
-    if are_all(&codes[n..], there, stretch.kind) {
+    if are_all(&codes[n..], stretch.kind) {
         return Ok(stretch);
     }
     walk(runs, stretch, codes, n, n + 64, most)
@@ -169,8 +164,9 @@ fn step_levels(
     ensures set { AreSet codes.now levels.new (64 * (i + 1)) }
     ensures found { IfOk result (λ s. AreFound codes.now runs.new.items s (64 * (i + 1))) }
 {
-    let there = set_word(levels, codes, i);
-    step_word(runs, stretch, codes, 64 * i, there, most)
+    let next = step_word(runs, stretch, codes, 64 * i, most);
+    set_word(levels, codes, i);
+    next
 }
 
 // Sets the levels to those of the codes, and gives the stretch at the last one.

@@ -155,6 +155,11 @@ fn is_filled(codes: &[u8], planes: &Planes, from: i64, n: i64) -> bool
     true
 }
 
+// The codes of the 4 levels turned by the 8 directions, and behind them none.
+fn numbered_code(n: u8) -> u8 {
+    if n < 32 { 64 * (n / 8) + 8 + n % 8 } else { 0 }
+}
+
 // Planes filled from 200 codes show their values, and first none.
 #[test]
 fn planes_of_codes(rt: HostRuntime) -> Result<(), Fail> {
@@ -162,9 +167,9 @@ fn planes_of_codes(rt: HostRuntime) -> Result<(), Fail> {
     let mut state = 1_u32;
     for code in codes.iter_mut() {
         state = state.wrapping_mul(1_664_525).wrapping_add(1_013_904_223);
-        *code = (state >> 24) as u8 % 65;
+        *code = numbered_code((state >> 24) as u8 % 36);
     }
-    let mut planes = Planes::room(rt.alloc(), 7, 207, false)?;
+    let mut planes = Planes::room(rt.alloc(), 7, 207)?;
     for i in 0..300_u16 {
         assert_eq!(rt; planes.at(i64::from(i) - 80), Word::NONE);
     }
@@ -180,11 +185,7 @@ fn code_of(n: usize, direction: u8) -> u8
     requires { direction < 8 }
 {
     let level = (n % 4) as u8;
-    if direction == 0 {
-        16 * level + 16
-    } else {
-        16 * level + 2 * direction
-    }
+    64 * level + 8 + direction
 }
 
 // Three runs, behind the first of which there is a gap.
@@ -206,7 +207,7 @@ fn runs_by_hand(rt: HostRuntime) -> Result<(), Fail> {
     for (n, code) in codes.iter_mut().enumerate() {
         *code = gapped_code(n);
     }
-    let mut planes = Planes::room(rt.alloc(), 7, 1307, true)?;
+    let mut planes = Planes::room(rt.alloc(), 7, 1307)?;
     planes.fill(&codes);
     for i in 0..1500_u16 {
         assert!(rt; is_filled(&codes, &planes, 7, i64::from(i) - 80));
@@ -214,7 +215,6 @@ fn runs_by_hand(rt: HostRuntime) -> Result<(), Fail> {
     let held = planes.levels();
     assert!(rt; held.is_some());
     if let Some(levels) = held {
-        assert!(rt; levels.copies.is_some());
         assert_eq!(rt; levels.runs.len(), 3);
         assert_eq!(rt;
             levels.runs.get(0).copied(),
@@ -251,7 +251,7 @@ fn words_beside_runs(rt: HostRuntime) -> Result<(), Fail> {
     for (n, code) in codes.iter_mut().enumerate() {
         *code = gapped_code(n);
     }
-    let mut planes = Planes::room(rt.alloc(), 7, 1307, false)?;
+    let mut planes = Planes::room(rt.alloc(), 7, 1307)?;
     planes.fill(&codes);
     let high = planes.word_at(3, 690);
     planes.fill_words(&codes);
@@ -268,17 +268,17 @@ fn turning_code(n: usize) -> u8 {
     code_of(n / 2, (n % 8) as u8)
 }
 
-// The room of planes is used again, for as many words and for fewer.
+// The room of planes is used again, whether their words or their levels hold the values.
 #[test]
 fn room_again(rt: HostRuntime) -> Result<(), Fail> {
     let mut codes = [0; 1300];
     for (n, code) in codes.iter_mut().enumerate() {
         *code = gapped_code(n);
     }
-    let mut planes = Planes::room(rt.alloc(), 7, 1307, true)?;
+    let mut planes = Planes::room(rt.alloc(), 7, 1307)?;
     planes.fill(&codes);
     planes.fill_words(&codes);
-    let mut planes = planes.again(rt.alloc(), 100, 1390, true)?;
+    let mut planes = planes.again(rt.alloc(), 100, 1390)?;
     for i in 0..1500_u16 {
         assert_eq!(rt; planes.at(i64::from(i)), Word::NONE);
     }
@@ -292,16 +292,66 @@ fn room_again(rt: HostRuntime) -> Result<(), Fail> {
     for i in 0..1500_u16 {
         assert!(rt; is_filled(&turning, &planes, 100, i64::from(i)));
     }
-    let mut planes = planes.again(rt.alloc(), 0, 1300, true)?;
+    let mut planes = planes.again(rt.alloc(), 0, 1300)?;
     planes.fill(&codes);
     assert!(rt; planes.levels().is_some());
     for i in 0..1500_u16 {
         assert!(rt; is_filled(&codes, &planes, 0, i64::from(i) - 80));
     }
-    let mut planes = planes.again(rt.alloc(), 3, 73, false)?;
+    Ok(())
+}
+
+// How many samples the room of the levels has, and how many runs there are.
+fn room_and_runs(planes: &Planes) -> Option<(u64, usize)> {
+    match planes.levels() {
+        Some(held) => Some((held.levels.samples(), held.runs.len())),
+        None => None,
+    }
+}
+
+// A room for 1300 samples, which are 21 words, is kept for 70 samples and then used for 1300 again; one for 70, which are 2 words,
+// is not used for 1300.
+#[test]
+fn room_of_another_length(rt: HostRuntime) -> Result<(), Fail> {
+    let mut codes = [0; 1300];
+    for (n, code) in codes.iter_mut().enumerate() {
+        *code = gapped_code(n);
+    }
+    let mut planes = Planes::room(rt.alloc(), 7, 1307)?;
+    planes.fill(&codes);
+    let mut planes = planes.again(rt.alloc(), 3, 73)?;
     planes.fill(&codes[660..730]);
+    assert_eq!(rt; room_and_runs(&planes), Some((1344, 1)));
     for i in 0..200_u16 {
         assert!(rt; is_filled(&codes[660..730], &planes, 3, i64::from(i) - 80));
+    }
+    let mut planes = planes.again(rt.alloc(), 0, 1300)?;
+    planes.fill(&codes);
+    assert_eq!(rt; room_and_runs(&planes), Some((1344, 3)));
+    for i in 0..1500_u16 {
+        assert!(rt; is_filled(&codes, &planes, 0, i64::from(i) - 80));
+    }
+    let short = Planes::room(rt.alloc(), 0, 70)?;
+    assert_eq!(rt; room_and_runs(&short), Some((128, 0)));
+    let mut planes = short.again(rt.alloc(), 0, 1300)?;
+    planes.fill(&codes);
+    assert_eq!(rt; room_and_runs(&planes), Some((1344, 3)));
+    Ok(())
+}
+
+// Room that is used again and not filled holds no value, by levels without runs.
+#[test]
+fn no_values_without_codes(rt: HostRuntime) -> Result<(), Fail> {
+    let mut codes = [0; 1300];
+    for (n, code) in codes.iter_mut().enumerate() {
+        *code = gapped_code(n);
+    }
+    let mut planes = Planes::room(rt.alloc(), 7, 1307)?;
+    planes.fill(&codes);
+    let planes = planes.again(rt.alloc(), 0, 1200)?;
+    assert_eq!(rt; room_and_runs(&planes), Some((1344, 0)));
+    for i in 0..1500_u16 {
+        assert_eq!(rt; planes.at(i64::from(i) - 80), Word::NONE);
     }
     Ok(())
 }
@@ -313,7 +363,7 @@ fn no_runs_of_turning_codes(rt: HostRuntime) -> Result<(), Fail> {
     for (n, code) in codes.iter_mut().enumerate() {
         *code = turning_code(n);
     }
-    let mut planes = Planes::room(rt.alloc(), 0, 1300, false)?;
+    let mut planes = Planes::room(rt.alloc(), 0, 1300)?;
     assert!(rt; planes.levels().is_some());
     planes.fill(&codes);
     assert!(rt; planes.levels().is_none());

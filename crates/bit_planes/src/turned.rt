@@ -62,7 +62,7 @@ fn coded_turns(codes: &[u8], there: u64) -> Turns
     requires { 64 ≤ length codes.now }
     ensures { (k : ℕ) → k < 64 → bit_at there k ≡ 1 → TurnsAt result k (direction_of (slice_index codes.now k)) }
 {
-    let direction = codes[0] % 16 / 2;
+    let direction = codes[0] % 8;
     if direction_bits(codes, direction) & there == there {
         turns_of(direction)
     } else {

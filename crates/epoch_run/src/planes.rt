@@ -7,7 +7,6 @@ ghost use Rattle.epoch_run.specs.Planes.{HoldStreams, HasRoom, HaveRoom, HaveRoo
 
 use crate::words::{are_in_runs, write_all};
 use bit_planes::Planes;
-use corr_model::Pair;
 use station_stream::Stream;
 use std::alloc::{AllocError, Global};
 use std::marker::Model;
@@ -36,24 +35,22 @@ impl Model for EpochPlanes {
 }
 
 impl EpochPlanes {
-    /// The planes of streams: station `a` is the stream at place `a`. `pairs` are those that are to be summed: in a pair `a` and
-    /// `b` are places in `streams`. `spare` is planes of an epoch that is over: their room is used again, station by station and
-    /// channel by channel, where it is as large as the window. The memory for all planes is taken first; then they are filled,
-    /// station by station, by `threads` threads, 1 to 64.
+    /// The planes of streams: station `a` is the stream at place `a`. `spare` is planes of an epoch that is over: their room is
+    /// used again, station by station and channel by channel, where it is large enough for the window. The memory for all planes
+    /// is taken first; then they are filled, station by station, by `threads` threads, 1 to 64.
     pub fn build<R: Threads + Sync>(
         rt: &R,
         alloc: Global,
         spare: Option<EpochPlanes>,
         streams: &[Stream],
-        pairs: &[Pair],
         threads: u32,
     ) -> Result<EpochPlanes, AllocError>
         requires { 0 < threads }
         ensures { IfOk result (λ p. HoldStreams p streams.now) }
     {
         are_levelled(streams);
-        let nothing = Planes::room(alloc, 0, 0, false)?;
-        let mut stations = rooms(alloc, left_by(alloc, spare), streams, pairs)?;
+        let nothing = Planes::room(alloc, 0, 0)?;
+        let mut stations = rooms(alloc, left_by(alloc, spare), streams)?;
         fill_streams(rt, streams, &mut stations, threads as usize);
         Ok(EpochPlanes { stations, nothing })
     }
@@ -85,16 +82,6 @@ fn are_levelled(streams: &[Stream])
     }
 }
 
-// Whether a station stands second in some pair.
-fn is_second(pairs: &[Pair], station: u32) -> bool {
-    for pair in pairs {
-        if pair.b == station {
-            return true;
-        }
-    }
-    false
-}
-
 // The planes that an epoch leaves, the last station first.
 fn left_by(alloc: Global, spare: Option<EpochPlanes>) -> Vec<Vec<Planes>> {
     let mut over = match spare {
@@ -113,13 +100,7 @@ fn chans_left_by(alloc: Global, station: Option<Vec<Planes>>) -> Vec<Planes> {
 }
 
 // Room for the values of the samples from `from` up to, not including, `to`, in that of planes that are over.
-fn room_in(
-    alloc: Global,
-    over: Option<Planes>,
-    from: i64,
-    to: i64,
-    second: bool,
-) -> Result<Planes, AllocError>
+fn room_in(alloc: Global, over: Option<Planes>, from: i64, to: i64) -> Result<Planes, AllocError>
     requires start { pos 0 ≤ℤ from }
     requires end { to ≤ℤ pos (2 ^ 40) }
     requires order { from ≤ℤ to }
@@ -127,8 +108,8 @@ fn room_in(
     ensures none { IfOk result (λ p. (n : ℤ) → plane_value p n ≡ None) }
 {
     match over {
-        Some(planes) => planes.again(alloc, from, to, second),
-        None => Planes::room(alloc, from, to, second),
+        Some(planes) => planes.again(alloc, from, to),
+        None => Planes::room(alloc, from, to),
     }
 }
 
@@ -137,29 +118,16 @@ fn chans_rooms(
     alloc: Global,
     mut over: Vec<Planes>,
     stream: &Stream,
-    second: bool,
 ) -> Result<Vec<Planes>, AllocError>
     ensures { IfOk result (λ chans. HaveRoom stream.now chans.items) }
 {
     stream.is_in_scan();
     let mut chans = Vec::new(alloc);
-    for chan in 0..stream.chans().min(1 << 32) {
-        let left = left_for(stream, chan as u32, over.pop());
-        let room = room_in(alloc, left, stream.from(), stream.to(), second)?;
+    for _ in 0..stream.chans().min(1 << 32) {
+        let room = room_in(alloc, over.pop(), stream.from(), stream.to())?;
         chans.push(room)?;
     }
     Ok(chans)
-}
-
-// Planes that are over, where a channel of a stream is there. One that the station lacks gets room of its own, which has runs,
-// none as it is.
-fn left_for(stream: &Stream, chan: u32, over: Option<Planes>) -> Option<Planes>
-    requires { chan < length stream.now.values }
-{
-    if stream.codes(chan).is_empty() {
-        return None;
-    }
-    over
 }
 
 // Room for those of each stream.
@@ -167,15 +135,13 @@ fn rooms(
     alloc: Global,
     mut over: Vec<Vec<Planes>>,
     streams: &[Stream],
-    pairs: &[Pair],
 ) -> Result<Vec<Vec<Planes>>, AllocError>
     ensures { IfOk result (λ stations. HaveRooms streams.now stations.items) }
 {
     let mut stations = Vec::new(alloc);
     for station in 0..streams.len().min(1 << 32) {
-        let second = is_second(pairs, station as u32);
         let left = chans_left_by(alloc, over.pop());
-        stations.push(chans_rooms(alloc, left, &streams[station as usize], second)?)?;
+        stations.push(chans_rooms(alloc, left, &streams[station])?)?;
     }
     Ok(stations)
 }

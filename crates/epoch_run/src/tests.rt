@@ -185,7 +185,7 @@ fn planed<R: Threads + Sync>(
     spare: Option<EpochPlanes>,
     stream: Stream,
 ) -> Result<EpochPlanes, AllocError> {
-    EpochPlanes::build(rt, alloc, spare, &[stream], &[PAIR, PAIR], 1)
+    EpochPlanes::build(rt, alloc, spare, &[stream], 1)
 }
 
 // The sums of the scan from its planes.

@@ -1,6 +1,6 @@
 -- Sums over values that are held are those of the scan.
 use Rattle.std.specs.Prelude.{◌&&◌, if◌then◌else◌}
-use Rattle.std.proofs.Common.{◌≡◌, ◌≢◌, set, get_or-set_other, get_or-set_same, below_more, ℕ, zero, suc, ◌+◌, ◌-◌, ◌/◌, ◌<◌, ◌≤◌, ℤ, pos, ◌+ℤ◌, ◌-ℤ◌, Bool, true, false, List, length, get_or, take, drop, Some, None, refl, sym, ap, ◌∙◌, arith}
+use Rattle.std.proofs.Common.{◌≡◌, ◌≢◌, set, get_or-set_other, get_or-set_same, below_more, ℕ, zero, suc, ◌+◌, ◌-◌, ◌*◌, ◌/◌, ◌^◌, ◌<◌, ◌≤◌, ℤ, pos, neg_ℤ, ◌≤ℤ◌, ◌+ℤ◌, ◌-ℤ◌, w64, FitsSigned, rules, Bool, true, false, List, length, get_or, take, drop, Some, None, refl, sym, ap, ◌∙◌, arith}
 use Rattle.std.proofs.lemmas.Int.{ints}
 use Rattle.std.proofs.Math.Dec.{leb}
 use Rattle.std.proofs.lemmas.Bool.{le-leb}
@@ -34,6 +34,21 @@ IsGrown-plus c d n m first second = record {
   im_high = omega (arith, ints, first.im_high, second.im_high);
   count = omega (arith, first.count, second.count);
 }
+
+-- among more pairs
+pub IsGrown-wider : (c : Cell) (n m : ℕ) → IsGrown c n → n ≤ m → IsGrown c m
+IsGrown-wider c n m grown h = record {
+  re_low = omega (arith, ints, grown.re_low);
+  re_high = omega (arith, ints, grown.re_high);
+  im_low = omega (arith, ints, grown.im_low);
+  im_high = omega (arith, ints, grown.im_high);
+  count = omega (arith, grown.count);
+}
+
+-- the parts of two cells fit together
+pub plus-fits : (x y : ℤ) (n m : ℕ) → neg_ℤ (pos (450 * n)) ≤ℤ x → x ≤ℤ pos (450 * n) → neg_ℤ (pos (450 * m)) ≤ℤ y → y ≤ℤ pos (450 * m)
+    → n + m ≤ 2 ^ 36 → FitsSigned w64 (x +ℤ y)
+plus-fits x y n m a b c d h = search rules
 
 -- a product with a value that is there only inside the scan
 pub product-inside : (u w : Value) (b : Bool) → (if b then product_of u w else no_cell) ≡ product_of u (if b then w else None)

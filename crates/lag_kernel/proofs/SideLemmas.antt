@@ -10,11 +10,10 @@ use Rattle.corr_model.specs.Lags.{lag_of}
 use Rattle.corr_model.proofs.CellLemmas.{cell_plus-none, cell_in-sum, cell_in-split, cell_in-values, same_cell}
 use Rattle.bit_planes.specs.Planes.{PlanesFields, plane_value}
 use Rattle.bit_planes.proofs.ValueLemmas.{plane_value-past, plane_value-before}
-use Rattle.lag_kernel.specs.declared.sides.First.{First}
-use Rattle.lag_kernel.specs.declared.sides.Second.{Second}
+use Rattle.lag_kernel.specs.declared.sides.Side.{Side}
 use Rattle.lag_kernel.specs.Planes.{plane_samples, plane_pair}
 use Rattle.lag_kernel.specs.Runs.{pairs_cell}
-use Rattle.lag_kernel.specs.Sides.{range_value, first_place, second_place, first_value, second_value, side_samples}
+use Rattle.lag_kernel.specs.Sides.{range_value, side_place, side_value, side_samples}
 use Rattle.lag_kernel.proofs.HeldLemmas.{sum_from-shift, inside-true}
 
 -- ---- the values of a range
@@ -61,8 +60,8 @@ range_value-planes p from to f first last values n = by (int_le p.from n) (int_l
         range_value-before from to f n (omega (arith, ints)) ∙ sym (plane_value-before p n before)
 
 -- cells of the same values
-pub side_samples-planes : (a : First) (b : Second) (p q : PlanesFields) (samples : ℕ) (lag : ℤ) (from to : ℕ)
-    → ((n : ℤ) → first_value a n ≡ plane_value p n) → ((n : ℤ) → second_value b n ≡ plane_value q n)
+pub side_samples-planes : (a b : Side) (p q : PlanesFields) (samples : ℕ) (lag : ℤ) (from to : ℕ)
+    → ((n : ℤ) → side_value a n ≡ plane_value p n) → ((n : ℤ) → side_value b n ≡ plane_value q n)
     → cell_in (side_samples a b) plane_pair samples lag from to ≡ cell_in (plane_samples p q) plane_pair samples lag from to
 side_samples-planes a b p q samples lag from to first second =
     cell_in-values (side_samples a b) (plane_samples p q) plane_pair plane_pair samples lag from to
@@ -78,41 +77,41 @@ either_none : (b : Bool) (c : Cell) → c ≡ no_cell → (if b then c else no_c
 either_none true c e = e
 either_none false c e = refl
 
-first-none : (a : First) (b : Second) (samples : ℕ) (lag : ℤ) (n : ℕ) → first_value a (pos n) ≡ None
+first-none : (a b : Side) (samples : ℕ) (lag : ℤ) (n : ℕ) → side_value a (pos n) ≡ None
     → product_at (side_samples a b) plane_pair samples lag n ≡ no_cell
 first-none a b samples lag n e =
-    either_none (is_inside (pos n +ℤ lag) samples) (product_of (first_value a (pos n)) (second_value b (pos n +ℤ lag)))
-    (ap (λ v. product_of v (second_value b (pos n +ℤ lag))) e)
+    either_none (is_inside (pos n +ℤ lag) samples) (product_of (side_value a (pos n)) (side_value b (pos n +ℤ lag)))
+    (ap (λ v. product_of v (side_value b (pos n +ℤ lag))) e)
 
-second-none : (a : First) (b : Second) (samples : ℕ) (lag : ℤ) (n : ℕ) → second_value b (pos n +ℤ lag) ≡ None
+second-none : (a b : Side) (samples : ℕ) (lag : ℤ) (n : ℕ) → side_value b (pos n +ℤ lag) ≡ None
     → product_at (side_samples a b) plane_pair samples lag n ≡ no_cell
 second-none a b samples lag n e =
-    either_none (is_inside (pos n +ℤ lag) samples) (product_of (first_value a (pos n)) (second_value b (pos n +ℤ lag)))
-    (ap (product_of (first_value a (pos n))) e ∙ of_none (first_value a (pos n)))
+    either_none (is_inside (pos n +ℤ lag) samples) (product_of (side_value a (pos n)) (side_value b (pos n +ℤ lag)))
+    (ap (product_of (side_value a (pos n))) e ∙ of_none (side_value a (pos n)))
 
-scan-none : (a : First) (b : Second) (samples : ℕ) (lag : ℤ) (n : ℕ) → pos samples ≤ℤ (pos n +ℤ lag)
+scan-none : (a b : Side) (samples : ℕ) (lag : ℤ) (n : ℕ) → pos samples ≤ℤ (pos n +ℤ lag)
     → product_at (side_samples a b) plane_pair samples lag n ≡ no_cell
 scan-none a b samples lag n h =
     let out : is_inside (pos n +ℤ lag) samples ≡ false = grind (arith, ints) in
-    ap (λ (x : Bool). if x then product_of (first_value a (pos n)) (second_value b (pos n +ℤ lag)) else no_cell) out
+    ap (λ (x : Bool). if x then product_of (side_value a (pos n)) (side_value b (pos n +ℤ lag)) else no_cell) out
 
 -- a sample that either station has not
-product-outside : (a : First) (b : Second) (samples lags i n : ℕ)
+product-outside : (a b : Side) (samples lags i n : ℕ)
     → (a.from ≤ n → n < a.to → b.from + lags / 2 ≤ n + i → n + i < b.to + lags / 2 → n + i < samples + lags / 2 → ⊥)
     → product_at (side_samples a b) plane_pair samples (lag_of lags i) n ≡ no_cell
 product-outside a b samples lags i n out =
     elim (cases_lt n a.from) [
-      | inl h ↦ first-none a b samples (lag_of lags i) n (range_value-before a.from a.to (first_place a) (pos n) (omega (arith, ints)))
+      | inl h ↦ first-none a b samples (lag_of lags i) n (range_value-before a.from a.to (side_place a) (pos n) (omega (arith, ints)))
       | inr h ↦ elim (cases_lt n a.to) [
-        | inr k ↦ first-none a b samples (lag_of lags i) n (range_value-past a.from a.to (first_place a) (pos n) (omega (arith, ints)))
+        | inr k ↦ first-none a b samples (lag_of lags i) n (range_value-past a.from a.to (side_place a) (pos n) (omega (arith, ints)))
         | inl k ↦ elim (cases_lt (n + i) (b.from + lags / 2)) [
           | inl l ↦
               second-none a b samples (lag_of lags i) n
-              (range_value-before b.from b.to (second_place b) (pos n +ℤ lag_of lags i) (omega (arith, ints)))
+              (range_value-before b.from b.to (side_place b) (pos n +ℤ lag_of lags i) (omega (arith, ints)))
           | inr l ↦ elim (cases_lt (n + i) (b.to + lags / 2)) [
             | inr m ↦
                 second-none a b samples (lag_of lags i) n
-                (range_value-past b.from b.to (second_place b) (pos n +ℤ lag_of lags i) (omega (arith, ints)))
+                (range_value-past b.from b.to (side_place b) (pos n +ℤ lag_of lags i) (omega (arith, ints)))
             | inl m ↦ elim (cases_lt (n + i) (samples + lags / 2)) [
               | inr o ↦ scan-none a b samples (lag_of lags i) n (omega (arith, ints))
               | inl o ↦ absurd (out h k l m o)
@@ -123,15 +122,15 @@ product-outside a b samples lags i n out =
     ]
 
 -- a sample that both have
-product-inside : (a : First) (b : Second) (samples n i j : ℕ) (lag : ℤ)
+product-inside : (a b : Side) (samples n i j : ℕ) (lag : ℤ)
     → a.from + i ≡ n → n < a.to → pos (b.from + j) ≡ pos n +ℤ lag → b.from + j < b.to → b.from + j < samples
-    → product_of (first_place a i) (second_place b j) ≡ product_at (side_samples a b) plane_pair samples lag n
+    → product_of (side_place a i) (side_place b j) ≡ product_at (side_samples a b) plane_pair samples lag n
 product-inside a b samples n i j lag e h g k l =
     let there : is_inside (pos n +ℤ lag) samples ≡ true = ap (λ m. is_inside m samples) (sym g) ∙ inside-true (b.from + j) samples l in
     ap₂ product_of
-    (sym (range_value-inside a.from a.to (first_place a) (pos n) i (ap pos e) (omega (arith, h, e))))
-    (sym (range_value-inside b.from b.to (second_place b) (pos n +ℤ lag) j g k))
-    ∙ sym (ap (λ (x : Bool). if x then product_of (first_value a (pos n)) (second_value b (pos n +ℤ lag)) else no_cell) there)
+    (sym (range_value-inside a.from a.to (side_place a) (pos n) i (ap pos e) (omega (arith, h, e))))
+    (sym (range_value-inside b.from b.to (side_place b) (pos n +ℤ lag) j g k))
+    ∙ sym (ap (λ (x : Bool). if x then product_of (side_value a (pos n)) (side_value b (pos n +ℤ lag)) else no_cell) there)
 
 -- ---- the cell of a lag
 
@@ -164,7 +163,7 @@ cell_in-clipped z pair samples lag at start end stop h k l before behind =
     ∙ none-cell_plus (c start end)
 
 -- no pair at all
-pub lag-none : (a : First) (b : Second) (samples lags i at stop : ℕ) → at ≤ stop
+pub lag-none : (a b : Side) (samples lags i at stop : ℕ) → at ≤ stop
     → ((n : ℕ) → at ≤ n → n < stop → a.from ≤ n → n < a.to
     → b.from + lags / 2 ≤ n + i → n + i < b.to + lags / 2 → n + i < samples + lags / 2 → ⊥)
     → no_cell ≡ cell_in (side_samples a b) plane_pair samples (lag_of lags i) at stop
@@ -172,17 +171,17 @@ lag-none a b samples lags i at stop order out =
     sym (cell_in-empty (side_samples a b) plane_pair samples (lag_of lags i) at stop order (λ n h k. product-outside a b samples lags i n (out n h k)))
 
 -- the pairs of the samples from `start` up to, not including, `end`, where no other is there
-pub lag-pairs : (a : First) (b : Second) (samples lags i at start end stop : ℕ)
+pub lag-pairs : (a b : Side) (samples lags i at start end stop : ℕ)
     → at ≤ start → start ≤ end → end ≤ stop
     → a.from ≤ start → end ≤ a.to
     → b.from + lags / 2 ≤ start + i → end + i ≤ b.to + lags / 2 → end + i ≤ samples + lags / 2
     → ((n : ℕ) → at ≤ n → n < start → a.from ≤ n → b.from + lags / 2 ≤ n + i → ⊥)
     → ((n : ℕ) → end ≤ n → n < stop → n < a.to → n + i < b.to + lags / 2 → n + i < samples + lags / 2 → ⊥)
-    → pairs_cell (first_place a) (start - a.from) (second_place b) (start + i - lags / 2 - b.from) (end - start)
+    → pairs_cell (side_place a) (start - a.from) (side_place b) (start + i - lags / 2 - b.from) (end - start)
     ≡ cell_in (side_samples a b) plane_pair samples (lag_of lags i) at stop
 unfolding pairs_cell
 lag-pairs a b samples lags i at start end stop h k l low high second_low second_high scan before behind =
-    sum_from-shift (λ m. product_of (first_place a (start - a.from + m)) (second_place b (start + i - lags / 2 - b.from + m)))
+    sum_from-shift (λ m. product_of (side_place a (start - a.from + m)) (side_place b (start + i - lags / 2 - b.from + m)))
     (product_at (side_samples a b) plane_pair samples (lag_of lags i)) start (end - start) each
     ∙ sym (cell_in-sum (side_samples a b) plane_pair samples (lag_of lags i) start end)
     ∙ sym (cell_in-clipped (side_samples a b) plane_pair samples (lag_of lags i) at start end stop h k l
@@ -190,7 +189,7 @@ lag-pairs a b samples lags i at start end stop h k l low high second_low second_
     (λ n p q. product-outside a b samples lags i n (λ r s t u v. behind n p q s u v)))
   where
     each : (m : ℕ) → m < end - start
-        → product_of (first_place a (start - a.from + m)) (second_place b (start + i - lags / 2 - b.from + m))
+        → product_of (side_place a (start - a.from + m)) (side_place b (start + i - lags / 2 - b.from + m))
         ≡ product_at (side_samples a b) plane_pair samples (lag_of lags i) (start + m)
     each m p =
         product-inside a b samples (start + m) (start - a.from + m) (start + i - lags / 2 - b.from + m) (lag_of lags i)

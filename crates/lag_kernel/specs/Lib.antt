@@ -5,3 +5,4 @@ pub mod Planes
 pub mod Turns
 pub mod Runs
 pub mod Sides
+pub mod Copies

@@ -12,7 +12,7 @@ ghost use Rattle.lag_kernel.specs.Planes.{plane_samples, plane_pair, plane_insid
 use crate::blocks::run_lags;
 use crate::lags::clear;
 use crate::masks::{word_before, word_inside};
-use crate::sides::{First, Second};
+use crate::sides::Side;
 use crate::words::word_cell;
 use bit_planes::{Planes, Word};
 use corr_model::Cell;
@@ -28,7 +28,7 @@ pub fn plane_lags(a: &Planes, b: &Planes, from: u64, to: u64, samples: u64, out:
     requires range { to - from ≤ 2 ^ 36 }
     ensures { out.new ≡ map (λ i. cell_in (plane_samples a.now b.now) plane_pair samples (lag_of (length out.old) i) from to) (range_with_len 0 (length out.old)) }
 {
-    match (First::of(a), Second::of(b)) {
+    match (Side::of(a), Side::of(b)) {
         (Some(first), Some(second)) => run_lags(&first, &second, from, to, samples, out),
         _ => word_lags(a, b, from, to, samples, out),
     }

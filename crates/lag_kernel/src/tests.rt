@@ -1,10 +1,10 @@
 //! The cells of planes are those of the values, sample by sample.
-ghost use Rattle.std.specs.Prelude.{◌≡◌, ◌+◌, ◌*◌, ◌%◌, ◌==◌, ◌≤◌, ℕ, pos, ◌≤ℤ◌, None, slice_index, slice_index_or, unsigned_abs, length, if◌then◌else◌, IfSome};
-ghost use Rattle.corr_model.specs.Cell.{is_inside};
+ghost use Rattle.std.specs.Prelude.{◌≡◌, ◌+◌, ◌*◌, ◌%◌, ◌==◌, ◌<◌, ◌≤◌, None, slice_index, slice_index_or, unsigned_abs, length, if◌then◌else◌, IfSome};
+ghost use Rattle.corr_model.specs.Cell.{AreSmall, is_inside};
 ghost use Rattle.value_codes.specs.Codes.{value_of};
 ghost use Rattle.lag_kernel.specs.declared.tests.TheConstants.{KINDS};
 
-use crate::sides::{First, Second};
+use crate::sides::Side;
 use crate::{plain_lags, plane_lags};
 use bit_planes::Planes;
 use corr_model::{Cell, Pair, Values};
@@ -104,90 +104,99 @@ fn plane_lags_are_plain_lags(rt: HostRuntime) -> Result<(), Fail> {
     same_cells(&rt, alloc, &Mixed::new(2), 1, 130, 131)
 }
 
-// Two stations' values of 1,400 samples by codes: runs of two directions, and gaps. Station 0 has those of the samples from 5
-// up to 1,305, and station 1 those of the samples from 70 up to 1,370.
+// Two stations' values by codes: runs of two directions, and gaps.
 #[derive(Drop)]
 struct Coded {
-    a: [u8; 1400],
-    b: [u8; 1400],
+    a: Vec<u8>,
+    b: Vec<u8>,
 }
 
-// The sector at a sample of station 0, none in a gap.
-fn first_sector(n: usize) -> Option<u8> {
-    match n {
+// The direction at a place of station 0, none in a gap.
+fn first_direction(place: usize) -> Option<u8> {
+    match place {
         0..5 | 265..305 => None,
-        305..1048 => Some(9),
+        305..1048 => Some(5),
         1305.. => None,
-        _ => Some(3),
+        _ => Some(2),
     }
 }
 
-// The sector at a sample of station 1, none in a gap.
-fn second_sector(n: usize) -> Option<u8> {
-    match n {
+// The direction at a place of station 1, none in a gap.
+fn second_direction(place: usize) -> Option<u8> {
+    match place {
         0..170 => None,
-        170..847 => Some(14),
+        170..847 => Some(7),
         1370.. => None,
-        _ => Some(4),
+        _ => Some(2),
     }
 }
 
-fn code_of(level: u8, sector: Option<u8>) -> u8 {
-    match sector {
-        Some(sector) => 1 + 16 * (level % 4) + sector % 16,
+fn code_of(level: u8, direction: Option<u8>) -> u8 {
+    match direction {
+        Some(direction) => 8 + 64 * (level % 4) + direction % 8,
         None => 0,
     }
 }
 
 impl Coded {
-    fn new(mut seed: u64) -> Coded {
-        let mut a = [0; 1400];
-        let mut b = [0; 1400];
-        for n in 0..1400_usize {
+    // So many samples, `scale` of them at each place.
+    fn new(alloc: Global, mut seed: u64, samples: usize, scale: usize) -> Result<Coded, AllocError>
+        requires { 0 < scale }
+    {
+        let mut a = Vec::new(alloc);
+        let mut b = Vec::new(alloc);
+        for n in 0..samples {
             seed = seed
                 .wrapping_mul(6_364_136_223_846_793_005)
                 .wrapping_add(1_442_695_040_888_963_407);
-            a[n] = code_of((seed >> 40 & 3) as u8, first_sector(n));
-            b[n] = code_of((seed >> 62) as u8, second_sector(n));
+            a.push(code_of((seed >> 40 & 3) as u8, first_direction(n / scale)))?;
+            b.push(code_of((seed >> 62) as u8, second_direction(n / scale)))?;
         }
-        Coded { a, b }
+        Ok(Coded { a, b })
     }
+}
+
+// The value of code number `n`, none before the first one and past the last one.
+fn value_at(codes: &[u8], n: i64) -> Option<(i8, i8)>
+    ensures value { result ≡ if is_inside n (length codes.now) then value_of (slice_index codes.now (unsigned_abs n)) else None }
+    ensures small { IfSome result AreSmall }
+{
+    if n < 0 || n as usize >= codes.len() {
+        return None;
+    }
+    value_of(codes[n as usize])
 }
 
 impl Values for Coded {
     ghost samples = { λ v station chan n.
-        if is_inside n 1400
-        then (if station % 2 == 0 then value_of (slice_index v.a (unsigned_abs n)) else value_of (slice_index v.b (unsigned_abs n)))
-        else None };
+        if station % 2 == 0
+        then (if is_inside n (length v.a.items) then value_of (slice_index v.a.items (unsigned_abs n)) else None)
+        else (if is_inside n (length v.b.items) then value_of (slice_index v.b.items (unsigned_abs n)) else None) };
 
     fn z(&self, station: u32, _chan: u32, n: i64) -> Option<(i8, i8)> {
-        if n < 0 || n >= 1400 {
-            return None;
-        }
         if station % 2 == 0 {
-            value_of(self.a[n as usize])
+            value_at(&self.a, n)
         } else {
-            value_of(self.b[n as usize])
+            value_at(&self.b, n)
         }
     }
 }
 
-// Planes of the samples from `from` on that hold these codes.
-fn filled(alloc: Global, codes: &[u8], from: i64, second: bool) -> Result<Planes, AllocError>
-    requires few { length codes.now ≤ 1400 }
-    requires low { pos 0 ≤ℤ from }
-    requires high { from ≤ℤ pos 100 }
-{
-    let mut planes = Planes::room(alloc, from, from + codes.len() as i64, second)?;
-    planes.fill(codes);
+// Planes of the codes from number `from` up to, not including, `to`.
+fn filled(alloc: Global, codes: &[u8], from: usize, to: usize) -> Result<Planes, AllocError> {
+    let to = to.min(codes.len()).min(40_000);
+    let from = from.min(to);
+    let mut planes = Planes::room(alloc, from as i64, to as i64)?;
+    planes.fill(&codes[from..to]);
     Ok(planes)
 }
 
 // Both ways over a range of a scan of this many samples, at so many lags.
 fn same_lags(
     rt: &impl Abort,
-    alloc: Global,
     v: &Coded,
+    a: &Planes,
+    b: &Planes,
     from: u64,
     to: u64,
     samples: u64,
@@ -195,17 +204,15 @@ fn same_lags(
 ) -> Result<(), Fail>
     requires order { from ≤ to }
     requires inside { to ≤ samples }
-    requires few { samples ≤ 2000 }
+    requires few { samples ≤ 40000 }
     requires even { lags % 2 ≡ 0 }
     requires most { lags ≤ 140 }
 {
-    let a = filled(alloc, &v.a[5..1305], 5, false)?;
-    let b = filled(alloc, &v.b[70..1370], 70, true)?;
-    assert!(rt; First::of(&a).is_some() && Second::of(&b).is_some());
+    assert!(rt; Side::of(a).is_some() && Side::of(b).is_some());
     let mut slow = [Cell::ZERO; 140];
     let mut fast = [Cell::ZERO; 140];
     plain_lags(v, &PAIR, from, to, samples, &mut slow[..lags]);
-    plane_lags(&a, &b, from, to, samples, &mut fast[..lags]);
+    plane_lags(a, b, from, to, samples, &mut fast[..lags]);
     assert_eq!(rt; fast.as_slice(), slow.as_slice());
     Ok(())
 }
@@ -214,14 +221,27 @@ fn same_lags(
 #[test]
 fn runs_are_plain_lags(rt: HostRuntime) -> Result<(), Fail> {
     let alloc = rt.alloc();
-    let v = Coded::new(1);
-    same_lags(&rt, alloc, &v, 0, 1500, 1500, 140)?;
-    same_lags(&rt, alloc, &v, 0, 1500, 1500, 2)?;
-    same_lags(&rt, alloc, &v, 0, 1380, 1400, 64)?;
-    same_lags(&rt, alloc, &v, 200, 200, 1400, 64)?;
-    same_lags(&rt, alloc, &v, 266, 1048, 1100, 140)?;
+    let v = Coded::new(alloc, 1, 1400, 1)?;
+    let a = filled(alloc, &v.a, 5, 1305)?;
+    let b = filled(alloc, &v.b, 70, 1370)?;
+    same_lags(&rt, &v, &a, &b, 0, 1500, 1500, 140)?;
+    same_lags(&rt, &v, &a, &b, 0, 1500, 1500, 2)?;
+    same_lags(&rt, &v, &a, &b, 0, 1380, 1400, 64)?;
+    same_lags(&rt, &v, &a, &b, 200, 200, 1400, 64)?;
+    same_lags(&rt, &v, &a, &b, 266, 1048, 1100, 140)?;
     for place in 0..64_u64 {
-        same_lags(&rt, alloc, &v, 128 + place, 900 - place, 1000, 64)?;
+        same_lags(&rt, &v, &a, &b, 128 + place, 900 - place, 1000, 64)?;
     }
-    same_lags(&rt, alloc, &Coded::new(2), 700, 1370, 1371, 140)
+    same_lags(&rt, &v, &a, &b, 700, 1370, 1371, 140)
+}
+
+// A range of more than one block. The second station's planes begin before the first one's, and neither at a whole byte.
+#[test]
+fn blocks_are_plain_lags(rt: HostRuntime) -> Result<(), Fail> {
+    let alloc = rt.alloc();
+    let v = Coded::new(alloc, 2, 36_000, 26)?;
+    let a = filled(alloc, &v.a, 133, 33_931)?;
+    let b = filled(alloc, &v.b, 67, 35_621)?;
+    same_lags(&rt, &v, &a, &b, 9, 35_990, 36_000, 140)?;
+    same_lags(&rt, &v, &a, &b, 101, 33_000, 33_003, 140)
 }

@@ -121,22 +121,23 @@ shifted_bits p bit low high k h first second m =
     ]
 
 abbrev pub third_word : ℕ → ℕ → ℕ → ℕ → ℕ
-third_word a m c n = bit_xor (bit_xor a c) (bit_and m n)
+third_word a m c d = bit_xor (bit_xor a c) (bit_and m (bit_xor c d))
 
-bit_at-third_word : (a m c n i : ℕ) → bit_at (third_word a m c n) i ≡ third_at (bit_at a) (bit_at m) (bit_at c) (bit_at n) i
-bit_at-third_word a m c n i = simp (bit_at_xor, bit_at_and)
+bit_at-third_word : (a m c d i : ℕ)
+    → bit_at (third_word a m c d) i ≡ third_at (bit_at a) (bit_at m) (bit_at c) (differ_at (bit_at c) (bit_at d)) i
+bit_at-third_word a m c d i = simp (bit_at_xor, bit_at_and)
 
-third_word-lt : (a m c n k : ℕ) → a < 2 ^ k → m < 2 ^ k → c < 2 ^ k → third_word a m c n < 2 ^ k
-third_word-lt a m c n k p q r =
-    let both : bit_and m n < 2 ^ k = omega (arith, and_le_l m n) in
-    xor_lt k (bit_xor a c) (bit_and m n) (xor_lt k a c p r) both
+third_word-lt : (a m c d k : ℕ) → a < 2 ^ k → m < 2 ^ k → c < 2 ^ k → third_word a m c d < 2 ^ k
+third_word-lt a m c d k p q r =
+    let both : bit_and m (bit_xor c d) < 2 ^ k = omega (arith, and_le_l m (bit_xor c d)) in
+    xor_lt k (bit_xor a c) (bit_and m (bit_xor c d)) (xor_lt k a c p r) both
 
-pub plane_third : (p m r n : List ℕ) (i : ℕ) → get_or p i 0 < 2 ^ 64 → get_or m i 0 < 2 ^ 64 → get_or r i 0 < 2 ^ 64
-    → nat_sum (third_at (plane_bit p) (plane_bit m) (plane_bit r) (plane_bit n)) (64 * i) 64
-    ≡ ones (third_word (get_or p i 0) (get_or m i 0) (get_or r i 0) (get_or n i 0))
-plane_third p m r n i h k l =
-    let x : ℕ = third_word (get_or p i 0) (get_or m i 0) (get_or r i 0) (get_or n i 0) in
-    nat_sum-same (third_at (plane_bit p) (plane_bit m) (plane_bit r) (plane_bit n)) (bit_at x) (64 * i) 0 64
-    (λ j q. rw (plane_bit-word p i j q, plane_bit-word m i j q, plane_bit-word r i j q, plane_bit-word n i j q, zero-add j)
-    (sym (bit_at-third_word (get_or p i 0) (get_or m i 0) (get_or r i 0) (get_or n i 0) j)))
-    ∙ sym (ones-sum x 64 (third_word-lt (get_or p i 0) (get_or m i 0) (get_or r i 0) (get_or n i 0) 64 h k l))
+pub plane_third : (p m r s : List ℕ) (i : ℕ) → get_or p i 0 < 2 ^ 64 → get_or m i 0 < 2 ^ 64 → get_or r i 0 < 2 ^ 64
+    → nat_sum (third_at (plane_bit p) (plane_bit m) (plane_bit r) (differ_at (plane_bit r) (plane_bit s))) (64 * i) 64
+    ≡ ones (third_word (get_or p i 0) (get_or m i 0) (get_or r i 0) (get_or s i 0))
+plane_third p m r s i h k l =
+    let x : ℕ = third_word (get_or p i 0) (get_or m i 0) (get_or r i 0) (get_or s i 0) in
+    nat_sum-same (third_at (plane_bit p) (plane_bit m) (plane_bit r) (differ_at (plane_bit r) (plane_bit s))) (bit_at x) (64 * i) 0 64
+    (λ j q. rw (plane_bit-word p i j q, plane_bit-word m i j q, plane_bit-word r i j q, plane_bit-word s i j q, zero-add j)
+    (sym (bit_at-third_word (get_or p i 0) (get_or m i 0) (get_or r i 0) (get_or s i 0) j)))
+    ∙ sym (ones-sum x 64 (third_word-lt (get_or p i 0) (get_or m i 0) (get_or r i 0) (get_or s i 0) 64 h k l))

@@ -10,7 +10,6 @@ use Rattle.std.proofs.lemmas.Nat.Bits.{bit_at-zero, bit_at_cat_low, bit_at_cat_h
 use Rattle.std.proofs.lemmas.Simd.{Each1-from_get_or, Each1-chunk, get_or-chunk, length-chunk, get_or_wider}
 use Rattle.level_sums.specs.Levels.{plane_bit, byte_bit}
 use Rattle.level_sums.specs.Counts.{words_of}
-use Rattle.level_sums.proofs.BitLemmas.{bit_at-mod}
 
 abbrev pub AreBytes : List ℕ → Type 0
 AreBytes p = (k : ℕ) → get_or p k 0 < 256
@@ -103,13 +102,3 @@ loaded_word p at h m =
     let place : at + 0 ≡ at = omega arith in
     let there = get_or-chunk at 1 (words_of p) 0 0 (omega arith) in
     ap (λ l. get_or l 0 0) one ∙ there ∙ ap (λ k. get_or (words_of p) k 0) place
-
-pub bits_loaded : (p : List ℕ) (at k : ℕ) → AreBytes p → at + 8 ≤ length p → k < 64
-    → bit_at (number_l 256 (chunk at 8 p) % 2 ^ 64) k ≡ byte_bit p (8 * at + k)
-bits_loaded p at k h m q =
-    let byte : at + k / 8 ≡ (8 * at + k) / 8 = omega arith in
-    let place : k % 8 ≡ (8 * at + k) % 8 = omega arith in
-    bit_at-mod (number_l 256 (chunk at 8 p)) 64 k q
-    ∙ bit_at-number (chunk at 8 p) k (Each1-chunk (λ x. x < 256) at 8 p (each_byte p h))
-    ∙ ap (λ b. bit_at b (k % 8)) (get_or-chunk at 8 p (k / 8) 0 (omega arith))
-    ∙ ap₂ (λ b i. bit_at (get_or p b 0) i) byte place

@@ -141,23 +141,24 @@ length-sum_words n a b c p q r =
     length-zip2 bit_xor (zip2 bit_xor a b) c (omega arith) ∙ half
 
 abbrev pub third_words : List ℕ → List ℕ → List ℕ → List ℕ → List ℕ
-third_words a m c n = zip2 bit_xor (zip2 bit_xor a c) (zip2 bit_and m n)
+third_words a m c d = zip2 bit_xor (zip2 bit_xor a c) (zip2 bit_and m (zip2 bit_xor c d))
 
-pub chunk_third : (p m r n : List ℕ) → AreWords p → AreWords m → AreWords r → (i k : ℕ)
-    → i + k ≤ length p → i + k ≤ length m → i + k ≤ length r → i + k ≤ length n
-    → nat_sum (third_at (plane_bit p) (plane_bit m) (plane_bit r) (plane_bit n)) (64 * i) (64 * k)
-    ≡ ones_all (third_words (chunk i k p) (chunk i k m) (chunk i k r) (chunk i k n))
+pub chunk_third : (p m r s : List ℕ) → AreWords p → AreWords m → AreWords r → (i k : ℕ)
+    → i + k ≤ length p → i + k ≤ length m → i + k ≤ length r → i + k ≤ length s
+    → nat_sum (third_at (plane_bit p) (plane_bit m) (plane_bit r) (differ_at (plane_bit r) (plane_bit s))) (64 * i) (64 * k)
+    ≡ ones_all (third_words (chunk i k p) (chunk i k m) (chunk i k r) (chunk i k s))
 unfolding nat_sum ones_all
-chunk_third p m r n hp hm hr i zero a b c d = refl
-chunk_third p m r n hp hm hr i (suc k) a b c d =
-    words-cons (third_at (plane_bit p) (plane_bit m) (plane_bit r) (plane_bit n)) i k
-    ∙ rw (chunk-cons i k p (omega arith), chunk-cons i k m (omega arith), chunk-cons i k r (omega arith), chunk-cons i k n (omega arith))
-    (ap₂ (λ x y. x + y) (plane_third p m r n i (hp i) (hm i) (hr i))
-    (chunk_third p m r n hp hm hr (suc i) k (omega arith) (omega arith) (omega arith) (omega arith)))
+chunk_third p m r s hp hm hr i zero a b c d = refl
+chunk_third p m r s hp hm hr i (suc k) a b c d =
+    words-cons (third_at (plane_bit p) (plane_bit m) (plane_bit r) (differ_at (plane_bit r) (plane_bit s))) i k
+    ∙ rw (chunk-cons i k p (omega arith), chunk-cons i k m (omega arith), chunk-cons i k r (omega arith), chunk-cons i k s (omega arith))
+    (ap₂ (λ x y. x + y) (plane_third p m r s i (hp i) (hm i) (hr i))
+    (chunk_third p m r s hp hm hr (suc i) k (omega arith) (omega arith) (omega arith) (omega arith)))
 
-pub length-third_words : (k : ℕ) (a m c n : List ℕ) → length a ≡ k → length m ≡ k → length c ≡ k → length n ≡ k
-    → length (third_words a m c n) ≡ k
-length-third_words k a m c n p q r s =
+pub length-third_words : (k : ℕ) (a m c d : List ℕ) → length a ≡ k → length m ≡ k → length c ≡ k → length d ≡ k
+    → length (third_words a m c d) ≡ k
+length-third_words k a m c d p q r s =
     let high : length (zip2 bit_xor a c) ≡ k = length-zip2 bit_xor a c (p ∙ sym r) ∙ p in
-    let both : length (zip2 bit_and m n) ≡ k = length-zip2 bit_and m n (q ∙ sym s) ∙ q in
-    length-zip2 bit_xor (zip2 bit_xor a c) (zip2 bit_and m n) (high ∙ sym both) ∙ high
+    let unit : length (zip2 bit_xor c d) ≡ k = length-zip2 bit_xor c d (r ∙ sym s) ∙ r in
+    let both : length (zip2 bit_and m (zip2 bit_xor c d)) ≡ k = length-zip2 bit_and m (zip2 bit_xor c d) (q ∙ sym unit) ∙ q in
+    length-zip2 bit_xor (zip2 bit_xor a c) (zip2 bit_and m (zip2 bit_xor c d)) (high ∙ sym both) ∙ high

@@ -3,7 +3,6 @@ pub mod BitLemmas
 pub mod LaneLemmas
 pub mod ByteLemmas
 pub mod ProductLemmas
-pub mod CopyLemmas
 pub mod FillLemmas
 pub mod VectorLemmas
 pub mod StretchLemmas

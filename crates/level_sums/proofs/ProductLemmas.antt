@@ -95,6 +95,13 @@ level_sum-high ha la hb lb p q r s i j (suc n) =
     let v : ℕ = j + (0 + n) in
     omega (arith, ints, level_sum-high ha la hb lb p q r s i j n, one_product (ha u) (la u) (hb v) (lb v) (p u) (q u) (r v) (s v))
 
+sum-bounds : (ha la hb lb : Bits) → AreBits ha → AreBits la → AreBits hb → AreBits lb → (i j n : ℕ) (x : ℤ)
+    → x ≡ level_sum (level_at ha la) i (level_at hb lb) j n → (neg_ℤ (pos (9 * n)) ≤ℤ x) × (x ≤ℤ pos (9 * n))
+sum-bounds ha la hb lb p q r s i j n x e =
+    let low = level_sum-low ha la hb lb p q r s i j n in
+    let high = level_sum-high ha la hb lb p q r s i j n in
+    (omega (arith, ints, e, low), omega (arith, ints, e, high))
+
 pub plane_bits-are : (p : List ℕ) → AreBits (plane_bit p)
 plane_bits-are p i = bit_at-lt _ _
 
@@ -102,12 +109,19 @@ pub byte_bits-are : (p : List ℕ) → AreBits (byte_bit p)
 byte_bits-are p i = bit_at-lt _ _
 
 pub stretch-bounds : (p q r s : List ℕ) (i j n : ℕ) (x : ℤ)
+    → x ≡ level_sum (level_at (plane_bit p) (plane_bit q)) i (level_at (plane_bit r) (plane_bit s)) j n
+    → (neg_ℤ (pos (9 * n)) ≤ℤ x) × (x ≤ℤ pos (9 * n))
+stretch-bounds p q r s =
+    sum-bounds (plane_bit p) (plane_bit q) (plane_bit r) (plane_bit s)
+    (plane_bits-are p) (plane_bits-are q) (plane_bits-are r) (plane_bits-are s)
+
+-- the same, with the second station's planes in bytes
+pub copy-bounds : (p q r s : List ℕ) (i j n : ℕ) (x : ℤ)
     → x ≡ level_sum (level_at (plane_bit p) (plane_bit q)) i (level_at (byte_bit r) (byte_bit s)) j n
     → (neg_ℤ (pos (9 * n)) ≤ℤ x) × (x ≤ℤ pos (9 * n))
-stretch-bounds p q r s i j n x e =
-    let low = level_sum-low (plane_bit p) (plane_bit q) (byte_bit r) (byte_bit s) (plane_bits-are p) (plane_bits-are q) (byte_bits-are r) (byte_bits-are s) i j n in
-    let high = level_sum-high (plane_bit p) (plane_bit q) (byte_bit r) (byte_bit s) (plane_bits-are p) (plane_bits-are q) (byte_bits-are r) (byte_bits-are s) i j n in
-    (omega (arith, ints, e, low), omega (arith, ints, e, high))
+copy-bounds p q r s =
+    sum-bounds (plane_bit p) (plane_bit q) (byte_bit r) (byte_bit s)
+    (plane_bits-are p) (plane_bits-are q) (byte_bits-are r) (byte_bits-are s)
 
 -- ---- by weights
 
@@ -173,34 +187,30 @@ masked_sum a b c d n m e =
 
 -- ---- whole words
 
-pub words_sum-weight : (ah al am bh bl bm : List ℕ) (n w : ℕ)
-    → AreBytes bh → AreBytes bl → AreBytes bm
-    → n ≤ 64 * (length bh / 8) → n ≤ 64 * (length bl / 8) → n ≤ 64 * (length bm / 8)
+pub words_sum-weight : (ah al am bh bl : List ℕ) (n w : ℕ) → AreBytes bh → AreBytes bl
+    → n ≤ 64 * (length bh / 8) → n ≤ 64 * (length bl / 8)
     → ((k : ℕ) → plane_bit am k ≡ differ_at (plane_bit ah) (plane_bit al) k)
-    → ((k : ℕ) → byte_bit bm k ≡ differ_at (byte_bit bh) (byte_bit bl) k)
     → w ≡ 2 * nat_sum (differ_at (plane_bit ah) (plane_bit (words_of bh))) 0 n
     + 3 * nat_sum (differ_at (plane_bit al) (plane_bit (words_of bl))) 0 n
-    + 4 * nat_sum (third_at (plane_bit ah) (plane_bit am) (plane_bit (words_of bh)) (plane_bit (words_of bm))) 0 n
+    + 4 * nat_sum (third_at (plane_bit ah) (plane_bit am) (plane_bit (words_of bh)) (differ_at (plane_bit (words_of bh)) (plane_bit (words_of bl)))) 0 n
     → level_sum (level_at (plane_bit ah) (plane_bit al)) 0 (level_at (byte_bit bh) (byte_bit bl)) 0 n ≡ pos (9 * n) -ℤ pos (2 * w)
-words_sum-weight ah al am bh bl bm n w hh hl hm nh nl nm unit_a unit_b e =
+words_sum-weight ah al am bh bl n w hh hl nh nl unit e =
     let high : (i : ℕ) → i < n → plane_bit (words_of bh) (0 + i) ≡ byte_bit bh (0 + i) =
     λ i k. plane_bit-words_of bh (0 + i) hh (omega arith) in
     let low : (i : ℕ) → i < n → plane_bit (words_of bl) (0 + i) ≡ byte_bit bl (0 + i) =
     λ i k. plane_bit-words_of bl (0 + i) hl (omega arith) in
-    let unit : (i : ℕ) → i < n → plane_bit (words_of bm) (0 + i) ≡ byte_bit bm (0 + i) =
-    λ i k. plane_bit-words_of bm (0 + i) hm (omega arith) in
     let signs : nat_sum (differ_at (plane_bit ah) (plane_bit (words_of bh))) 0 n ≡ nat_sum (differ_at (plane_bit ah) (byte_bit bh)) 0 n =
     nat_sum-same (differ_at (plane_bit ah) (plane_bit (words_of bh))) (differ_at (plane_bit ah) (byte_bit bh)) 0 0 n
     (λ i k. ap (differ (plane_bit ah (0 + i))) (high i k)) in
     let lows : nat_sum (differ_at (plane_bit al) (plane_bit (words_of bl))) 0 n ≡ nat_sum (differ_at (plane_bit al) (byte_bit bl)) 0 n =
     nat_sum-same (differ_at (plane_bit al) (plane_bit (words_of bl))) (differ_at (plane_bit al) (byte_bit bl)) 0 0 n
     (λ i k. ap (differ (plane_bit al (0 + i))) (low i k)) in
-    let thirds : nat_sum (third_at (plane_bit ah) (plane_bit am) (plane_bit (words_of bh)) (plane_bit (words_of bm))) 0 n
+    let thirds : nat_sum (third_at (plane_bit ah) (plane_bit am) (plane_bit (words_of bh)) (differ_at (plane_bit (words_of bh)) (plane_bit (words_of bl)))) 0 n
     ≡ nat_sum (third_at (plane_bit ah) (differ_at (plane_bit ah) (plane_bit al)) (byte_bit bh) (differ_at (byte_bit bh) (byte_bit bl))) 0 n =
-    nat_sum-same (third_at (plane_bit ah) (plane_bit am) (plane_bit (words_of bh)) (plane_bit (words_of bm)))
+    nat_sum-same (third_at (plane_bit ah) (plane_bit am) (plane_bit (words_of bh)) (differ_at (plane_bit (words_of bh)) (plane_bit (words_of bl))))
     (third_at (plane_bit ah) (differ_at (plane_bit ah) (plane_bit al)) (byte_bit bh) (differ_at (byte_bit bh) (byte_bit bl))) 0 0 n
     (λ i k. ap₂ (λ x y. (x + y) % 2) (ap (differ (plane_bit ah (0 + i))) (high i k))
-    (ap₂ (λ x y. min x y) (unit_a (0 + i)) (unit i k ∙ unit_b (0 + i)))) in
+    (ap₂ (λ x y. min x y) (unit (0 + i)) (ap₂ differ (high i k) (low i k)))) in
     level_sum-weight (plane_bit ah) (plane_bit al) (byte_bit bh) (byte_bit bl)
     (plane_bits-are ah) (plane_bits-are al) (byte_bits-are bh) (byte_bits-are bl) n
     ∙ ap (λ m. pos (9 * n) -ℤ pos (2 * m))

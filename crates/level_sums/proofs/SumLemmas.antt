@@ -33,11 +33,6 @@ int_sum-same f g from from' zero h = refl
 int_sum-same f g from from' (suc n) h =
     omega (arith, ints, int_sum-same f g from from' n (λ i k. h i (omega arith)), h n (omega arith))
 
-pub nat_sum-none : (f : ℕ → ℕ) (from n : ℕ) → ((i : ℕ) → i < n → f (from + i) ≡ 0) → nat_sum f from n ≡ 0
-unfolding nat_sum
-nat_sum-none f from zero h = refl
-nat_sum-none f from (suc n) h = omega (arith, nat_sum-none f from n (λ i k. h i (omega arith)), h n (omega arith))
-
 pub counted_more : (f : ℕ → ℕ) (start count from w whole sum one next : ℕ)
     → from ≡ start + count → whole ≡ count + w → sum ≡ nat_sum f start count → one ≡ nat_sum f from w → next ≡ sum + one
     → next ≡ nat_sum f start whole

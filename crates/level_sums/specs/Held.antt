@@ -1,5 +1,5 @@
--- What is held of a station's levels: as the first of a pair, and as the second one.
-use Rattle.std.specs.Prelude.{◌≡◌, ℕ, ◌+◌, ◌-◌, ◌*◌, ◌^◌, ◌<◌, ◌≤◌, ℤ, List, length}
+-- What is held of a station's levels: its planes in words, and a stretch of them in bytes.
+use Rattle.std.specs.Prelude.{◌≡◌, ℕ, ◌+◌, ◌*◌, ◌^◌, ◌<◌, ◌≤◌, ℤ, List, length}
 use Rattle.level_sums.specs.Levels.{level_at, plane_bit, byte_bit}
 use Rattle.level_sums.specs.Weights.{differ_at}
 
@@ -23,34 +23,26 @@ pub record ArePlanes (p : PlanesFields) : Type 0 where
   pub unit : length p.unit ≡ length p.high
   pub magnitude : (n : ℕ) → plane_bit p.unit n ≡ differ_at (plane_bit p.high) (plane_bit p.low) n
 
--- Eight copies of each of the three planes, one after another in bytes, each as long as `words` words. Copy s is the plane
--- from bit s on; its last word is there to be read past the last sample.
-pub record CopiesFields : Type 0 where
+-- A stretch of the planes of the codes' high and low bits, in bytes: of `words` words, from sample `from` on.
+pub record CopyFields : Type 0 where
+  pub from : ℕ
   pub words : ℕ
   pub high : List ℕ
   pub low : List ℕ
-  pub unit : List ℕ
 
--- the level of sample n, by copy 0
-abbrev pub copy_level : CopiesFields → ℕ → ℤ
+-- the level of sample n of the copy
+abbrev pub copy_level : CopyFields → ℕ → ℤ
 copy_level c = level_at (byte_bit c.high) (byte_bit c.low)
 
-abbrev pub copy_samples : CopiesFields → ℕ
-copy_samples c = 64 * (c.words - 1)
+-- there is room for 544 words
+pub record IsCopy (c : CopyFields) : Type 0 where
+  pub few : c.words ≤ 544
+  pub high : length c.high ≡ 4352
+  pub low : length c.low ≡ 4352
 
-abbrev pub AreShifted : ℕ → List ℕ → Type 0
-AreShifted words bytes = (s n : ℕ) → s < 8 → s + n < 64 * words → byte_bit bytes (64 * (words * s) + n) ≡ byte_bit bytes (s + n)
-
--- the copies of a plane in words, of `count` words each
-abbrev pub AreCopiesOf : ℕ → List ℕ → List ℕ → Type 0
-AreCopiesOf count words bytes = (s n : ℕ) → s < 8 → n < 64 * count → byte_bit bytes (64 * (count * s) + n) ≡ plane_bit words (s + n)
-
-pub record AreCopies (c : CopiesFields) : Type 0 where
-  pub some : 0 < c.words
-  pub scan : c.words ≤ 2 ^ 34 + 1
-  pub high : length c.high ≡ 64 * c.words
-  pub low : length c.low ≡ 64 * c.words
-  pub unit : length c.unit ≡ 64 * c.words
-  pub shifted_high : AreShifted c.words c.high
-  pub shifted_low : AreShifted c.words c.low
-  pub magnitude : (n : ℕ) → byte_bit c.unit n ≡ differ_at (byte_bit c.high) (byte_bit c.low) n
+-- a copy of `count` words of planes, from sample `start` on
+pub record IsCopyOf (p : PlanesFields) (start count : ℕ) (c : CopyFields) : Type 0 where
+  pub from : c.from ≡ start
+  pub words : c.words ≡ count
+  pub high : (k : ℕ) → k < 64 * count → byte_bit c.high k ≡ plane_bit p.high (start + k)
+  pub low : (k : ℕ) → k < 64 * count → byte_bit c.low k ≡ plane_bit p.low (start + k)

@@ -9,22 +9,20 @@ use crate::lanes::{byte_word, load, load_bytes};
 use crate::tally::Tally;
 use std::simd::prelude::*;
 
-// The sum over all samples of the first station. `am` and `bm` are the planes that say where a level is of magnitude 1.
-pub(crate) fn words_sum(ah: &[u64], al: &[u64], am: &[u64], bh: &[u8], bl: &[u8], bm: &[u8]) -> i64
+// The sum over all samples of the first station. `am` is the plane that says where its level is of magnitude 1.
+pub(crate) fn words_sum(ah: &[u64], al: &[u64], am: &[u64], bh: &[u8], bl: &[u8]) -> i64
     requires al { length al.now ≡ length ah.now }
     requires am { length am.now ≡ length ah.now }
     requires bh { 8 * length ah.now ≤ length bh.now }
     requires bl { 8 * length ah.now ≤ length bl.now }
-    requires bm { 8 * length ah.now ≤ length bm.now }
     requires size { length ah.now ≤ 2 ^ 40 }
     requires unit_a { (n : ℕ) → plane_bit am.now n ≡ differ_at (plane_bit ah.now) (plane_bit al.now) n }
-    requires unit_b { (n : ℕ) → byte_bit bm.now n ≡ differ_at (byte_bit bh.now) (byte_bit bl.now) n }
     ensures { result ≡ level_sum (level_at (plane_bit ah.now) (plane_bit al.now)) 0 (level_at (byte_bit bh.now) (byte_bit bl.now)) 0 (64 * length ah.now) }
 {
     let n = ah.len();
     let count = n / 32;
-    let blocks = blocks_weight(ah, al, am, bh, bl, bm, count);
-    let rest = words_weight(ah, al, am, bh, bl, bm, 32 * count, n);
+    let blocks = blocks_weight(ah, al, am, bh, bl, count);
+    let rest = words_weight(ah, al, am, bh, bl, 32 * count, n);
     9 * 64 * n as i64 - 2 * (blocks + rest) as i64
 }
 
@@ -35,7 +33,6 @@ pub(crate) fn part_of_words(
     am: &[u64],
     bh: &[u8],
     bl: &[u8],
-    bm: &[u8],
     from: usize,
     byte: usize,
     n: usize,
@@ -43,12 +40,10 @@ pub(crate) fn part_of_words(
     requires al { length al.now ≡ length ah.now }
     requires am { length am.now ≡ length ah.now }
     requires bl { length bl.now ≡ length bh.now }
-    requires bm { length bm.now ≡ length bh.now }
     requires size { length ah.now ≤ 2 ^ 34 }
     requires a { from + n ≤ length ah.now }
     requires b { byte + 8 * n ≤ length bh.now }
     requires unit_a { (n : ℕ) → plane_bit am.now n ≡ differ_at (plane_bit ah.now) (plane_bit al.now) n }
-    requires unit_b { (n : ℕ) → byte_bit bm.now n ≡ differ_at (byte_bit bh.now) (byte_bit bl.now) n }
     ensures { result ≡ level_sum (level_at (plane_bit ah.now) (plane_bit al.now)) (64 * from) (level_at (byte_bit bh.now) (byte_bit bl.now)) (8 * byte) (64 * n) }
 {
     let to = from + n;
@@ -59,7 +54,6 @@ pub(crate) fn part_of_words(
         &am[from..to],
         &bh[byte..end],
         &bl[byte..end],
-        &bm[byte..end],
     )
 }
 
@@ -76,15 +70,17 @@ fn signs(a: &[u64], b: &[u8], at: usize) -> u64x4
 
 // The third plane of four words, from word `at` on.
 #[inline(always)]
-fn third(ah: &[u64], am: &[u64], bh: &[u8], bm: &[u8], at: usize) -> u64x4
+fn third(ah: &[u64], am: &[u64], bh: &[u8], bl: &[u8], at: usize) -> u64x4
     requires ah { at + 4 ≤ length ah.now }
     requires am { at + 4 ≤ length am.now }
     requires bh { 8 * at + 32 ≤ length bh.now }
-    requires bm { 8 * at + 32 ≤ length bm.now }
-    ensures count { ones_all result ≡ nat_sum (third_at (plane_bit ah.now) (plane_bit am.now) (plane_bit (words_of bh.now)) (plane_bit (words_of bm.now))) (64 * at) 256 }
+    requires bl { 8 * at + 32 ≤ length bl.now }
+    ensures count { ones_all result ≡ nat_sum (third_at (plane_bit ah.now) (plane_bit am.now) (plane_bit (words_of bh.now)) (differ_at (plane_bit (words_of bh.now)) (plane_bit (words_of bl.now)))) (64 * at) 256 }
     ensures len { length result ≡ 4 }
 {
-    (load(ah, at) ^ load_bytes(bh, at)) ^ (load(am, at) & load_bytes(bm, at))
+    let high = load_bytes(bh, at);
+    let low = load_bytes(bl, at);
+    (load(ah, at) ^ high) ^ (load(am, at) & (high ^ low))
 }
 
 // The tally of a block of 32 words more, where two planes differ.
@@ -112,49 +108,40 @@ fn plus_signs(tally: Tally, a: &[u64], b: &[u8], at: usize) -> Tally
 
 // The tally of a block of 32 words more, of the third plane.
 #[inline(always)]
-fn plus_third(tally: Tally, ah: &[u64], am: &[u64], bh: &[u8], bm: &[u8], at: usize) -> Tally
+fn plus_third(tally: Tally, ah: &[u64], am: &[u64], bh: &[u8], bl: &[u8], at: usize) -> Tally
     requires whole { IsWhole tally }
     requires room { tally.eights ≤ 2 ^ 50 }
     requires ah { at + 32 ≤ length ah.now }
     requires am { at + 32 ≤ length am.now }
     requires bh { 8 * at + 256 ≤ length bh.now }
-    requires bm { 8 * at + 256 ≤ length bm.now }
+    requires bl { 8 * at + 256 ≤ length bl.now }
     ensures whole { IsWhole result }
-    ensures sum { total result ≡ total tally + nat_sum (third_at (plane_bit ah.now) (plane_bit am.now) (plane_bit (words_of bh.now)) (plane_bit (words_of bm.now))) (64 * at) 2048 }
+    ensures sum { total result ≡ total tally + nat_sum (third_at (plane_bit ah.now) (plane_bit am.now) (plane_bit (words_of bh.now)) (differ_at (plane_bit (words_of bh.now)) (plane_bit (words_of bl.now)))) (64 * at) 2048 }
     ensures few { result.eights ≤ tally.eights + 256 }
 {
     tally.plus(
-        third(ah, am, bh, bm, at),
-        third(ah, am, bh, bm, at + 4),
-        third(ah, am, bh, bm, at + 8),
-        third(ah, am, bh, bm, at + 12),
-        third(ah, am, bh, bm, at + 16),
-        third(ah, am, bh, bm, at + 20),
-        third(ah, am, bh, bm, at + 24),
-        third(ah, am, bh, bm, at + 28),
+        third(ah, am, bh, bl, at),
+        third(ah, am, bh, bl, at + 4),
+        third(ah, am, bh, bl, at + 8),
+        third(ah, am, bh, bl, at + 12),
+        third(ah, am, bh, bl, at + 16),
+        third(ah, am, bh, bl, at + 20),
+        third(ah, am, bh, bl, at + 24),
+        third(ah, am, bh, bl, at + 28),
     )
 }
 
 // The weights of the samples of the first `count` blocks of 32 words.
-fn blocks_weight(
-    ah: &[u64],
-    al: &[u64],
-    am: &[u64],
-    bh: &[u8],
-    bl: &[u8],
-    bm: &[u8],
-    count: usize,
-) -> u64
+fn blocks_weight(ah: &[u64], al: &[u64], am: &[u64], bh: &[u8], bl: &[u8], count: usize) -> u64
     requires ah { 32 * count ≤ length ah.now }
     requires al { 32 * count ≤ length al.now }
     requires am { 32 * count ≤ length am.now }
     requires bh { 256 * count ≤ length bh.now }
     requires bl { 256 * count ≤ length bl.now }
-    requires bm { 256 * count ≤ length bm.now }
     requires size { count ≤ 2 ^ 35 }
     ensures value { result ≡ 2 * nat_sum (differ_at (plane_bit ah.now) (plane_bit (words_of bh.now))) 0 (2048 * count)
         + 3 * nat_sum (differ_at (plane_bit al.now) (plane_bit (words_of bl.now))) 0 (2048 * count)
-        + 4 * nat_sum (third_at (plane_bit ah.now) (plane_bit am.now) (plane_bit (words_of bh.now)) (plane_bit (words_of bm.now))) 0 (2048 * count) }
+        + 4 * nat_sum (third_at (plane_bit ah.now) (plane_bit am.now) (plane_bit (words_of bh.now)) (differ_at (plane_bit (words_of bh.now)) (plane_bit (words_of bl.now)))) 0 (2048 * count) }
     ensures small { result ≤ 18432 * count + 16128 }
 {
     let mut sign = Tally::new();
@@ -163,7 +150,7 @@ fn blocks_weight(
     for i in 0..count {
         sign = plus_signs(sign, ah, bh, 32 * i);
         low = plus_signs(low, al, bl, 32 * i);
-        mix = plus_third(mix, ah, am, bh, bm, 32 * i);
+        mix = plus_third(mix, ah, am, bh, bl, 32 * i);
     }
     2 * sign.total() + 3 * low.total() + 4 * mix.total()
 }
@@ -175,7 +162,6 @@ fn words_weight(
     am: &[u64],
     bh: &[u8],
     bl: &[u8],
-    bm: &[u8],
     from: usize,
     to: usize,
 ) -> u64
@@ -185,21 +171,22 @@ fn words_weight(
     requires am { to ≤ length am.now }
     requires bh { 8 * to ≤ length bh.now }
     requires bl { 8 * to ≤ length bl.now }
-    requires bm { 8 * to ≤ length bm.now }
     requires size { to ≤ 2 ^ 40 }
     ensures value { result ≡ 2 * nat_sum (differ_at (plane_bit ah.now) (plane_bit (words_of bh.now))) (64 * from) (64 * (to - from))
         + 3 * nat_sum (differ_at (plane_bit al.now) (plane_bit (words_of bl.now))) (64 * from) (64 * (to - from))
-        + 4 * nat_sum (third_at (plane_bit ah.now) (plane_bit am.now) (plane_bit (words_of bh.now)) (plane_bit (words_of bm.now))) (64 * from) (64 * (to - from)) }
+        + 4 * nat_sum (third_at (plane_bit ah.now) (plane_bit am.now) (plane_bit (words_of bh.now)) (differ_at (plane_bit (words_of bh.now)) (plane_bit (words_of bl.now)))) (64 * from) (64 * (to - from)) }
     ensures small { result ≤ 576 * (to - from) }
 {
     let mut sign = 0;
     let mut low = 0;
     let mut mix = 0;
     for i in from..to {
-        let differ = ah[i] ^ byte_word(bh, i);
+        let second_high = byte_word(bh, i);
+        let second_low = byte_word(bl, i);
+        let differ = ah[i] ^ second_high;
         sign += ones(differ);
-        low += ones(al[i] ^ byte_word(bl, i));
-        mix += ones(differ ^ (am[i] & byte_word(bm, i)));
+        low += ones(al[i] ^ second_low);
+        mix += ones(differ ^ (am[i] & (second_high ^ second_low)));
     }
     2 * sign + 3 * low + 4 * mix
 }

@@ -1,8 +1,6 @@
 //! Words of planes, one at a time and four at a time.
-ghost use Rattle.std.specs.Prelude.{◌≡◌, ◌<◌, ◌≤◌, ◌+◌, ◌*◌, ℕ, length, slice_index};
-ghost use Rattle.std.specs.Int.{bit_at};
+ghost use Rattle.std.specs.Prelude.{◌≡◌, ◌≤◌, ◌+◌, ◌*◌, length, slice_index};
 ghost use Rattle.std.specs.Simd.Lanes.{chunk};
-ghost use Rattle.level_sums.specs.Levels.{byte_bit};
 ghost use Rattle.level_sums.specs.Counts.{ones_all, words_of};
 
 use crate::bits::ones;
@@ -46,13 +44,4 @@ pub(crate) fn byte_word(bytes: &[u8], at: usize) -> u64
     ensures { result ≡ slice_index (words_of bytes.now) at }
 {
     u64x1::from_le_bytes(u8x8::from_slice(&bytes[8 * at..])).to_array()[0]
-}
-
-// The 64 bits of a plane in bytes from byte `at` on.
-#[inline(always)]
-pub(crate) fn bytes_from(bytes: &[u8], at: usize) -> u64
-    requires { at + 8 ≤ length bytes.now }
-    ensures { (k : ℕ) → k < 64 → bit_at result k ≡ byte_bit bytes.now (8 * at + k) }
-{
-    u64x1::from_le_bytes(u8x8::from_slice(&bytes[at..])).to_array()[0]
 }

@@ -1,4 +1,4 @@
-//! The levels of the first station of a pair, by planes in words.
+//! The levels of a station, by planes in words.
 ghost use Rattle.std.specs.Prelude.{◌≡◌, ◌<◌, ◌≤◌, ◌^◌, length, replicate, slice_index, slice_set, IfOk};
 ghost use Rattle.std.specs.Int.{div_ceil};
 ghost use Rattle.level_sums.specs.Held.{plane_samples};
@@ -6,7 +6,7 @@ ghost use Rattle.level_sums.specs.Held.{plane_samples};
 use std::alloc::{AllocError, Global};
 use std::marker::Model;
 
-/// A station's levels as the first of a pair. Bit `n % 64` of word `n / 64` of a plane is that of sample `n`.
+/// A station's levels. Bit `n % 64` of word `n / 64` of a plane is that of sample `n`.
 #[derive(Drop)]
 pub struct LevelPlanes {
     pub(crate) high: Vec<u64>,

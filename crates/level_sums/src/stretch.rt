@@ -1,19 +1,30 @@
 //! The sum over any stretch: some samples of the first word, whole words, and some samples of the last word.
-ghost use Rattle.std.specs.Prelude.{◌≡◌, ◌≤◌, ◌+◌, ◌*◌, ◌%◌, ◌^◌, pos, neg_ℤ, ◌≤ℤ◌};
+ghost use Rattle.std.specs.Prelude.{◌≡◌, ◌≤◌, ◌+◌, ◌-◌, ◌*◌, ◌%◌, ◌^◌, pos, neg_ℤ, ◌≤ℤ◌};
 ghost use Rattle.level_sums.specs.Levels.{level_sum};
-ghost use Rattle.level_sums.specs.Held.{plane_level, plane_samples, copy_level, copy_samples};
+ghost use Rattle.level_sums.specs.Held.{IsCopyOf, copy_level, plane_level, plane_samples};
 
-use crate::bits::word_sum;
+use crate::bits::{word_from, word_sum};
 use crate::kernel::part_of_words;
-use crate::lanes::bytes_from;
-use crate::{LevelCopies, LevelPlanes};
+use crate::{LevelCopy, LevelPlanes};
 
 /// The sum over `count` pairs of samples of the products of their levels. Pair `k` is sample `i + k` of the first
-/// station and sample `j + k` of the second one.
-pub fn stretch_sum(a: &LevelPlanes, i: u64, b: &LevelCopies, j: u64, count: u64) -> i64
+/// station and sample `j + k` of the second one. `copy` is a copy of the second one's planes in which the samples that go
+/// with whole words of the first one begin with a byte.
+pub fn stretch_sum(
+    a: &LevelPlanes,
+    i: u64,
+    b: &LevelPlanes,
+    j: u64,
+    copy: &LevelCopy,
+    count: u64,
+) -> i64
     requires first { i + count ≤ plane_samples a.now }
-    requires second { j + count ≤ copy_samples b.now }
-    ensures sum { result ≡ level_sum (plane_level a.now) i (copy_level b.now) j count }
+    requires second { j + count ≤ plane_samples b.now }
+    requires copied { IsCopyOf b.now copy.now.from copy.now.words copy.now }
+    requires begun { copy.now.from ≤ j + (64 - i % 64) }
+    requires whole { (j + (64 - i % 64) - copy.now.from) % 8 ≡ 0 }
+    requires held { j + count ≤ copy.now.from + 64 * copy.now.words }
+    ensures sum { result ≡ level_sum (plane_level a.now) i (plane_level b.now) j count }
     ensures low { neg_ℤ (pos (9 * count)) ≤ℤ result }
     ensures high { result ≤ℤ pos (9 * count) }
 {
@@ -24,16 +35,16 @@ pub fn stretch_sum(a: &LevelPlanes, i: u64, b: &LevelCopies, j: u64, count: u64)
         return part_sum(a, i, b, j, count);
     }
     let first = part_sum(a, i, b, j, room);
-    let rest = rest_sum(a, i / 64 + 1, b, j + room, count - room);
+    let rest = rest_sum(a, i / 64 + 1, b, j + room, copy, count - room);
     first + rest
 }
 
 // The sum over `n` samples of one word of the first station.
-fn part_sum(a: &LevelPlanes, i: u64, b: &LevelCopies, j: u64, n: u64) -> i64
+fn part_sum(a: &LevelPlanes, i: u64, b: &LevelPlanes, j: u64, n: u64) -> i64
     requires word { i % 64 + n ≤ 64 }
     requires first { i + n ≤ plane_samples a.now }
-    requires second { j + n ≤ copy_samples b.now }
-    ensures sum { result ≡ level_sum (plane_level a.now) i (copy_level b.now) j n }
+    requires second { j + n ≤ plane_samples b.now }
+    ensures sum { result ≡ level_sum (plane_level a.now) i (plane_level b.now) j n }
     ensures low { neg_ℤ (pos (9 * n)) ≤ℤ result }
     ensures high { result ≤ℤ pos (9 * n) }
 {
@@ -42,21 +53,22 @@ fn part_sum(a: &LevelPlanes, i: u64, b: &LevelCopies, j: u64, n: u64) -> i64
     }
     let word = (i / 64) as usize;
     let place = i % 64;
-    let byte = b.byte_of(j);
     word_sum(
         a.high[word] >> place,
         a.low[word] >> place,
-        bytes_from(&b.high, byte),
-        bytes_from(&b.low, byte),
+        word_from(&b.high, j),
+        word_from(&b.low, j),
         n as u32,
     )
 }
 
-// The sum over `n` whole words of the first station from word `word` on.
-fn whole_sum(a: &LevelPlanes, word: u64, b: &LevelCopies, j: u64, n: u64) -> i64
+// The sum over `n` whole words of the first station from word `word` on, with the second one's samples from sample `at`
+// of the copy on.
+fn whole_sum(a: &LevelPlanes, word: u64, copy: &LevelCopy, at: u64, n: u64) -> i64
     requires first { 64 * (word + n) ≤ plane_samples a.now }
-    requires second { j + 64 * n ≤ copy_samples b.now }
-    ensures sum { result ≡ level_sum (plane_level a.now) (64 * word) (copy_level b.now) j (64 * n) }
+    requires whole { at % 8 ≡ 0 }
+    requires held { at + 64 * n ≤ 64 * copy.now.words }
+    ensures sum { result ≡ level_sum (plane_level a.now) (64 * word) (copy_level copy.now) at (64 * n) }
     ensures low { neg_ℤ (pos (9 * (64 * n))) ≤ℤ result }
     ensures high { result ≤ℤ pos (9 * (64 * n)) }
 {
@@ -64,26 +76,36 @@ fn whole_sum(a: &LevelPlanes, word: u64, b: &LevelCopies, j: u64, n: u64) -> i64
         &a.high,
         &a.low,
         &a.unit,
-        &b.high,
-        &b.low,
-        &b.unit,
+        &copy.high,
+        &copy.low,
         word as usize,
-        b.byte_of(j),
+        (at / 8) as usize,
         n as usize,
     )
 }
 
 // The sum over `count` samples of the first station from the start of word `word` on.
-fn rest_sum(a: &LevelPlanes, word: u64, b: &LevelCopies, j: u64, count: u64) -> i64
+fn rest_sum(
+    a: &LevelPlanes,
+    word: u64,
+    b: &LevelPlanes,
+    j: u64,
+    copy: &LevelCopy,
+    count: u64,
+) -> i64
     requires first { 64 * word + count ≤ plane_samples a.now }
-    requires second { j + count ≤ copy_samples b.now }
+    requires second { j + count ≤ plane_samples b.now }
     requires scan { (64 * word + count ≤ 2 ^ 40) × (j + count ≤ 2 ^ 40) }
-    ensures sum { result ≡ level_sum (plane_level a.now) (64 * word) (copy_level b.now) j count }
+    requires copied { IsCopyOf b.now copy.now.from copy.now.words copy.now }
+    requires begun { copy.now.from ≤ j }
+    requires whole { (j - copy.now.from) % 8 ≡ 0 }
+    requires held { j + count ≤ copy.now.from + 64 * copy.now.words }
+    ensures sum { result ≡ level_sum (plane_level a.now) (64 * word) (plane_level b.now) j count }
     ensures low { neg_ℤ (pos (9 * count)) ≤ℤ result }
     ensures high { result ≤ℤ pos (9 * count) }
 {
     let whole = count / 64;
-    let first = whole_sum(a, word, b, j, whole);
+    let first = whole_sum(a, word, copy, copy.place_of(j), whole);
     let rest = part_sum(a, 64 * (word + whole), b, j + 64 * whole, count % 64);
     first + rest
 }

@@ -59,24 +59,30 @@ fn plain_sum(a: &Codes, i: u64, b: &Codes, j: u64, count: u64) -> i64
     sum
 }
 
-// The same two stations in both forms.
+// Two stations, each by codes and by planes.
 #[derive(Drop)]
 struct Both {
     a: Codes,
     b: Codes,
-    planes: LevelPlanes,
-    copies: LevelCopies,
+    first: LevelPlanes,
+    second: LevelPlanes,
 }
 
 impl Both {
-    fn agree(&self, i: u64, j: u64, count: u64) -> bool
+    // Whether the sum by planes is the plain one. The copy begins up to 7 bytes before the samples that go with the
+    // first whole word.
+    fn agree(&self, copy: &mut LevelCopy, i: u64, j: u64, count: u64) -> bool
         requires first { i + count ≤ 2560 }
         requires second { j + count ≤ 2560 }
     {
-        let inside = i + count <= self.planes.samples() && j + count <= self.copies.samples();
-        inside
-            && stretch_sum(&self.planes, i, &self.copies, j, count)
-                == plain_sum(&self.a, i, &self.b, j, count)
+        if i + count > self.first.samples() || j + count > self.second.samples() {
+            return false;
+        }
+        let begin = j + (64 - i % 64);
+        let from = begin - (begin / 8).min(j % 8) * 8;
+        copy.fill(&self.second, from, 42);
+        stretch_sum(&self.first, i, &self.second, j, copy, count)
+            == plain_sum(&self.a, i, &self.b, j, count)
     }
 }
 
@@ -85,39 +91,55 @@ impl Both {
 fn sums_of_stretches(rt: HostRuntime) -> Result<(), Fail> {
     let alloc = rt.alloc();
     let (a, b) = (mixed_codes(1), mixed_codes(2));
-    let mut planes = LevelPlanes::room(alloc, 2560)?;
-    set_codes(&mut planes, &a);
+    let mut first = LevelPlanes::room(alloc, 2560)?;
+    set_codes(&mut first, &a);
     let mut second = LevelPlanes::room(alloc, 2560)?;
     set_codes(&mut second, &b);
-    let mut copies = LevelCopies::room(alloc, 2560)?;
-    copies.fill(&second);
     let both = Both {
         a,
         b,
-        planes,
-        copies,
+        first,
+        second,
     };
-    assert_eq!(rt; both.planes.samples(), 2560);
-    assert_eq!(rt; both.copies.samples(), 2560);
-    assert!(rt; both.agree(0, 0, 2560));
-    assert!(rt; both.agree(2560, 2560, 0));
+    let mut copy = LevelCopy::none();
+    assert_eq!(rt; both.first.samples(), 2560);
+    assert!(rt; both.agree(&mut copy, 0, 0, 2560));
+    assert!(rt; both.agree(&mut copy, 2560, 2560, 0));
     for place in 0..64_u64 {
-        assert!(rt; both.agree(place, 63 - place, 2433 + place));
-        assert!(rt; both.agree(2560 - place, 5, place));
+        assert!(rt; both.agree(&mut copy, place, 63 - place, 2433 + place));
+        assert!(rt; both.agree(&mut copy, 2560 - place, 5, place));
         for m in 0..6_u64 {
-            assert!(rt; both.agree(place, 64 * m + 7 * place % 64, 37 * m + place));
+            assert!(rt; both.agree(&mut copy, place, 64 * m + 7 * place % 64, 37 * m + place));
         }
     }
     Ok(())
 }
 
-// Room is for whole words, and holds the code 0, the level -3, until it is filled.
+// Room is for whole words, and holds the code 0, the level -3, until it is set.
 #[test]
 fn room_of_code_0(rt: HostRuntime) -> Result<(), Fail> {
-    let planes = LevelPlanes::room(rt.alloc(), 100)?;
-    let copies = LevelCopies::room(rt.alloc(), 100)?;
-    assert_eq!(rt; planes.samples(), 128);
-    assert_eq!(rt; copies.samples(), 128);
-    assert_eq!(rt; stretch_sum(&planes, 1, &copies, 5, 120), 9 * 120);
+    let first = LevelPlanes::room(rt.alloc(), 100)?;
+    let second = LevelPlanes::room(rt.alloc(), 100)?;
+    let mut copy = LevelCopy::none();
+    copy.fill(&second, 4, 2);
+    assert_eq!(rt; first.samples(), 128);
+    assert_eq!(rt; stretch_sum(&first, 1, &second, 5, &copy, 120), 9 * 120);
+    Ok(())
+}
+
+// Past the planes' last sample a copy of levels 3 holds zeros, also where words of it were set before.
+#[test]
+fn zeros_past_the_end(rt: HostRuntime) -> Result<(), Fail> {
+    let mut planes = LevelPlanes::room(rt.alloc(), 128)?;
+    planes.set(0, u64::MAX, u64::MAX);
+    planes.set(1, u64::MAX, u64::MAX);
+    let mut copy = LevelCopy::none();
+    copy.fill(&planes, 0, 2);
+    assert_eq!(rt; copy.high[8], 0xff);
+    copy.fill(&planes, 60, 3);
+    assert_eq!(rt; copy.high[7], 0xff);
+    assert_eq!(rt; copy.high[8], 0x0f);
+    assert_eq!(rt; copy.low[9], 0);
+    assert_eq!(rt; copy.low[23], 0);
     Ok(())
 }

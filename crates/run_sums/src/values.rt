@@ -35,6 +35,6 @@ pub(crate) fn planes_of<R: Threads + Sync>(
     ensures held { IfOk result (λ v. HoldStreams v.planes whole.now.streams.items) }
 {
     let pairs = pairs_of(alloc, plan, scan, whole)?;
-    let planes = EpochPlanes::build(rt, alloc, spare, whole.streams(), &pairs, threads)?;
+    let planes = EpochPlanes::build(rt, alloc, spare, whole.streams(), threads)?;
     Ok(EpochValues { pairs, planes })
 }

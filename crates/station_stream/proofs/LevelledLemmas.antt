@@ -1,13 +1,13 @@
 -- Each component of a value of a stream has the magnitude 0, 1 or 3.
 use Rattle.std.specs.Prelude.{int_le, int_lt, ◌&&◌, if◌then◌else◌, IfSome}
-use Rattle.std.proofs.Common.{◌≡◌, ◌≢◌, ℕ, zero, suc, ◌+◌, ◌-◌, ◌*◌, ◌/◌, ◌%◌, ◌≤◌, ◌<◌, ◌⊎◌, ⊎_elim, inl, inr, refl, ap, ◌∙◌, Bool, true, false, eqb, ℤ, pos, ◌-ℤ◌, ◌*ℤ◌, unsigned_abs, List, [], ◌∷◌, get_or, map, Some, None, subst, sym, arith}
+use Rattle.std.proofs.Common.{◌≡◌, ◌≢◌, ℕ, zero, suc, ◌+◌, ◌*◌, ◌/◌, ◌%◌, ◌≤◌, ◌<◌, ◌⊎◌, ⊎_elim, inl, inr, refl, ap, ◌∙◌, Bool, true, false, eqb, ℤ, pos, ◌-ℤ◌, ◌*ℤ◌, unsigned_abs, List, [], ◌∷◌, get_or, map, Some, None, subst, sym, arith}
 use Rattle.std.proofs.lemmas.Int.{unsigned_abs-mul}
 use Rattle.std.proofs.lemmas.Bool.{cases_eq}
 use Rattle.fringe_rotator.specs.Table.{cosines, cos3, sin3}
 use Rattle.sample_unpack.specs.Level.{level_of}
 use Rattle.corr_model.specs.Cell.{Value}
 use Rattle.corr_model.specs.Rotated.{turned}
-use Rattle.value_codes.specs.Codes.{value_of}
+use Rattle.value_codes.specs.Codes.{value_of, turned_by}
 use Rattle.station_stream.specs.Stream.{StreamFields, windowed, IsLevelPart, AreLevelled}
 
 -- each number of the list is -1, 0 or 1
@@ -63,9 +63,9 @@ AreLevelled-turned code sector h =
 AreLevelled-value_of : (code : ℕ) → IfSome (value_of code) AreLevelled
 AreLevelled-value_of code = by (eqb code 0)
   where
-    by : (none : Bool) → IfSome (if none then None else Some (turned (level_of 2 ((code - 1) / 16 % 4)) ((code - 1) % 16))) AreLevelled
+    by : (none : Bool) → IfSome (if none then None else Some (turned_by (level_of 2 (code / 64 % 4)) (code % 8))) AreLevelled
     by true = tt
-    by false = AreLevelled-turned ((code - 1) / 16 % 4) ((code - 1) % 16) (omega arith)
+    by false = AreLevelled-turned (code / 64 % 4) (2 * (code % 8)) (omega arith)
 
 -- the values of a list of bytes, and of none past its end
 AreLevelled-codes : (codes : List ℕ) (k : ℕ) → IfSome (get_or (map value_of codes) k None) AreLevelled

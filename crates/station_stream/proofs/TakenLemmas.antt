@@ -1,13 +1,15 @@
 -- Levels as bytes: the byte of a level, and those of the frames of a thread.
-use Rattle.std.proofs.Common.{◌≡◌, ◌∙◌, refl, sym, ap, subst, ℕ, ◌+◌, ◌-◌, ◌*◌, ◌/◌, ◌%◌, ◌<◌, ◌≤◌, ◌≢◌, ◌==◌, ⊎_elim, option_map, false, ℤ, List, length, get_or, Option, Some, None, arith}
-use Rattle.std.proofs.lemmas.Bool.{cases_lt}
-use Rattle.std.proofs.lemmas.Bool.Decides.{nat_tests}
+use Rattle.std.proofs.Common.{◌≡◌, ◌∙◌, refl, sym, ap, ap₂, subst, ℕ, ◌+◌, ◌-◌, ◌*◌, ◌/◌, ◌%◌, ◌<◌, ◌≤◌, ◌≢◌, ◌==◌, ⊎_elim, option_map, true, false, ℤ, ◌*ℤ◌, List, length, get_or, Option, Some, None, arith}
+use Rattle.std.specs.Ordering.{int_eq}
+use Rattle.std.proofs.lemmas.Bool.{agree_below, agree_below_at, cases_lt}
+use Rattle.std.proofs.lemmas.Bool.Decides.{Decides-int_eq, nat_tests}
 use Rattle.std.proofs.lemmas.Nat.{div-add-mod', div-mul-add, mod-mul-add}
 use borrow.Rule.Slice.PartMut.{put_mid}
 use Rattle.vdif_frame.specs.Shape.{ShapeFields, samples_per_frame}
+use Rattle.fringe_rotator.specs.Table.{cos3, sin3}
 use Rattle.sample_unpack.specs.Level.{level_of}
 use Rattle.corr_model.specs.Rotated.{turned}
-use Rattle.value_codes.specs.Codes.{value_of}
+use Rattle.value_codes.specs.Codes.{value_of, turned_by}
 use Rattle.station_stream.specs.declared.thread_frames.ThreadFrames.{ThreadFrames}
 use Rattle.station_stream.specs.ThreadFrames.{level_in_frame}
 use Rattle.value_codes.specs.Taken.{IsTaken}
@@ -15,34 +17,49 @@ use Rattle.station_stream.proofs.PartLemmas.{get_or-before, get_or-inside}
 
 -- ---- bytes of levels
 
--- a byte that is 1 more than these two has both in it
-pub value_of-code : (code sector : ℕ) → code < 4 → sector < 16
-    → value_of (1 + 16 * code + sector) ≡ Some (turned (level_of 2 code) sector)
-value_of-code code sector four sixteen =
-    let some : ((1 + 16 * code + sector) == 0) ≡ false = grind (arith, nat_tests) in
-    let high : (1 + 16 * code + sector - 1) / 16 % 4 ≡ code = omega arith in
-    let low : (1 + 16 * code + sector - 1) % 16 ≡ sector = omega arith in
+-- two functions of a sector are the same where a table says so
+by_sector : (f g : ℕ → ℤ) → agree_below (λ s. int_eq (f s) (g s)) (λ _. true) 16 ≡ true → (s : ℕ) → s < 16 → f s ≡ g s
+by_sector f g all s h = (Decides-int_eq (f s) (g s)).0 (agree_below_at (λ s. int_eq (f s) (g s)) (λ _. true) 16 s all h)
+
+-- two sectors side by side turn a level alike
+turned-direction : (level : ℤ) (s : ℕ) → s < 16 → turned level s ≡ turned_by level ((s + 1) / 2 % 8)
+turned-direction level s h =
+    ap₂ (λ c d. (level *ℤ c, level *ℤ d)) (by_sector cos3 (λ s. cos3 (2 * ((s + 1) / 2 % 8))) refl s h)
+    (by_sector sin3 (λ s. sin3 (2 * ((s + 1) / 2 % 8))) refl s h)
+
+pub turned_by-sector : (level : Option ℤ) (s : ℕ) → s < 16
+    → option_map (λ x. turned_by x ((s + 1) / 2 % 8)) level ≡ option_map (λ x. turned x s) level
+turned_by-sector None s sixteen = refl
+turned_by-sector (Some x) s sixteen = ap Some (sym (turned-direction x s sixteen))
+
+-- a byte that is 8 more than these two has both in it
+pub value_of-code : (code direction : ℕ) → code < 4 → direction < 8
+    → value_of (8 + 64 * code + direction) ≡ Some (turned_by (level_of 2 code) direction)
+value_of-code code direction four eight =
+    let some : ((8 + 64 * code + direction) == 0) ≡ false = grind (arith, nat_tests) in
+    let high : (8 + 64 * code + direction) / 64 % 4 ≡ code = omega arith in
+    let low : (8 + 64 * code + direction) % 8 ≡ direction = omega arith in
     simp (some, high, low) refl
 
--- the byte of a level to which a sector is added
-pub value_of-turned : (code sector : ℕ) (level : Option ℤ) → code ≢ 0 → sector < 16 → IsTaken code level
-    → value_of ((code + sector) % 256) ≡ option_map (λ x. turned x sector) level
-value_of-turned code sector None some sixteen taken = absurd (some taken)
-value_of-turned code sector (Some level) some sixteen taken =
+-- the byte of a level to which a direction is added
+pub value_of-turned : (code direction : ℕ) (level : Option ℤ) → code ≢ 0 → direction < 8 → IsTaken code level
+    → value_of ((code + direction) % 256) ≡ option_map (λ x. turned_by x direction) level
+value_of-turned code direction None some eight taken = absurd (some taken)
+value_of-turned code direction (Some level) some eight taken =
     let four : taken.0 < 4 = taken.1.0 in
-    let is : code ≡ 1 + 16 * taken.0 = taken.1.1.0 in
-    let sum : (code + sector) % 256 ≡ 1 + 16 * taken.0 + sector = omega (arith, four, is, sixteen) in
-    ap value_of sum ∙ value_of-code taken.0 sector four sixteen ∙ ap (λ (x : ℤ). Some (turned x sector)) (sym taken.1.1.1)
+    let is : code ≡ 8 + 64 * taken.0 = taken.1.1.0 in
+    let sum : (code + direction) % 256 ≡ 8 + 64 * taken.0 + direction = omega (arith, four, is, eight) in
+    ap value_of sum ∙ value_of-code taken.0 direction four eight ∙ ap (λ (x : ℤ). Some (turned_by x direction)) (sym taken.1.1.1)
 
--- the sector 0 is in it already
-pub value_of-taken : (code sector : ℕ) (level : Option ℤ) → sector ≡ 0 → IsTaken code level
-    → value_of code ≡ option_map (λ x. turned x sector) level
-value_of-taken code sector None zero taken = ap value_of taken
-value_of-taken code sector (Some level) zero taken =
+-- the direction 0 is in it already
+pub value_of-taken : (code direction : ℕ) (level : Option ℤ) → direction ≡ 0 → IsTaken code level
+    → value_of code ≡ option_map (λ x. turned_by x direction) level
+value_of-taken code direction None zero taken = ap value_of taken
+value_of-taken code direction (Some level) zero taken =
     let four : taken.0 < 4 = taken.1.0 in
-    let is : code ≡ 1 + 16 * taken.0 = taken.1.1.0 in
-    let sum : code ≡ 1 + 16 * taken.0 + sector = omega (arith, is, zero) in
-    ap value_of sum ∙ value_of-code taken.0 sector four (omega (arith, zero)) ∙ ap (λ (x : ℤ). Some (turned x sector)) (sym taken.1.1.1)
+    let is : code ≡ 8 + 64 * taken.0 = taken.1.1.0 in
+    let sum : code ≡ 8 + 64 * taken.0 + direction = omega (arith, is, zero) in
+    ap value_of sum ∙ value_of-code taken.0 direction four (omega (arith, zero)) ∙ ap (λ (x : ℤ). Some (turned_by x direction)) (sym taken.1.1.1)
 
 -- ---- levels of the frames
 

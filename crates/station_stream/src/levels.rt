@@ -66,7 +66,7 @@ fn fill_run(frames: &ThreadFrames, shape: &Shape, index: u32, past: u64, codes: 
 }
 
 /// Sets `codes` to the levels of a channel, by its place in the complete samples, at the samples of the scan from `from`
-/// on, each moved by the whole delay there, and the sector 0. The frames hold the samples from `first` up to, not
+/// on, each moved by the whole delay there, and the direction 0. The frames hold the samples from `first` up to, not
 /// including, `last`.
 pub(crate) fn fill_levels(
     frames: &ThreadFrames,

@@ -220,19 +220,19 @@ fn codes_of(stream: &Stream, chan: u32) -> Option<&[u8]> {
     }
 }
 
-// The code of a level 3 that is turned by the sector 0 is 49.
+// The code of a level 3 that is turned by the direction 0 is 200.
 #[test]
 fn codes_of_the_channels(rt: HostRuntime) -> Result<(), Fail> {
     let (f0, f1) = (frame(0, 0xFF), frame(1, 0xFF));
     let stream = stream_of_slots(rt.alloc(), &[&f0, &f1], 0, 0, 8, 60)?;
     let mut codes = [0; 64];
-    codes[8..60].fill(49);
+    codes[8..60].fill(200);
     assert_eq!(rt; codes_of(&stream, 0), Some(&codes[..]));
     assert_eq!(rt; codes_of(&stream, 1), Some(&[][..]));
     Ok(())
 }
 
-// A window has the code 49 at the part's samples before sample `there`, and 0 at others: in room of its own, and in that of
+// A window has the code 200 at the part's samples before sample `there`, and 0 at others: in room of its own, and in that of
 // spare lists, to which it leaves it.
 fn has_codes(
     rt: &impl Abort,
@@ -254,7 +254,7 @@ fn has_codes(
     for n in begin..end {
         let n = u64::from(n);
         let code = if from <= n && n < to && n < there {
-            49u8
+            200u8
         } else {
             0
         };

@@ -3,35 +3,36 @@ ghost use Rattle.std.specs.Prelude.{◌≡◌, ◌+◌, ◌^◌, ◌<◌, ◌≤
 ghost use Rattle.corr_model.specs.Delay.{delay_at};
 ghost use Rattle.corr_model.specs.Rotated.{turned, band_sector};
 ghost use Rattle.delay_track.specs.Track.{model_of};
-ghost use Rattle.value_codes.specs.Codes.{value_of};
+ghost use Rattle.value_codes.specs.Codes.{value_of, turned_by};
 ghost use Rattle.value_codes.specs.Taken.{IsTaken};
 
 use crate::{StationChan, StationPart};
 
-// The byte of a level that is turned by a sector, from that of the level alone.
+// The byte of a level that is turned by a direction, from that of the level alone.
 #[inline(always)]
-fn turned_code(code: u8, sector: u8) -> u8
-    requires { sector < 16 }
-    ensures { (level : Option ℤ) → IsTaken code level → value_of result ≡ option_map (λ l. turned l sector) level }
+fn turned_code(code: u8, direction: u8) -> u8
+    requires { direction < 8 }
+    ensures { (level : Option ℤ) → IsTaken code level → value_of result ≡ option_map (λ l. turned_by l direction) level }
 {
     if code == 0 {
         0
     } else {
-        code.wrapping_add(sector)
+        code.wrapping_add(direction)
     }
 }
 
-// Turns levels by one sector. The sector 0 leaves them as they are.
+// Turns levels by one sector. The sectors of the direction 0 leave them as they are.
 fn turn_codes(sector: u8, codes: &mut [u8])
     requires { sector < 16 }
     ensures { (k : ℕ) (level : Option ℤ) → k < length codes.old → IsTaken (slice_index codes.old k) level
         → value_of (slice_index codes.new k) ≡ option_map (λ l. turned l sector) level }
 {
-    if sector == 0 {
+    let direction = (sector + 1) / 2 % 8;
+    if direction == 0 {
         return;
     }
     for code in codes.iter_mut() {
-        *code = turned_code(*code, sector);
+        *code = turned_code(*code, direction);
     }
 }
 

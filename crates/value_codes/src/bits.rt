@@ -1,6 +1,7 @@
 //! 64 codes by bits.
-ghost use Rattle.std.specs.Prelude.{◌≡◌, ◌<◌, ◌≤◌, ◌+◌, ◌^◌, ◌==◌, ℕ, length, slice_index, if◌then◌else◌};
+ghost use Rattle.std.specs.Prelude.{◌≡◌, ◌≢◌, ◌<◌, ◌≤◌, ◌+◌, ◌^◌, ◌==◌, ℕ, true, length, slice_index, if◌then◌else◌};
 ghost use Rattle.std.specs.Int.{bit_at};
+ghost use Rattle.std.specs.Int.Bits.{bit_and};
 ghost use Rattle.value_codes.specs.Codes.{high_of, low_of, direction_of};
 
 use std::simd::prelude::*;
@@ -29,26 +30,46 @@ fn joined(a: u64, b: u64, c: u64, d: u64) -> u64
     (a | b << 16) | (c | d << 16) << 32
 }
 
-// The bits of a register of codes, from place `at` on.
+// The high and the low bits of a register of codes, from place `at` on. A code's high bit is the top bit of its byte, and its low bit
+// that of the byte doubled.
 #[inline(always)]
-fn lane_bits(codes: &[u8], at: usize) -> CodeBits
+fn lane_levels(codes: &[u8], at: usize) -> (u64, u64)
     requires inside { at + LANES ≤ length codes.now }
-    ensures below { (result.there < 2 ^ 16) × (result.high < 2 ^ 16) × (result.low < 2 ^ 16) }
-    ensures there { (k : ℕ) → k < LANES → bit_at result.there k ≡ (if slice_index codes.now (at + k) == 0 then 0 else 1) }
-    ensures high { (k : ℕ) → k < LANES → bit_at result.high k ≡ high_of (slice_index codes.now (at + k)) }
-    ensures low { (k : ℕ) → k < LANES → bit_at result.low k ≡ low_of (slice_index codes.now (at + k)) }
+    ensures below { (result.0 < 2 ^ 16) × (result.1 < 2 ^ 16) }
+    ensures high { (k : ℕ) → k < LANES → bit_at result.0 k ≡ high_of (slice_index codes.now (at + k)) }
+    ensures low { (k : ℕ) → k < LANES → bit_at result.1 k ≡ low_of (slice_index codes.now (at + k)) }
 {
-    let none = u8x16::splat(0);
     let lanes = u8x16::from_slice(&codes[at..]);
-    let there = lanes.simd_ne(none);
-    let past = lanes - u8x16::splat(1);
-    let high = (past & u8x16::splat(32)).simd_ne(none);
-    let low = (past & u8x16::splat(16)).simd_ne(none);
-    CodeBits {
-        there: there.to_bitmask(),
-        high: (there & high).to_bitmask(),
-        low: (there & low).to_bitmask(),
-    }
+    let top = u8x16::splat(128);
+    (
+        lanes.simd_ge(top).to_bitmask(),
+        (lanes + lanes).simd_ge(top).to_bitmask(),
+    )
+}
+
+/// The high and the low bits of the level codes of the first 64 codes; 0 where there is no value.
+pub fn level_bits(codes: &[u8]) -> (u64, u64)
+    requires { 64 ≤ length codes.now }
+    ensures high { (k : ℕ) → k < 64 → bit_at result.0 k ≡ high_of (slice_index codes.now k) }
+    ensures low { (k : ℕ) → k < 64 → bit_at result.1 k ≡ low_of (slice_index codes.now k) }
+{
+    let a = lane_levels(codes, 0);
+    let b = lane_levels(codes, LANES);
+    let c = lane_levels(codes, 2 * LANES);
+    let d = lane_levels(codes, 3 * LANES);
+    (joined(a.0, b.0, c.0, d.0), joined(a.1, b.1, c.1, d.1))
+}
+
+// Where a register of codes, from place `at` on, has values.
+#[inline(always)]
+fn lane_there(codes: &[u8], at: usize) -> u64
+    requires inside { at + LANES ≤ length codes.now }
+    ensures below { result < 2 ^ 16 }
+    ensures bits { (k : ℕ) → k < LANES → bit_at result k ≡ (if slice_index codes.now (at + k) == 0 then 0 else 1) }
+{
+    u8x16::from_slice(&codes[at..])
+        .simd_ne(u8x16::splat(0))
+        .to_bitmask()
 }
 
 /// The bits of the first 64 codes.
@@ -58,15 +79,14 @@ pub fn code_bits(codes: &[u8]) -> CodeBits
     ensures high { (k : ℕ) → k < 64 → bit_at result.high k ≡ high_of (slice_index codes.now k) }
     ensures low { (k : ℕ) → k < 64 → bit_at result.low k ≡ low_of (slice_index codes.now k) }
 {
-    let a = lane_bits(codes, 0);
-    let b = lane_bits(codes, LANES);
-    let c = lane_bits(codes, 2 * LANES);
-    let d = lane_bits(codes, 3 * LANES);
-    CodeBits {
-        there: joined(a.there, b.there, c.there, d.there),
-        high: joined(a.high, b.high, c.high, d.high),
-        low: joined(a.low, b.low, c.low, d.low),
-    }
+    let there = joined(
+        lane_there(codes, 0),
+        lane_there(codes, LANES),
+        lane_there(codes, 2 * LANES),
+        lane_there(codes, 3 * LANES),
+    );
+    let (high, low) = level_bits(codes);
+    CodeBits { there, high, low }
 }
 
 // Where a register of codes, from place `at` on, has a direction.
@@ -78,8 +98,8 @@ fn lane_directions(codes: &[u8], at: usize, direction: u8) -> u64
     ensures bits { (k : ℕ) → k < LANES → bit_at result k ≡ (if direction_of (slice_index codes.now (at + k)) == direction then 1 else 0) }
 {
     let lanes = u8x16::from_slice(&codes[at..]);
-    (lanes & u8x16::splat(14))
-        .simd_eq(u8x16::splat(2 * direction))
+    (lanes & u8x16::splat(7))
+        .simd_eq(u8x16::splat(direction))
         .to_bitmask()
 }
 
@@ -95,4 +115,36 @@ pub fn direction_bits(codes: &[u8], direction: u8) -> u64
         lane_directions(codes, 2 * LANES, direction),
         lane_directions(codes, 3 * LANES, direction),
     )
+}
+
+// Whether the first 64 codes, each by the bits of `mask` alone, are all `code`.
+#[inline(always)]
+fn are_all(codes: &[u8], mask: u8, code: u8) -> bool
+    requires { 64 ≤ length codes.now }
+    ensures { result ≡ true → (k : ℕ) → k < 64 → bit_and (slice_index codes.now k) mask ≡ code }
+{
+    let bits = u8x16::splat(mask);
+    let wanted = u8x16::splat(code);
+    let a = (u8x16::from_slice(codes) & bits).simd_eq(wanted);
+    let b = (u8x16::from_slice(&codes[LANES..]) & bits).simd_eq(wanted);
+    let c = (u8x16::from_slice(&codes[2 * LANES..]) & bits).simd_eq(wanted);
+    let d = (u8x16::from_slice(&codes[3 * LANES..]) & bits).simd_eq(wanted);
+    ((a & b) & (c & d)).all()
+}
+
+/// Whether the first 64 codes are all there, and of one direction, 0 to 7.
+pub fn are_of(codes: &[u8], direction: u8) -> bool
+    requires room { 64 ≤ length codes.now }
+    requires direction { direction < 8 }
+    ensures { result ≡ true → (k : ℕ) → k < 64 → (slice_index codes.now k ≢ 0) × (direction_of (slice_index codes.now k) ≡ direction) }
+{
+    are_all(codes, 15, 8 + direction)
+}
+
+/// Whether none of the first 64 codes has a value.
+pub fn are_none(codes: &[u8]) -> bool
+    requires { 64 ≤ length codes.now }
+    ensures { result ≡ true → (k : ℕ) → k < 64 → slice_index codes.now k ≡ 0 }
+{
+    are_all(codes, 255, 0)
 }

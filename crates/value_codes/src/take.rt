@@ -10,9 +10,9 @@ fn taken(bits: u8, byte: u8) -> u8
     ensures { result ≡ taken_of bits (byte % 2 ^ bits) }
 {
     if bits == 2 {
-        1 + 16 * (byte % 4)
+        8 + 64 * (byte % 4)
     } else {
-        17 + 16 * (byte % 2)
+        72 + 64 * (byte % 2)
     }
 }
 
@@ -162,7 +162,7 @@ fn take_whole(
 }
 
 /// Sets each code to that of a sample of channel `chan`, from sample `first` on, in a data array of `chans` channels with `bits`
-/// bits a sample, turned by the sector 0 (VDIF 1.1.1, data array).
+/// bits a sample, turned by the direction 0 (VDIF 1.1.1, data array).
 pub fn take_levels(array: &[u8], bits: u8, chans: u32, chan: u32, first: u64, codes: &mut [u8])
     requires width { (bits ≡ 1) ⊎ (bits ≡ 2) }
     requires channel { chan < chans }

@@ -14,7 +14,7 @@ pub fn value_of(code: u8) -> Option<(i8, i8)>
     if code == 0 {
         return None;
     }
-    Some(rotate(level(2, (code - 1) / 16 % 4), (code - 1) % 16))
+    Some(rotate(level(2, code / 64), 2 * (code % 8)))
 }
 
 /// The value in the byte at a place; None in the byte 0 and past the end.

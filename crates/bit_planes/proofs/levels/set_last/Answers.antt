@@ -9,10 +9,10 @@ pub returns-then-whole-codes-clause-len : goal.returns-then-whole-codes-clause-l
 returns-then-whole-codes-clause-len c =
     let levels = c.args.levels.now in
     let i = length c.args.codes.now / 64 in
-    let bits = c.code_bits-bits.result in
+    let bits = c.level_bits-high.result in
     record {
-      high = ap length c.set.ensures.high ∙ length-set levels.high i bits.high;
-      low = ap length c.set.ensures.low ∙ length-set levels.low i bits.low;
+      high = ap length c.set.ensures.high ∙ length-set levels.high i bits.0;
+      low = ap length c.set.ensures.low ∙ length-set levels.low i bits.1;
     }
 
 pub returns-then-whole-codes-clause-set : goal.returns-then-whole-codes-clause-set
@@ -20,15 +20,15 @@ returns-then-whole-codes-clause-set c =
     let codes = c.args.codes.now in
     let i = length codes / 64 in
     let levels = c.args.levels.now in
-    let bits = c.code_bits-bits in
+    let bits = c.level_bits-high in
     let inside : i < length levels.high = omega (arith, c.requires.long) in
     record {
       high = λ k h.
           ap (λ (l : List ℕ). plane_bit l k) c.set.ensures.high
-          ∙ plane_bit-filled high_of levels.high codes c.last_codes.result i bits.result.high inside c.requires.set.high bits.ensures.high
+          ∙ plane_bit-filled high_of levels.high codes c.last_codes.result i bits.result.0 inside c.requires.set.high bits.ensures.high
           (λ j. c.last_codes.ensures j ∙ get_or-rest codes (64 * i) j) k (omega arith);
       low = λ k h.
           ap (λ (l : List ℕ). plane_bit l k) c.set.ensures.low
-          ∙ plane_bit-filled low_of levels.low codes c.last_codes.result i bits.result.low (omega (arith, inside, c.requires.even)) c.requires.set.low
+          ∙ plane_bit-filled low_of levels.low codes c.last_codes.result i bits.result.1 (omega (arith, inside, c.requires.even)) c.requires.set.low
           bits.ensures.low (λ j. c.last_codes.ensures j ∙ get_or-rest codes (64 * i) j) k (omega arith);
     }

@@ -1,10 +1,12 @@
-use Rattle.std.proofs.Common.{◌≡◌, slice_index, arith}
-use Rattle.std.proofs.lemmas.Bool.Decides.{nat_tests}
-use Rattle.bit_planes.proofs.RunLemmas.{kind_of-all}
+use Rattle.std.proofs.Common.{slice_index, sym, ap, ◌∙◌}
+use Rattle.bit_planes.specs.Stretches.{kind_of}
+use Rattle.bit_planes.proofs.RunLemmas.{kind_of-some}
 use Rattle.bit_planes.proofs.stretches.are_all.Goals as goal
 
-pub returns-then-there-eq18446744073709551615 : goal.returns-then-there-eq18446744073709551615
-returns-then-there-eq18446744073709551615 c all k h =
-    let directions : c.direction_bits.result ≡ 18446744073709551615 = grind (arith, nat_tests) in
-    kind_of-all c.args.there c.direction_bits.result k (slice_index c.args.codes.now k) c.args.kind
-    c.if-there-eq18446744073709551615.true directions h (c.requires.there k h) (c.direction_bits.ensures k h)
+pub returns-then-kind-eq-GAP : goal.returns-then-kind-eq-GAP
+returns-then-kind-eq-GAP c all k h = ap kind_of (c.are_none.ensures all k h) ∙ sym c.if-kind-eq-GAP.true
+
+pub returns : goal.returns
+returns c all k h =
+    let of = c.are_of.ensures all k h in
+    kind_of-some (slice_index c.args.codes.now k) of.0 ∙ of.1

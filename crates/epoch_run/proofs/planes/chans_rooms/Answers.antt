@@ -1,14 +1,14 @@
-use Rattle.std.proofs.Common.{rules, ◌≡◌, List, get_or, subst, sym, arith}
+use Rattle.std.proofs.Common.{rules, List, get_or, subst, sym, arith}
 use Rattle.std.proofs.lemmas.Int.{ints}
 use Rattle.bit_planes.specs.Planes.{PlanesFields}
 use Rattle.epoch_run.specs.Planes.{HasRoom}
 use Rattle.epoch_run.proofs.PlaneValues.{each-more}
 use Rattle.epoch_run.proofs.planes.chans_rooms.Goals as goal
 
-pub loop-chan-preserved : goal.loop-chan-preserved
-loop-chan-preserved c =
+pub loop-preserved : goal.loop-preserved
+loop-preserved c =
     let stream = c.args.stream.now in
-    let old = c.loop-chan.invariant in
+    let old = c.loop.invariant in
     let p = c.in_ok-room.room in
     let new : HasRoom stream p = record {
       from = omega (arith, ints, c.in_ok-room.ensures.range.0, c.from.ensures);
@@ -19,5 +19,5 @@ loop-chan-preserved c =
       count = search rules;
       each = λ k d h.
           subst (λ (chans : List PlanesFields). HasRoom stream (get_or chans k d)) (sym c.in_ok-push.ensures.items)
-          (each-more (λ j p. HasRoom stream p) c.loop-chan.chans.items p c.loop-chan.chan old.count old.each new k d h);
+          (each-more (λ j p. HasRoom stream p) c.loop.chans.items p c.loop.counter old.count old.each new k d h);
     }

@@ -1,5 +1,4 @@
-use Rattle.std.proofs.Common.{◌≡◌, ◌<◌, ℕ, Vec, Global, length, get_or, subst, sym, arith}
-use Rattle.std.specs.Fork.{ChangesAt}
+use Rattle.std.proofs.Common.{◌<◌, ℕ, Vec, Global, length, get_or, subst, sym, arith}
 use Rattle.bit_planes.specs.Planes.{PlanesFields}
 use Rattle.epoch_run.specs.Planes.{HoldChans, IsFilledAt}
 use Rattle.epoch_run.proofs.words.write_all.Goals as goal

@@ -7,11 +7,11 @@ use Rattle.lag_kernel.specs.Planes.{plane_pair}
 use Rattle.lag_kernel.specs.Sides.{side_samples}
 use Rattle.lag_kernel.proofs.blocks.add_block.Given as goal
 
-abbrev pub invariant-loop-copy : goal.invariant-loop-copy
-invariant-loop-copy l = record {
+abbrev pub invariant-loop-class : goal.invariant-loop-class
+invariant-loop-class l = record {
   len : length l.out ≡ length l.initial.out;
-  done : (k : ℕ) (d : Cell) → k < length l.initial.out → k % 8 < l.copy
+  done : (k : ℕ) (d : Cell) → k < length l.initial.out → k % 8 < l.class
       → get_or l.out k d ≡ cell_plus (get_or l.initial.out k d) (cell_in (side_samples l.a l.b) plane_pair l.samples (lag_of (length l.initial.out) k) l.at l.stop);
-  grown : (k : ℕ) (d : Cell) → k < length l.initial.out → k % 8 < l.copy → IsGrown (get_or l.out k d) (l.pairs + (l.stop - l.at));
-  left : (k : ℕ) (d : Cell) → l.copy ≤ k % 8 → get_or l.out k d ≡ get_or l.initial.out k d;
+  grown : (k : ℕ) (d : Cell) → k < length l.initial.out → k % 8 < l.class → IsGrown (get_or l.out k d) (l.pairs + (l.stop - l.at));
+  left : (k : ℕ) (d : Cell) → l.class ≤ k % 8 → get_or l.out k d ≡ get_or l.initial.out k d;
 }

@@ -1,4 +1,5 @@
-use Rattle.std.proofs.Common.{◌∙◌, arith}
+use Rattle.std.proofs.Common.{◌-◌, ◌∙◌, arith}
+use Rattle.lag_kernel.proofs.HeldLemmas.{IsGrown-wider}
 use Rattle.lag_kernel.proofs.SideLemmas.{lag-none, lag-pairs}
 use Rattle.lag_kernel.proofs.blocks.lag_cell.Goals as goal
 
@@ -18,3 +19,8 @@ returns-clause-value c =
     (omega arith) (omega arith) (omega arith) (omega arith) (omega arith) (omega arith) (omega arith) (omega arith)
     (λ n h k l m. omega arith)
     (λ n h k l m o. omega arith)
+
+pub returns-clause-grown : goal.returns-clause-grown
+returns-clause-grown c =
+    IsGrown-wider c.overlap_cell.result (c.min-end.result - c.max-start.result) (c.args.stop - c.args.at) c.overlap_cell.ensures.grown
+    (omega arith)

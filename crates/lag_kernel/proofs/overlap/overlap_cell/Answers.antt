@@ -1,8 +1,8 @@
 use Rattle.std.proofs.Common.{◌≡◌, ◌+◌, ◌-◌, ◌<◌, ◌≤◌, sym, subst, refl, arith}
 use Rattle.corr_model.specs.declared.cell.Cell.{Cell}
 use Rattle.corr_model.proofs.CellLemmas.{IsGrown, IsGrown-none}
-use Rattle.level_sums.specs.Held.{plane_level, copy_level}
-use Rattle.lag_kernel.specs.Sides.{first_place, second_place}
+use Rattle.level_sums.specs.Held.{plane_level}
+use Rattle.lag_kernel.specs.Sides.{side_place}
 use Rattle.lag_kernel.proofs.HeldLemmas.{IsGrown-plus}
 use Rattle.lag_kernel.proofs.RunLemmas.{ArePast-later, pairs_cell-more, pairs_cell-none}
 use Rattle.lag_kernel.proofs.overlap.overlap_cell.Goals as goal
@@ -15,7 +15,7 @@ loop-n-init c = record {
   past_a = ArePast-later c.args.a.now.runs.now c.args.first c.args.i (c.args.i + 0) c.requires.past_a (omega arith);
   past_b = ArePast-later c.args.b.now.runs.now c.args.second c.args.j (c.args.j + 0) c.requires.past_b (omega arith);
   grown = IsGrown-none 0;
-  value = pairs_cell-none (first_place c.args.a.now) (second_place c.args.b.now) c.args.i c.args.j 0 refl;
+  value = pairs_cell-none (side_place c.args.a.now) (side_place c.args.b.now) c.args.i c.args.j 0 refl;
 }
 
 pub loop-n-preserved : goal.loop-n-preserved
@@ -43,7 +43,7 @@ loop-n-preserved c =
           subst (λ (d : Cell). IsGrown d end) (sym c.plus-cell.ensures.sum)
           (subst (IsGrown _) whole (IsGrown-plus c.loop-n.cell c.stretch_cell.result n (end - n) old.grown c.stretch_cell.ensures.grown));
       value =
-          pairs_cell-more (plane_level a.levels.now) (copy_level b.copies.now) a.runs.now b.runs.now
+          pairs_cell-more (plane_level a.levels.now) (plane_level b.levels.now) a.runs.now b.runs.now
           x.result.direction y.result.direction i j n end c.loop-n.cell c.stretch_cell.result c.plus-cell.result (omega arith)
           (λ k h m. x.ensures.constant k h (omega arith)) (λ k h m. y.ensures.constant k h (omega arith))
           old.value c.stretch_cell.ensures.value c.plus-cell.ensures.sum;

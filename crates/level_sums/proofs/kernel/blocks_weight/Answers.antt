@@ -31,7 +31,7 @@ loop-i-preserved c =
           runs_more (differ_at (plane_bit a.al.now) (plane_bit (words_of a.bl.now))) 2048 i (64 * (32 * i)) _ _ _ (omega arith) old.low refl
           c.plus_signs-low.ensures.sum;
       mix =
-          runs_more (third_at (plane_bit a.ah.now) (plane_bit a.am.now) (plane_bit (words_of a.bh.now)) (plane_bit (words_of a.bm.now))) 2048 i (64 * (32 * i)) _ _ _ (omega arith) old.mix refl
+          runs_more (third_at (plane_bit a.ah.now) (plane_bit a.am.now) (plane_bit (words_of a.bh.now)) (differ_at (plane_bit (words_of a.bh.now)) (plane_bit (words_of a.bl.now)))) 2048 i (64 * (32 * i)) _ _ _ (omega arith) old.mix refl
           c.plus_third-mix.ensures.sum;
       whole_sign = c.plus_signs-sign.ensures.whole;
       whole_low = c.plus_signs-low.ensures.whole;

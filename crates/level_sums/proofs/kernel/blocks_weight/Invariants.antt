@@ -10,7 +10,7 @@ abbrev pub invariant-loop-i : goal.invariant-loop-i
 invariant-loop-i l = record {
   sign : total l.sign ≡ nat_sum (differ_at (plane_bit l.ah) (plane_bit (words_of l.bh))) 0 (2048 * l.i);
   low : total l.low ≡ nat_sum (differ_at (plane_bit l.al) (plane_bit (words_of l.bl))) 0 (2048 * l.i);
-  mix : total l.mix ≡ nat_sum (third_at (plane_bit l.ah) (plane_bit l.am) (plane_bit (words_of l.bh)) (plane_bit (words_of l.bm))) 0 (2048 * l.i);
+  mix : total l.mix ≡ nat_sum (third_at (plane_bit l.ah) (plane_bit l.am) (plane_bit (words_of l.bh)) (differ_at (plane_bit (words_of l.bh)) (plane_bit (words_of l.bl)))) 0 (2048 * l.i);
   whole_sign : IsWhole l.sign;
   whole_low : IsWhole l.low;
   whole_mix : IsWhole l.mix;

@@ -17,9 +17,9 @@ returns c =
     let signs = counts_joined (differ_at (plane_bit a.ah.now) (plane_bit (words_of a.bh.now))) n count (omega arith) in
     let lows = counts_joined (differ_at (plane_bit a.al.now) (plane_bit (words_of a.bl.now))) n count (omega arith) in
     let thirds =
-    counts_joined (third_at (plane_bit a.ah.now) (plane_bit a.am.now) (plane_bit (words_of a.bh.now)) (plane_bit (words_of a.bm.now))) n count (omega arith) in
+    counts_joined (third_at (plane_bit a.ah.now) (plane_bit a.am.now) (plane_bit (words_of a.bh.now)) (differ_at (plane_bit (words_of a.bh.now)) (plane_bit (words_of a.bl.now)))) n count (omega arith) in
     let sum =
-    words_sum-weight a.ah.now a.al.now a.am.now a.bh.now a.bl.now a.bm.now (64 * n) (c.blocks_weight-blocks.result + c.words_weight-rest.result)
-    (λ k. (t.bh k).fits) (λ k. (t.bl k).fits) (λ k. (t.bm k).fits) (omega arith) (omega arith) (omega arith)
-    r.unit_a r.unit_b (omega (arith, signs, lows, thirds, c.blocks_weight-blocks.ensures.value, c.words_weight-rest.ensures.value)) in
+    words_sum-weight a.ah.now a.al.now a.am.now a.bh.now a.bl.now (64 * n) (c.blocks_weight-blocks.result + c.words_weight-rest.result)
+    (λ k. (t.bh k).fits) (λ k. (t.bl k).fits) (omega arith) (omega arith)
+    r.unit_a (omega (arith, signs, lows, thirds, c.blocks_weight-blocks.ensures.value, c.words_weight-rest.ensures.value)) in
     omega (arith, ints, sum, c.blocks_weight-blocks.ensures.small, c.words_weight-rest.ensures.small)

@@ -1,6 +1,6 @@
 use Rattle.std.proofs.Common.{◌+◌, ◌-◌, ◌*◌, ◌/◌, ◌%◌, arith}
 use Rattle.std.proofs.lemmas.Int.{ints}
-use Rattle.level_sums.specs.Held.{plane_level, copy_level}
+use Rattle.level_sums.specs.Held.{plane_level}
 use Rattle.level_sums.proofs.ProductLemmas.{level_sum-join, stretch-bounds}
 use Rattle.level_sums.proofs.stretch.stretch_sum.Goals as goal
 
@@ -17,7 +17,7 @@ returns-clause-sum c =
     let x = c.part_sum-first.ensures in
     let y = c.rest_sum-rest.ensures in
     let sum =
-    level_sum-join (plane_level a.a.now) (copy_level a.b.now) a.i a.j room (a.count - room) (64 * (a.i / 64 + 1)) (a.j + room)
+    level_sum-join (plane_level a.a.now) (plane_level a.b.now) a.i a.j room (a.count - room) (64 * (a.i / 64 + 1)) (a.j + room)
     a.count c.part_sum-first.result c.rest_sum-rest.result (omega arith) (omega arith) (omega arith) x.sum y.sum in
     omega (arith, ints, sum, x.low, x.high, y.low, y.high, c.are_in_scan.ensures, c.are_in_scan-2.ensures, c.requires.first, c.requires.second)
 

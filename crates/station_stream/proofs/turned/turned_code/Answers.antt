@@ -5,4 +5,4 @@ use Rattle.station_stream.proofs.turned.turned_code.Goals as goal
 pub returns-else-code-eq0 : goal.returns-else-code-eq0
 returns-else-code-eq0 c =
     let some : c.args.code ≢ 0 = omega arith in
-    λ level taken. value_of-turned c.args.code c.args.sector level some c.requires taken
+    λ level taken. value_of-turned c.args.code c.args.direction level some c.requires taken

@@ -1,4 +1,4 @@
-use Rattle.std.proofs.Common.{◌≡◌, ◌∙◌, List, Vec, Global, length, subst, sym, arith}
+use Rattle.std.proofs.Common.{◌≡◌, ◌∙◌, List, Vec, Global, length, subst, sym}
 use Rattle.bit_planes.specs.Planes.{PlanesFields}
 use Rattle.epoch_run.specs.Planes.{AreFilled}
 use Rattle.epoch_run.proofs.PlaneValues.{AllLevelled-filled, HoldStreams-filled, kept_items}

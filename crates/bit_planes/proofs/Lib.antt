@@ -4,3 +4,4 @@ pub mod ValueLemmas
 pub mod TurnLemmas
 pub mod RunLemmas
 pub mod LevelLemmas
+pub mod WrittenLemmas

@@ -1,14 +1,14 @@
 -- Runs that are found one after another.
-use Rattle.std.proofs.Common.{◌≡◌, ℕ, zero, suc, ◌+◌, ◌<◌, ◌≤◌, ◌==◌, Bool, true, false, cond, List, [], ◌∷◌, ◌++◌, length, get_or, Some, None, if◌then◌else◌, inl, inr, refl, sym, ap, ◌∙◌, arith, length-append}
+use Rattle.std.proofs.Common.{◌≡◌, ℕ, zero, suc, ◌+◌, ◌-◌, ◌<◌, ◌≤◌, ◌==◌, Bool, true, false, cond, List, [], ◌∷◌, ◌++◌, length, get_or, Some, None, if◌then◌else◌, inl, inr, refl, sym, ap, ◌∙◌, arith, length-append}
 use Rattle.std.specs.List.{find}
 use Rattle.std.specs.Option.{option_map}
 use Rattle.std.proofs.lemmas.Bool.{cases_lt}
 use Rattle.std.proofs.lemmas.Bool.Decides.{nat_tests}
-use Rattle.std.proofs.lemmas.List.{get_or_append_left, get_or_at, get_or_past}
+use Rattle.std.proofs.lemmas.List.{get_or_append_left, get_or_at, get_or_default, get_or_past}
 use Rattle.value_codes.specs.Codes.{direction_of}
 use Rattle.bit_planes.specs.declared.runs.Run.{Run}
 use Rattle.bit_planes.specs.declared.stretches.Stretch.{Stretch}
-use Rattle.bit_planes.specs.Runs.{has, direction_at, AreRuns}
+use Rattle.bit_planes.specs.Runs.{has, direction_at, AreRuns, AreAdded}
 use Rattle.bit_planes.specs.Stretches.{code_direction, kind_of, kind_direction, AreFound}
 
 -- ---- which run has a place
@@ -83,7 +83,7 @@ pub direction_at-kept : (runs : List Run) (n k : ℕ) (r : Run) → r.from ≡ n
 unfolding direction_at
 direction_at-kept runs n k r from before = find_push (λ (r : Run). r.direction) (has k) runs r (early_not k r (omega arith))
 
-pub AreRuns-more : (runs : List Run) (n : ℕ) (r : Run) → AreRuns runs n → r.from ≡ n → r.from ≤ r.to → r.direction < 8
+pub AreRuns-more : (runs : List Run) (n : ℕ) (r : Run) → AreRuns runs n → r.from ≡ n → r.from < r.to → r.direction < 8
     → AreRuns (runs ++ r ∷ []) r.to
 AreRuns-more runs n r are from order turn = record {
   each = λ i d h. elim (cases_lt i (length runs)) [
@@ -121,6 +121,31 @@ AreRuns-longer runs n m are h = record {
   turns = are.turns;
 }
 
+-- runs that have no place from place `at` on
+pub AreRuns-before : (runs : List Run) (size at : ℕ) → AreRuns runs size → ((k : ℕ) → at ≤ k → direction_at runs k ≡ None)
+    → AreRuns runs at
+AreRuns-before runs size at are none = record {
+  each = are.each;
+  apart = are.apart;
+  inside = λ i d h. elim (cases_lt at (get_or runs i d).to) [
+    | inl q ↦
+        let last : ℕ = (get_or runs i d).to - 1 in
+        let some = are.each i d h in
+        let there : direction_at runs last ≡ Some (get_or runs i d).direction =
+        direction_at-first runs last i d h (λ j e m. over_not last (get_or runs j e) (earlier i j d e h m)) (omega arith) (omega arith) in
+        let gone : direction_at runs last ≡ None = none last (omega arith) in
+        absurd (cc)
+    | inr q ↦ q
+  ];
+  turns = are.turns;
+}
+  where
+    earlier : (i j : ℕ) (d e : Run) → i < length runs → j < i → (get_or runs j e).to ≤ (get_or runs i d).to - 1
+    earlier i j d e h m =
+        let same = get_or_default runs j e d (omega arith) in
+        let some = are.each i d h in
+        rw same (omega (arith, are.apart j i d m h))
+
 pub AreRuns-none : (n : ℕ) → AreRuns [] n
 AreRuns-none n = record {
   each = λ i d h. absurd (omega arith);
@@ -155,11 +180,51 @@ kind_of-some code some =
     let test : (code == 0) ≡ false = grind (arith, nat_tests) in
     ap (λ t. if t then 8 else direction_of code) test
 
+-- ---- runs that are added
+
+pub AreAdded-on : (old mid new : List Run) (at size : ℕ) → AreAdded old mid at size → AreAdded mid new at size → AreAdded old new at size
+AreAdded-on old mid new at size one more = record {
+  runs = more.runs;
+  before = λ k h. more.before k h ∙ one.before k h;
+}
+
+pub AreAdded-wider : (old new : List Run) (at to first size : ℕ) → AreAdded old new at to → first ≤ at → to ≤ size
+    → AreAdded old new first size
+AreAdded-wider old new at to first size added h m = record {
+  runs = AreRuns-longer new to size added.runs m;
+  before = λ k q. added.before k (omega arith);
+}
+
+-- no run more
+pub AreAdded-found : (codes : List ℕ) (at : ℕ) (found : List Run) (s : Stretch) (n size : ℕ) → AreFound codes at found s n
+    → at + n ≤ size → AreAdded found found at size
+AreAdded-found codes at found s n size are h = record {
+  runs = AreRuns-longer found s.from size are.runs (omega (arith, are.order));
+  before = λ k q. refl;
+}
+
+-- ---- stretches
+
+-- the stretch before any code
+pub AreFound-none : (codes : List ℕ) (at : ℕ) (found : List Run) (s : Stretch) → AreRuns found at → s.from ≡ at → s.kind ≡ 8
+    → AreFound codes at found s 0
+AreFound-none codes at found s are from kind = record {
+  start = omega arith;
+  order = omega arith;
+  some = λ some. absurd (some kind);
+  small = omega arith;
+  runs = rw from are;
+  before = λ k h. absurd (omega arith);
+  here = λ k low high. absurd (omega arith);
+}
+
 -- the stretch goes on
-pub AreFound-far : (codes : List ℕ) (found : List Run) (s : Stretch) (n m : ℕ) → AreFound codes found s n → n ≤ m
-    → ((k : ℕ) → n ≤ k → k < m → kind_of (get_or codes k 0) ≡ s.kind) → AreFound codes found s m
-AreFound-far codes found s n m are h more = record {
+pub AreFound-far : (codes : List ℕ) (at : ℕ) (found : List Run) (s : Stretch) (n m : ℕ) → AreFound codes at found s n → n ≤ m
+    → ((k : ℕ) → n ≤ k → k < m → kind_of (get_or codes k 0) ≡ s.kind) → AreFound codes at found s m
+AreFound-far codes at found s n m are h more = record {
+  start = are.start;
   order = omega (arith, are.order);
+  some = λ some. omega (arith, are.some some);
   small = are.small;
   runs = are.runs;
   before = are.before;
@@ -170,37 +235,40 @@ AreFound-far codes found s n m are h more = record {
 }
 
 -- the stretch after one that is closed
-pub AreFound-next : (codes : List ℕ) (old new : List Run) (s t : Stretch) (n : ℕ) → AreFound codes old s n
-    → AreRuns new n
-    → ((k : ℕ) → k < s.from → direction_at new k ≡ direction_at old k)
-    → ((k : ℕ) → s.from ≤ k → k < n → direction_at new k ≡ kind_direction s.kind)
-    → t.from ≡ n → t.kind ≡ kind_of (get_or codes n 0) → t.kind ≤ 8 → AreFound codes new t (n + 1)
-AreFound-next codes old new s t n found are before here from kind small = record {
+pub AreFound-next : (codes : List ℕ) (at : ℕ) (old new : List Run) (s t : Stretch) (n : ℕ) → AreFound codes at old s n
+    → AreAdded old new s.from (at + n)
+    → ((k : ℕ) → s.from ≤ k → k < at + n → direction_at new k ≡ kind_direction s.kind)
+    → t.from ≡ at + n → t.kind ≡ kind_of (get_or codes n 0) → t.kind ≤ 8 → AreFound codes at new t (n + 1)
+AreFound-next codes at old new s t n found added here from kind small = record {
+  start = omega arith;
   order = omega arith;
+  some = λ some. omega arith;
   small = small;
-  runs = rw from are;
-  before = λ k h. elim (cases_lt k s.from) [
-    | inl q ↦ before k q ∙ found.before k q
-    | inr q ↦ here k q (omega arith) ∙ ap kind_direction (sym (found.here k q (omega arith))) ∙ kind_direction-code (get_or codes k 0)
+  runs = rw from added.runs;
+  before = λ k h. elim (cases_lt (at + k) s.from) [
+    | inl q ↦ added.before (at + k) q ∙ found.before k q
+    | inr q ↦
+        here (at + k) q (omega arith) ∙ ap kind_direction (sym (found.here k q (omega arith))) ∙ kind_direction-code (get_or codes k 0)
   ];
   here = λ k low high.
-      let at : k ≡ n = omega arith in
-      rw at (sym kind);
+      let last : k ≡ n = omega arith in
+      rw last (sym kind);
 }
 
 -- the last stretch being closed
-pub directions-all : (codes : List ℕ) (old new : List Run) (s : Stretch) → AreFound codes old s (length codes)
-    → AreRuns new (length codes)
-    → ((k : ℕ) → k < s.from → direction_at new k ≡ direction_at old k)
-    → ((k : ℕ) → s.from ≤ k → k < length codes → direction_at new k ≡ kind_direction s.kind)
-    → (k : ℕ) → direction_at new k ≡ code_direction (get_or codes k 0)
-directions-all codes old new s found are before here k =
-    elim (cases_lt k s.from) [
-      | inl q ↦ before k q ∙ found.before k q
+pub directions-all : (codes : List ℕ) (at : ℕ) (old new : List Run) (s : Stretch) → AreFound codes at old s (length codes)
+    → AreAdded old new s.from (at + length codes)
+    → ((k : ℕ) → s.from ≤ k → k < at + length codes → direction_at new k ≡ kind_direction s.kind)
+    → (k : ℕ) → direction_at new (at + k) ≡ code_direction (get_or codes k 0)
+directions-all codes at old new s found added here k =
+    elim (cases_lt (at + k) s.from) [
+      | inl q ↦ added.before (at + k) q ∙ found.before k q
       | inr q ↦
           elim (cases_lt k (length codes)) [
-            | inl p ↦ here k q p ∙ ap kind_direction (sym (found.here k q p)) ∙ kind_direction-code (get_or codes k 0)
+            | inl p ↦
+                here (at + k) q (omega arith) ∙ ap kind_direction (sym (found.here k q p)) ∙ kind_direction-code (get_or codes k 0)
             | inr p ↦
-                direction_at-past new (length codes) k are p ∙ ap code_direction (sym (get_or_past codes k 0 p))
+                direction_at-past new (at + length codes) (at + k) added.runs (omega arith)
+                ∙ ap code_direction (sym (get_or_past codes k 0 p))
           ]
     ]

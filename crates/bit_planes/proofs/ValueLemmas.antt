@@ -10,13 +10,13 @@ use Rattle.std.specs.Option.{ForSome, option_map, option_or}
 use Rattle.corr_model.specs.Cell.{Value}
 use Rattle.bit_planes.specs.declared.runs.LevelRuns.{LevelRuns}
 use Rattle.bit_planes.specs.declared.runs.Run.{Run}
-use Rattle.bit_planes.specs.Runs.{AreRuns, AreLevelRuns, IsRoom, HoldCodes, direction_at, run_value, place_value}
-use Rattle.bit_planes.proofs.RunLemmas.{AreRuns-none, direction_at-none}
+use Rattle.bit_planes.specs.Runs.{AreRuns, AreLevelRuns, IsRoom, AreRoom, direction_at, run_value, place_value}
+use Rattle.bit_planes.proofs.RunLemmas.{AreRuns-none, AreRuns-before, AreRuns-longer, direction_at-none}
 use Rattle.level_sums.specs.Held.{plane_level}
 use Rattle.value_codes.specs.Codes.{value_of, turned_by}
 use Rattle.bit_planes.specs.declared.word.Word.{Word}
 use Rattle.bit_planes.specs.Word.{component, word_value}
-use Rattle.bit_planes.specs.Planes.{PlanesFields, ArePlanes, no_word, listed_value, held_value, plane_value, plane_bit, part_bit}
+use Rattle.bit_planes.specs.Planes.{PlanesFields, ArePlanes, no_word, listed_value, held_value, plane_value, size_of, plane_bit, part_bit}
 
 -- ---- words
 
@@ -222,14 +222,26 @@ ArePlanes-empty from to words r start end order none room empty =
       words = λ h. absurd (omega (arith, ap length none));
     }
 
--- the levels of either are room
-pub ForSome-room : (size : ℕ) (a b : Option LevelRuns) → ForSome a (AreLevelRuns size) → ForSome b (IsRoom size)
-    → ForSome (option_or a b) (IsRoom size)
-ForSome-room size None b held spare = spare
-ForSome-room size (Some r) b held spare = λ x is.
-    let same : r ≡ x = cc in
-    let are = held r refl in
-    subst (IsRoom size) same (record { long = are.long; even = are.even })
+-- the levels that are held, or else the spare ones
+pub AreRoom-one : (size : ℕ) (held spare : Option LevelRuns) (r : LevelRuns) → AreRoom size held spare → option_or held spare ≡ Some r
+    → IsRoom size r
+AreRoom-one size None spare r room is = room.spare r is
+AreRoom-one size (Some h) spare r room is = room.held r is
+
+pub AreRoom-held : (p : PlanesFields) (spare : Option LevelRuns) → ForSome p.levels (AreLevelRuns (size_of p))
+    → ForSome spare (IsRoom (size_of p)) → AreRoom (size_of p) p.levels spare
+AreRoom-held p spare held free = record {
+  held = λ r is.
+      let are = held r is in
+      record { long = are.long; even = are.even };
+  spare = free;
+}
+
+pub IsRoom-fewer : (size few : ℕ) (r : LevelRuns) → few ≤ size → IsRoom size r → IsRoom few r
+IsRoom-fewer size few r h room = record {
+  long = omega (arith, room.long);
+  even = room.even;
+}
 
 -- ---- codes
 
@@ -262,48 +274,101 @@ listed_value-codes words codes long values k =
           ∙ ap value_of (sym (get_or_past codes k 0 (omega arith)))
     ]
 
--- planes with the values of codes
-pub ArePlanes-coded : (p : PlanesFields) (words : List Word) (levels : Option LevelRuns) (codes : List ℕ) → ArePlanes p
-    → p.from +ℤ pos (length codes) ≡ p.to
-    → ForSome levels (HoldCodes codes)
-    → ((k : ℕ) → held_value levels words k ≡ value_of (get_or codes k 0))
+-- ---- a part filled from codes
+
+-- where no value is shown from a sample on, none is held
+pub held_value-none : (p : PlanesFields) → ArePlanes p → (at : ℤ) (first : ℕ) → p.from +ℤ pos first ≡ at
+    → ((n : ℤ) → at ≤ℤ n → plane_value p n ≡ None) → (k : ℕ) → first ≤ k → held_value p.levels p.words k ≡ None
+held_value-none p are at first place none k h =
+    let n : ℤ = p.from +ℤ pos k in
+    sym (plane_value-held p are n k refl) ∙ none n (omega (arith, ints))
+
+direction-none : (r : LevelRuns) (k : ℕ) → run_value r k ≡ None → direction_at r.runs.items k ≡ None
+direction-none r k none = both (direction_at r.runs.items k) none
+  where
+    both : (o : Option ℕ) → option_map (turned_by (plane_level r.levels k)) o ≡ None → o ≡ None
+    both None e = refl
+    both (Some d) e = absurd (cc)
+
+-- no run has a place there
+pub AreRuns-held : (p : PlanesFields) (r : LevelRuns) → ArePlanes p → (at : ℤ) (first : ℕ) → p.from +ℤ pos first ≡ at
+    → ((n : ℤ) → at ≤ℤ n → plane_value p n ≡ None) → p.levels ≡ Some r → AreRuns r.runs.items first
+AreRuns-held p r are at first place none is =
+    AreRuns-before r.runs.items (size_of p) first (are.levels r is).runs
+    (λ k h. direction-none r k (ap (λ o. held_value o p.words k) (sym is) ∙ held_value-none p are at first place none k h))
+
+-- what is held behind place `first` after a part
+pub ArePlanes-filled : (p : PlanesFields) (words : List Word) (levels : Option LevelRuns) (codes : List ℕ) (first : ℕ) → ArePlanes p
+    → (p.from +ℤ pos (first + length codes)) ≤ℤ p.to
+    → ForSome levels (IsRoom (size_of p))
+    → ForSome levels (λ r. AreRuns r.runs.items (first + length codes))
+    → ((k : ℕ) → held_value levels words (first + k) ≡ value_of (get_or codes k 0))
     → ForSome levels (λ _. words ≡ [])
     → ArePlanes (record { from = p.from; to = p.to; words = words; levels = levels })
-ArePlanes-coded p words levels codes are size held values beside =
-    let count : unsigned_abs (p.to -ℤ p.from) ≡ length codes = omega (arith, ints, size) in
-    record {
-      start = are.start;
-      order = are.order;
-      end = are.end;
-      past = λ k h. values k ∙ ap value_of (get_or_past codes k 0 (omega (arith, ints, size)));
-      levels = λ r is. subst (λ n. AreLevelRuns n r) (sym count) (held r is).runs;
-      words = λ h k. listed levels beside h k;
-    }
+ArePlanes-filled p words levels codes first are inside room runs here beside = record {
+  start = are.start;
+  order = are.order;
+  end = are.end;
+  past = λ k h.
+      let place : first + (k - first) ≡ k = omega (arith, ints, inside) in
+      ap (held_value levels words) (sym place) ∙ here (k - first)
+      ∙ ap value_of (get_or_past codes (k - first) 0 (omega (arith, ints, inside)));
+  levels = λ r is. record {
+    long = (room r is).long;
+    even = (room r is).even;
+    runs = AreRuns-longer r.runs.items (first + length codes) (size_of p) (runs r is) (omega (arith, ints, inside));
+  };
+  words = λ h k. listed levels beside h k;
+}
   where
     listed : (o : Option LevelRuns) → ForSome o (λ _. words ≡ []) → 0 < length words → (k : ℕ) → listed_value words k ≡ held_value o words k
     listed None none h k = refl
     listed (Some r) none h k = absurd (omega (arith, ap length (none r refl)))
 
-pub plane_value-coded : (p : PlanesFields) (codes : List ℕ) → p.from +ℤ pos (length codes) ≡ p.to
-    → ((k : ℕ) → held_value p.levels p.words k ≡ value_of (get_or codes k 0))
-    → (n : ℤ) → p.from ≤ℤ n → n <ℤ p.to → plane_value p n ≡ value_of (get_or codes (unsigned_abs (n -ℤ p.from)) 0)
-plane_value-coded p codes size values n low high =
-    plane_value-inside p n (unsigned_abs (n -ℤ p.from)) (omega (arith, ints)) high ∙ values (unsigned_abs (n -ℤ p.from))
+-- what is shown before and from sample `at` on
+pub plane_value-kept : (old new : PlanesFields) → ArePlanes old → ArePlanes new → (at : ℤ) (first : ℕ)
+    → old.from +ℤ pos first ≡ at → new.from ≡ old.from
+    → ((k : ℕ) → k < first → held_value new.levels new.words k ≡ held_value old.levels old.words k)
+    → (n : ℤ) → n <ℤ at → plane_value new n ≡ plane_value old n
+plane_value-kept old new are be at first place from before n h = both (int_lt n old.from) refl
+  where
+    both : (b : Bool) → int_lt n old.from ≡ b → plane_value new n ≡ plane_value old n
+    both true e =
+        let early : n <ℤ old.from = grind (arith, ints) in
+        plane_value-before new n (omega (arith, ints)) ∙ sym (plane_value-before old n early)
+    both false e =
+        let late : old.from ≤ℤ n = grind (arith, ints) in
+        let k : ℕ = unsigned_abs (n -ℤ old.from) in
+        plane_value-held new be n k (omega (arith, ints)) ∙ before k (omega (arith, ints))
+        ∙ sym (plane_value-held old are n k (omega (arith, ints)))
+
+pub plane_value-here : (p : PlanesFields) → ArePlanes p → (codes : List ℕ) (at : ℤ) (first : ℕ) → p.from +ℤ pos first ≡ at
+    → ((k : ℕ) → held_value p.levels p.words (first + k) ≡ value_of (get_or codes k 0))
+    → (n : ℤ) → at ≤ℤ n → plane_value p n ≡ value_of (get_or codes (unsigned_abs (n -ℤ at)) 0)
+plane_value-here p are codes at first place here n h =
+    plane_value-held p are n (first + unsigned_abs (n -ℤ at)) (omega (arith, ints)) ∙ here (unsigned_abs (n -ℤ at))
 
 -- ---- words beside levels and runs
 
--- the values that are held, where they are those of codes in the range
-pub held_value-coded : (p : PlanesFields) (codes : List ℕ) → ArePlanes p → p.from +ℤ pos (length codes) ≡ p.to
-    → ((n : ℤ) → p.from ≤ℤ n → n <ℤ p.to → plane_value p n ≡ value_of (get_or codes (unsigned_abs (n -ℤ p.from)) 0))
-    → (k : ℕ) → held_value p.levels p.words k ≡ value_of (get_or codes k 0)
-held_value-coded p codes are size shown k =
-    elim (cases_lt k (length codes)) [
+pub listed_value-beyond : (words : List Word) (k : ℕ) → 64 * length words ≤ k → listed_value words k ≡ None
+listed_value-beyond words k h =
+    ap (λ w. word_value w (k % 64)) (get_or_past words (k / 64) no_word (omega arith)) ∙ word_value-none (k % 64)
+
+-- words cut or filled up to a number, behind which none has a value
+pub listed_value-resized : (old new : List Word) (count : ℕ) → length new ≡ count
+    → ((i : ℕ) (d : Word) → i < count → i < length old → get_or new i d ≡ get_or old i d)
+    → ((i : ℕ) (d : Word) → length old ≤ i → i < count → get_or new i d ≡ no_word)
+    → ((k : ℕ) → 64 * count ≤ k → listed_value old k ≡ None)
+    → (k : ℕ) → listed_value new k ≡ listed_value old k
+listed_value-resized old new count long kept more past k =
+    elim (cases_lt (k / 64) count) [
       | inl q ↦
-          let n : ℤ = p.from +ℤ pos k in
-          let place : unsigned_abs (n -ℤ p.from) ≡ k = omega (arith, ints) in
-          sym (plane_value-inside p n k refl (omega (arith, ints, size))) ∙ shown n (omega (arith, ints)) (omega (arith, ints, size))
-          ∙ ap (λ j. value_of (get_or codes j 0)) place
-      | inr q ↦ are.past k (omega (arith, ints, size)) ∙ ap value_of (sym (get_or_past codes k 0 q))
+          elim (cases_lt (k / 64) (length old)) [
+            | inl m ↦ ap (λ w. word_value w (k % 64)) (kept (k / 64) no_word q m)
+            | inr m ↦
+                ap (λ w. word_value w (k % 64)) (more (k / 64) no_word m q ∙ sym (get_or_past old (k / 64) no_word m))
+          ]
+      | inr q ↦ listed_value-beyond new k (omega arith) ∙ sym (past k (omega arith))
     ]
 
 -- words with the values that are held change none of them

@@ -5,3 +5,4 @@ pub mod Turns
 pub mod Stretches
 pub mod Filled
 pub mod Coded
+pub mod Written

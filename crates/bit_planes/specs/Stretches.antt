@@ -1,5 +1,5 @@
 -- Runs as they are found, code by code.
-use Rattle.std.specs.Prelude.{◌≡◌, ℕ, ◌<◌, ◌≤◌, ◌==◌, List, Option, Some, None, slice_index, if◌then◌else◌}
+use Rattle.std.specs.Prelude.{◌≡◌, ◌≢◌, ℕ, ◌+◌, ◌<◌, ◌≤◌, ◌==◌, List, Option, Some, None, slice_index, if◌then◌else◌}
 use Rattle.value_codes.specs.Codes.{direction_of}
 use Rattle.bit_planes.specs.declared.runs.Run.{Run}
 use Rattle.bit_planes.specs.declared.stretches.Stretch.{Stretch}
@@ -17,10 +17,13 @@ kind_of code = if code == 0 then 8 else direction_of code
 abbrev pub kind_direction : ℕ → Option ℕ
 kind_direction kind = if kind == 8 then None else Some kind
 
--- The runs of the codes before a stretch are found, and from its start up to code n all codes are of its kind.
-pub record AreFound (codes : List ℕ) (found : List Run) (s : Stretch) (n : ℕ) : Type 0 where
-  pub order : s.from ≤ n
+-- The codes are those from place `at` on. The runs of the codes before a stretch are found, and from its start up to code n all
+-- codes are of its kind. Only the stretch that begins before any code may be empty, and it has no value.
+pub record AreFound (codes : List ℕ) (at : ℕ) (found : List Run) (s : Stretch) (n : ℕ) : Type 0 where
+  pub start : at ≤ s.from
+  pub order : s.from ≤ at + n
+  pub some : s.kind ≢ 8 → s.from < at + n
   pub small : s.kind ≤ 8
   pub runs : AreRuns found s.from
-  pub before : (k : ℕ) → k < s.from → direction_at found k ≡ code_direction (slice_index codes k)
-  pub here : (k : ℕ) → s.from ≤ k → k < n → kind_of (slice_index codes k) ≡ s.kind
+  pub before : (k : ℕ) → at + k < s.from → direction_at found (at + k) ≡ code_direction (slice_index codes k)
+  pub here : (k : ℕ) → s.from ≤ at + k → k < n → kind_of (slice_index codes k) ≡ s.kind

@@ -27,18 +27,19 @@ pub(crate) fn last_codes(codes: &[u8]) -> [u8; 64]
     last
 }
 
-// Sets the words to as many as hold the values of the codes, in the room that they have.
-pub(crate) fn set_words(words: &mut Vec<Word>, codes: &[u8])
-    requires scan { length codes.now ≤ 2 ^ 40 }
-    requires room { (length codes.now + 63) / 64 ≤ vec_capacity words.old }
+// Sets the words from word `first` on to as many as hold the values of the codes, in the room that they have; those before stay.
+pub(crate) fn set_words(words: &mut Vec<Word>, first: usize, codes: &[u8])
+    requires scan { 64 * first + length codes.now ≤ 2 ^ 40 }
+    requires room { first + (length codes.now + 63) / 64 ≤ vec_capacity words.old }
     ensures room { vec_capacity words.old ≤ vec_capacity words.new }
-    ensures long { length words.new.items ≡ (length codes.now + 63) / 64 }
-    ensures values { (k : ℕ) → listed_value words.new.items k ≡ value_of (slice_index codes.now k) }
+    ensures long { length words.new.items ≡ first + (length codes.now + 63) / 64 }
+    ensures before { (k : ℕ) → k < 64 * first → listed_value words.new.items k ≡ listed_value words.old.items k }
+    ensures here { (k : ℕ) → listed_value words.new.items (64 * first + k) ≡ value_of (slice_index codes.now k) }
 {
-    let Ok(()) = words.resize((codes.len() + 63) >> 6, Word::NONE) else {
+    let Ok(()) = words.resize(first + ((codes.len() + 63) >> 6), Word::NONE) else {
         unreachable!()
     };
-    fill_words(words, codes);
+    fill_words(&mut words[first..], codes);
 }
 
 // Sets the values of as many words as hold those of the codes, none past the last code.

@@ -1,21 +1,23 @@
 //! The values of a range of samples, word by word.
-ghost use Rattle.std.specs.Prelude.{◌≡◌, ◌<◌, ◌≤◌, ◌+◌, ◌/◌, ◌^◌, true, ℕ, ℤ, pos, neg_ℤ, ◌+ℤ◌, ◌-ℤ◌, ◌≤ℤ◌, ◌<ℤ◌, unsigned_abs, [], length, slice_index, IfOk, IfSome, None};
+ghost use Rattle.std.specs.Prelude.{◌≡◌, ◌<◌, ◌≤◌, ◌+◌, ◌*◌, ◌/◌, ◌%◌, ◌^◌, true, ℕ, ℤ, pos, neg_ℤ, ◌+ℤ◌, ◌-ℤ◌, ◌≤ℤ◌, ◌<ℤ◌, unsigned_abs, length, slice_index, IfOk, IfSome, IsSome, None};
 ghost use Rattle.std.specs.Int.{bit_at};
 ghost use Rattle.std.specs.Option.{ForSome};
 ghost use Rattle.std.specs.Vec.{vec_capacity};
 ghost use Rattle.level_sums.specs.Held.{plane_samples};
 ghost use Rattle.bit_planes.specs.Word.{word_value};
-ghost use Rattle.bit_planes.specs.Planes.{held_value, plane_value, plane_bit, size_of};
-ghost use Rattle.bit_planes.specs.Runs.{AreLevelRuns, IsRoom, HoldCodes, run_value};
+ghost use Rattle.bit_planes.specs.Planes.{listed_value, held_value, plane_value, plane_bit, size_of};
+ghost use Rattle.bit_planes.specs.Runs.{AreRuns, AreLevelRuns, IsRoom, run_value};
 ghost use Rattle.bit_planes.specs.Filled.{AreTernary};
 ghost use Rattle.value_codes.specs.Codes.{value_of};
 
-use crate::coded::{no_words, set_words};
+use crate::coded::no_words;
 use crate::gather::words_of;
 use crate::held::held_word;
-use crate::runs::filled;
+use crate::kept::Kept;
 use crate::shift::{joined, listed_word, word_from};
 use crate::shown::shown_bits;
+use crate::stretches::most_runs;
+use crate::written::write_words;
 use crate::{LevelRuns, Word};
 use corr_model::Values;
 use std::alloc::{AllocError, Global};
@@ -86,6 +88,7 @@ impl Planes {
         requires order { from ≤ℤ to }
         ensures range { IfOk result (λ p. (p.from ≡ from) × (p.to ≡ to)) }
         ensures none { IfOk result (λ p. (n : ℤ) → plane_value p n ≡ None) }
+        ensures levels { IfOk result (λ p. IsSome p.levels) }
     {
         let size = samples_between(from, to);
         let words = no_words(alloc, size)?;
@@ -100,16 +103,28 @@ impl Planes {
         requires order { from ≤ℤ to }
         ensures range { IfOk result (λ p. (p.from ≡ from) × (p.to ≡ to)) }
         ensures none { IfOk result (λ p. (n : ℤ) → plane_value p n ≡ None) }
+        ensures levels { IfOk result (λ p. IsSome p.levels) }
     {
-        let size = samples_between(from, to);
-        let words = self.words;
-        if let Some(levels) = self.levels.or(self.spare) {
-            if has_room(&words, &levels, size) {
-                return Ok(Planes::empty(words, levels, from, to));
-            }
+        match self.left_for(samples_between(from, to)) {
+            Some((words, levels)) => Ok(Planes::empty(words, levels, from, to)),
+            None => Planes::room(alloc, from, to),
         }
-        drop(words);
-        Planes::room(alloc, from, to)
+    }
+
+    // The words and the levels, where both have room for so many samples.
+    fn left_for(self, samples: u64) -> Option<(Vec<Word>, LevelRuns)>
+        requires { samples ≤ 2 ^ 40 }
+        ensures words { IfSome result (λ r. (samples + 63) / 64 ≤ vec_capacity r.0) }
+        ensures levels { IfSome result (λ r. IsRoom samples r.1) }
+    {
+        let words = self.words;
+        let Some(levels) = self.levels.or(self.spare) else {
+            return None;
+        };
+        if has_room(&words, &levels, samples) {
+            return Some((words, levels));
+        }
+        None
     }
 
     // Planes without any value, in the room of words and of levels.
@@ -121,6 +136,7 @@ impl Planes {
         requires levels { IsRoom (unsigned_abs (to -ℤ from)) levels }
         ensures range { (result.from ≡ from) × (result.to ≡ to) }
         ensures none { (n : ℤ) → plane_value result n ≡ None }
+        ensures levels { IsSome result.levels }
     {
         let mut words = words;
         let mut levels = levels;
@@ -135,30 +151,36 @@ impl Planes {
         }
     }
 
-    /// Sets the values to those of a code for each sample. Where the codes change their direction often, `levels` gives
-    /// nothing from now on.
-    pub fn fill(&mut self, codes: &[u8])
-        requires { self.old.from +ℤ pos (length codes.now) ≡ self.old.to }
+    /// Sets the values from sample `at` on to those of codes, one a sample; behind them there is none. Sample `at` is the first of a
+    /// word, and no value is there yet from it on. Where the codes change their direction often, `levels` gives nothing from now on.
+    pub fn fill(&mut self, at: i64, codes: &[u8])
+        requires begin { self.old.from ≤ℤ at }
+        requires end { (at +ℤ pos (length codes.now)) ≤ℤ self.old.to }
+        requires word { unsigned_abs (at -ℤ self.old.from) % 64 ≡ 0 }
+        requires none { (n : ℤ) → at ≤ℤ n → plane_value self.old n ≡ None }
         ensures range { (self.new.from ≡ self.old.from) × (self.new.to ≡ self.old.to) }
-        ensures values { (n : ℤ) → self.old.from ≤ℤ n → n <ℤ self.old.to → plane_value self.new n ≡ value_of (slice_index codes.now (unsigned_abs (n -ℤ self.old.from))) }
+        ensures before { (n : ℤ) → n <ℤ at → plane_value self.new n ≡ plane_value self.old n }
+        ensures here { (n : ℤ) → at ≤ℤ n → plane_value self.new n ≡ value_of (slice_index codes.now (unsigned_abs (n -ℤ at))) }
     {
-        let room = self.levels.take().or(self.spare.take());
-        let filled = filled(room, codes);
-        set_beside(&mut self.words, &filled.held, codes);
+        let first = (samples_between(self.from, at) / 64) as usize;
+        let kept = Kept {
+            held: self.levels.take(),
+            spare: self.spare.take(),
+        };
+        let filled = kept.with(&mut self.words, first, codes);
         self.levels = filled.held;
         self.spare = filled.spare;
     }
 
-    /// Sets the words too, so that `at` reads them. `codes` are those of the values that the planes show.
-    pub fn fill_words(&mut self, codes: &[u8])
-        requires long { self.old.from +ℤ pos (length codes.now) ≡ self.old.to }
-        requires shown { (n : ℤ) → self.old.from ≤ℤ n → n <ℤ self.old.to → plane_value self.old n ≡ value_of (slice_index codes.now (unsigned_abs (n -ℤ self.old.from))) }
+    /// Sets the words too, so that `at` reads them.
+    pub fn fill_words(&mut self)
         ensures range { (self.new.from ≡ self.old.from) × (self.new.to ≡ self.old.to) }
         ensures levels { self.new.levels ≡ self.old.levels }
-        ensures long { length self.new.words ≡ (length codes.now + 63) / 64 }
+        ensures long { length self.new.words ≡ (size_of self.old + 63) / 64 }
         ensures values { (n : ℤ) → plane_value self.new n ≡ plane_value self.old n }
     {
-        set_words(&mut self.words, codes);
+        let count = ((samples_between(self.from, self.to) + 63) >> 6) as usize;
+        fill_beside(&mut self.words, &self.levels, count);
     }
 
     /// The first sample.
@@ -237,27 +259,32 @@ impl Planes {
     }
 }
 
-// Whether there is room for the words and the levels of so many samples.
+// Whether there is room for the words, the levels and the runs of so many samples.
 fn has_room(words: &Vec<Word>, levels: &LevelRuns, samples: u64) -> bool
     requires { samples ≤ 2 ^ 40 }
     ensures words { result ≡ true → (samples + 63) / 64 ≤ vec_capacity words.now }
     ensures levels { result ≡ true → samples ≤ plane_samples levels.now.levels }
 {
-    (samples + 63) >> 6 <= words.capacity() as u64 && samples <= levels.levels.samples()
+    (samples + 63) >> 6 <= words.capacity() as u64
+        && samples <= levels.levels.samples()
+        && most_runs(samples) <= levels.runs.capacity() as u64
 }
 
-// Sets the words to the values of the codes, and to none where levels and runs hold these.
-fn set_beside(words: &mut Vec<Word>, held: &Option<LevelRuns>, codes: &[u8])
-    requires scan { length codes.now ≤ 2 ^ 40 }
-    requires room { (length codes.now + 63) / 64 ≤ vec_capacity words.old }
-    requires held { ForSome held.now (HoldCodes codes.now) }
+// Sets the words to `count`, in the room that they have, which show the values that are held.
+fn fill_beside(words: &mut Vec<Word>, held: &Option<LevelRuns>, count: usize)
+    requires scan { count ≤ 2 ^ 34 }
+    requires room { count ≤ vec_capacity words.old }
+    requires runs { ForSome held.now (λ r. AreRuns r.runs.items (plane_samples r.levels)) }
+    requires past { (k : ℕ) → 64 * count ≤ k → held_value held.now words.old.items k ≡ None }
     ensures room { vec_capacity words.old ≤ vec_capacity words.new }
-    ensures values { (k : ℕ) → held_value held.now words.new.items k ≡ value_of (slice_index codes.now k) }
-    ensures beside { ForSome held.now (λ _. words.new.items ≡ []) }
+    ensures long { length words.new.items ≡ count }
+    ensures values { (k : ℕ) → listed_value words.new.items k ≡ held_value held.now words.old.items k }
 {
     match held {
-        Some(_) => words.clear(),
-        None => set_words(words, codes),
+        Some(levels) => write_words(words, levels, count),
+        None => {
+            let _ = words.resize(count, Word::NONE);
+        }
     }
 }
 

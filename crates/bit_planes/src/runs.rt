@@ -1,7 +1,7 @@
 //! Levels, and the runs in which they are turned by one direction.
-ghost use Rattle.std.specs.Prelude.{◌≤◌, ◌^◌, length, IfOk, OnOk};
-ghost use Rattle.std.specs.Option.{ForSome};
-ghost use Rattle.bit_planes.specs.Runs.{IsRoom, HoldCodes};
+ghost use Rattle.std.specs.Prelude.{◌≡◌, ◌<◌, ◌≤◌, ◌+◌, ◌*◌, ◌^◌, ℕ, length, slice_index, IfOk, OnOk};
+ghost use Rattle.value_codes.specs.Codes.{value_of};
+ghost use Rattle.bit_planes.specs.Runs.{AreRuns, IsRoom, run_value};
 
 use crate::stretches::{TooMany, find_runs, most_runs};
 use level_sums::LevelPlanes;
@@ -35,46 +35,17 @@ impl LevelRuns {
         Ok(LevelRuns { levels, runs })
     }
 
-    // Sets the values to those of the codes.
-    fn fill(&mut self, codes: &[u8]) -> Result<(), TooMany>
-        requires scan { length codes.now ≤ 2 ^ 40 }
-        requires room { IsRoom (length codes.now) self.old }
-        ensures room { IsRoom (length codes.now) self.new }
-        ensures values { OnOk result (HoldCodes codes.now self.new) }
+    // Adds the values of codes from word `first` on, behind which there is none. Those before stay, also where there are too many
+    // runs.
+    pub(crate) fn fill(&mut self, first: usize, codes: &[u8]) -> Result<(), TooMany>
+        requires scan { 64 * first + length codes.now ≤ 2 ^ 40 }
+        requires room { IsRoom (64 * first + length codes.now) self.old }
+        requires runs { AreRuns self.old.runs.items (64 * first) }
+        ensures room { (n : ℕ) → IsRoom n self.old → IsRoom n self.new }
+        ensures runs { AreRuns self.new.runs.items (64 * first + length codes.now) }
+        ensures before { (k : ℕ) → k < 64 * first → run_value self.new k ≡ run_value self.old k }
+        ensures here { OnOk result ((k : ℕ) → run_value self.new (64 * first + k) ≡ value_of (slice_index codes.now k)) }
     {
-        find_runs(&mut self.levels, &mut self.runs, codes)?;
-        Ok(())
-    }
-}
-
-// Levels and runs that hold values, or room for them.
-#[derive(Drop)]
-pub(crate) struct Kept {
-    pub held: Option<LevelRuns>,
-    pub spare: Option<LevelRuns>,
-}
-
-// Levels and runs of the codes in a room, none held where there are too many runs.
-pub(crate) fn filled(room: Option<LevelRuns>, codes: &[u8]) -> Kept
-    requires scan { length codes.now ≤ 2 ^ 40 }
-    requires room { ForSome room (IsRoom (length codes.now)) }
-    ensures held { ForSome result.held (HoldCodes codes.now) }
-    ensures spare { ForSome result.spare (IsRoom (length codes.now)) }
-{
-    let Some(mut runs) = room else {
-        return Kept {
-            held: None,
-            spare: None,
-        };
-    };
-    match runs.fill(codes) {
-        Ok(()) => Kept {
-            held: Some(runs),
-            spare: None,
-        },
-        Err(_) => Kept {
-            held: None,
-            spare: Some(runs),
-        },
+        find_runs(&mut self.levels, &mut self.runs, first, codes)
     }
 }

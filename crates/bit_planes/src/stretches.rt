@@ -1,7 +1,7 @@
 //! Runs of one direction, found in codes as their levels are set.
-ghost use Rattle.std.specs.Prelude.{◌≡◌, ◌<◌, ◌≤◌, ◌+◌, ◌*◌, ◌^◌, ℕ, length, slice_index, true, IfOk, OnOk};
+ghost use Rattle.std.specs.Prelude.{◌≡◌, ◌≢◌, ◌<◌, ◌≤◌, ◌+◌, ◌*◌, ◌^◌, ℕ, length, slice_index, true, IfOk, OnOk};
 ghost use Rattle.level_sums.specs.Held.{plane_samples};
-ghost use Rattle.bit_planes.specs.Runs.{AreRuns, AreSet, AreAsLong, direction_at};
+ghost use Rattle.bit_planes.specs.Runs.{AreRuns, AreAdded, AreSet, AreKept, direction_at};
 ghost use Rattle.bit_planes.specs.Stretches.{kind_of, kind_direction, code_direction, AreFound};
 
 use crate::Run;
@@ -59,9 +59,9 @@ fn are_all(codes: &[u8], kind: u8) -> bool
 fn close(runs: &mut Vec<Run>, stretch: Stretch, to: u64, most: u64) -> Result<(), TooMany>
     requires runs { AreRuns runs.old.items stretch.from }
     requires order { stretch.from ≤ to }
+    requires some { stretch.kind ≢ 8 → stretch.from < to }
     requires kind { stretch.kind ≤ 8 }
-    ensures runs { OnOk result (AreRuns runs.new.items to) }
-    ensures before { OnOk result ((k : ℕ) → k < stretch.from → direction_at runs.new.items k ≡ direction_at runs.old.items k) }
+    ensures added { AreAdded runs.old.items runs.new.items stretch.from to }
     ensures here { OnOk result ((k : ℕ) → stretch.from ≤ k → k < to → direction_at runs.new.items k ≡ kind_direction stretch.kind) }
 {
     if stretch.kind == GAP {
@@ -81,47 +81,51 @@ fn close(runs: &mut Vec<Run>, stretch: Stretch, to: u64, most: u64) -> Result<()
     }
 }
 
-// The stretch at the code after code `n`.
+// The stretch at the code after code `n`, the codes being those from place `at` on.
 #[inline(always)]
 fn step(
     runs: &mut Vec<Run>,
     stretch: Stretch,
+    at: u64,
     codes: &[u8],
     n: usize,
     most: u64,
 ) -> Result<Stretch, TooMany>
-    requires found { AreFound codes.now runs.old.items stretch n }
+    requires scan { at + length codes.now ≤ 2 ^ 40 }
+    requires found { AreFound codes.now at runs.old.items stretch n }
     requires inside { n < length codes.now }
-    ensures { IfOk result (λ s. AreFound codes.now runs.new.items s (n + 1)) }
+    ensures added { AreAdded runs.old.items runs.new.items at (at + length codes.now) }
+    ensures found { IfOk result (λ s. AreFound codes.now at runs.new.items s (n + 1)) }
 {
     let kind = kind_of(codes[n]);
     if kind == stretch.kind {
         return Ok(stretch);
     }
-    close(runs, stretch, n as u64, most)?;
-    Ok(Stretch {
-        from: n as u64,
-        kind,
-    })
+    let place = at + n as u64;
+    close(runs, stretch, place, most)?;
+    Ok(Stretch { from: place, kind })
 }
 
 // The stretch at code `to`, code by code from code `from` on.
 fn walk(
     runs: &mut Vec<Run>,
     stretch: Stretch,
+    at: u64,
     codes: &[u8],
     from: usize,
     to: usize,
     most: u64,
 ) -> Result<Stretch, TooMany>
-    requires found { AreFound codes.now runs.old.items stretch from }
+    requires scan { at + length codes.now ≤ 2 ^ 40 }
+    requires found { AreFound codes.now at runs.old.items stretch from }
     requires order { from ≤ to }
     requires inside { to ≤ length codes.now }
-    ensures { IfOk result (λ s. AreFound codes.now runs.new.items s to) }
+    ensures added { AreAdded runs.old.items runs.new.items at (at + length codes.now) }
+    ensures found { IfOk result (λ s. AreFound codes.now at runs.new.items s to) }
 {
     let mut stretch = stretch;
     for n in from..to {
-        stretch = step(runs, stretch, codes, n, most)?;
+        stretch = step(runs, stretch, at, codes, n, most)?;
     }
     Ok(stretch)
 }
@@ -131,85 +135,100 @@ fn walk(
 fn step_word(
     runs: &mut Vec<Run>,
     stretch: Stretch,
+    at: u64,
     codes: &[u8],
     n: usize,
     most: u64,
 ) -> Result<Stretch, TooMany>
-    requires found { AreFound codes.now runs.old.items stretch n }
+    requires scan { at + length codes.now ≤ 2 ^ 40 }
+    requires found { AreFound codes.now at runs.old.items stretch n }
     requires inside { n + 64 ≤ length codes.now }
-    ensures { IfOk result (λ s. AreFound codes.now runs.new.items s (n + 64)) }
+    ensures added { AreAdded runs.old.items runs.new.items at (at + length codes.now) }
+    ensures found { IfOk result (λ s. AreFound codes.now at runs.new.items s (n + 64)) }
 {
     if are_all(&codes[n..], stretch.kind) {
         return Ok(stretch);
     }
-    walk(runs, stretch, codes, n, n + 64, most)
+    walk(runs, stretch, at, codes, n, n + 64, most)
 }
 
-// Sets the levels of word `i` to those of its codes, and gives the stretch after them.
+// Sets the levels of word `first + i` to those of its codes, and gives the stretch after them.
 #[inline(always)]
 fn step_levels(
     levels: &mut LevelPlanes,
     runs: &mut Vec<Run>,
     stretch: Stretch,
+    first: usize,
     codes: &[u8],
     i: usize,
     most: u64,
 ) -> Result<Stretch, TooMany>
+    requires scan { 64 * first + length codes.now ≤ 2 ^ 40 }
     requires inside { 64 * i + 64 ≤ length codes.now }
-    requires long { length codes.now ≤ plane_samples levels.old }
+    requires long { 64 * first + length codes.now ≤ plane_samples levels.old }
     requires even { length levels.old.low ≡ length levels.old.high }
-    requires set { AreSet codes.now levels.old (64 * i) }
-    requires found { AreFound codes.now runs.old.items stretch (64 * i) }
-    ensures len { AreAsLong levels.old levels.new }
-    ensures set { AreSet codes.now levels.new (64 * (i + 1)) }
-    ensures found { IfOk result (λ s. AreFound codes.now runs.new.items s (64 * (i + 1))) }
+    requires set { AreSet codes.now levels.old (64 * first) (64 * i) }
+    requires found { AreFound codes.now (64 * first) runs.old.items stretch (64 * i) }
+    ensures kept { AreKept levels.old levels.new (64 * first) }
+    ensures set { AreSet codes.now levels.new (64 * first) (64 * (i + 1)) }
+    ensures added { AreAdded runs.old.items runs.new.items (64 * first) (64 * first + length codes.now) }
+    ensures found { IfOk result (λ s. AreFound codes.now (64 * first) runs.new.items s (64 * (i + 1))) }
 {
-    let next = step_word(runs, stretch, codes, 64 * i, most);
-    set_word(levels, codes, i);
+    let next = step_word(runs, stretch, 64 * first as u64, codes, 64 * i, most);
+    set_word(levels, first, codes, i);
     next
 }
 
-// Sets the levels to those of the codes, and gives the stretch at the last one.
+// Sets the levels from word `first` on to those of the codes, and gives the stretch at the last one.
 fn last_stretch(
     levels: &mut LevelPlanes,
     runs: &mut Vec<Run>,
+    first: usize,
     codes: &[u8],
     most: u64,
 ) -> Result<Stretch, TooMany>
-    requires scan { length codes.now ≤ 2 ^ 40 }
-    requires long { length codes.now ≤ plane_samples levels.old }
+    requires scan { 64 * first + length codes.now ≤ 2 ^ 40 }
+    requires long { 64 * first + length codes.now ≤ plane_samples levels.old }
     requires even { length levels.old.low ≡ length levels.old.high }
-    ensures len { AreAsLong levels.old levels.new }
-    ensures set { OnOk result (AreSet codes.now levels.new (length codes.now)) }
-    ensures found { IfOk result (λ s. AreFound codes.now runs.new.items s (length codes.now)) }
+    requires runs { AreRuns runs.old.items (64 * first) }
+    ensures kept { AreKept levels.old levels.new (64 * first) }
+    ensures set { OnOk result (AreSet codes.now levels.new (64 * first) (length codes.now)) }
+    ensures added { AreAdded runs.old.items runs.new.items (64 * first) (64 * first + length codes.now) }
+    ensures found { IfOk result (λ s. AreFound codes.now (64 * first) runs.new.items s (length codes.now)) }
 {
-    runs.clear();
+    let at = 64 * first as u64;
     let whole = codes.len() / 64;
-    let mut stretch = Stretch { from: 0, kind: GAP };
+    let mut stretch = Stretch {
+        from: at,
+        kind: GAP,
+    };
     for i in 0..whole {
-        stretch = step_levels(levels, runs, stretch, codes, i, most)?;
+        stretch = step_levels(levels, runs, stretch, first, codes, i, most)?;
     }
-    set_last(levels, codes);
-    walk(runs, stretch, codes, 64 * whole, codes.len(), most)
+    set_last(levels, first, codes);
+    walk(runs, stretch, at, codes, 64 * whole, codes.len(), most)
 }
 
-// Sets the levels and the runs to those of the codes.
+// Sets the levels from word `first` on to those of the codes, and adds the runs of these to runs that end before. The levels and
+// the directions before that word stay, also where there are too many runs.
 pub(crate) fn find_runs(
     levels: &mut LevelPlanes,
     runs: &mut Vec<Run>,
+    first: usize,
     codes: &[u8],
 ) -> Result<(), TooMany>
-    requires scan { length codes.now ≤ 2 ^ 40 }
-    requires long { length codes.now ≤ plane_samples levels.old }
+    requires scan { 64 * first + length codes.now ≤ 2 ^ 40 }
+    requires long { 64 * first + length codes.now ≤ plane_samples levels.old }
     requires even { length levels.old.low ≡ length levels.old.high }
-    ensures len { AreAsLong levels.old levels.new }
-    ensures set { OnOk result (AreSet codes.now levels.new (length codes.now)) }
-    ensures runs { OnOk result (AreRuns runs.new.items (length codes.now)) }
-    ensures directions { OnOk result ((k : ℕ) → direction_at runs.new.items k ≡ code_direction (slice_index codes.now k)) }
+    requires runs { AreRuns runs.old.items (64 * first) }
+    ensures kept { AreKept levels.old levels.new (64 * first) }
+    ensures set { OnOk result (AreSet codes.now levels.new (64 * first) (length codes.now)) }
+    ensures added { AreAdded runs.old.items runs.new.items (64 * first) (64 * first + length codes.now) }
+    ensures directions { OnOk result ((k : ℕ) → direction_at runs.new.items (64 * first + k) ≡ code_direction (slice_index codes.now k)) }
 {
-    let size = codes.len() as u64;
+    let size = (64 * first + codes.len()) as u64;
     let most = most_runs(size);
-    let stretch = last_stretch(levels, runs, codes, most)?;
+    let stretch = last_stretch(levels, runs, first, codes, most)?;
     close(runs, stretch, size, most)?;
     Ok(())
 }

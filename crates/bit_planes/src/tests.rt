@@ -173,7 +173,7 @@ fn planes_of_codes(rt: HostRuntime) -> Result<(), Fail> {
     for i in 0..300_u16 {
         assert_eq!(rt; planes.at(i64::from(i) - 80), Word::NONE);
     }
-    planes.fill(&codes);
+    planes.fill(7, &codes);
     for i in 0..300_u16 {
         assert!(rt; is_filled(&codes, &planes, 7, i64::from(i) - 80));
     }
@@ -188,7 +188,7 @@ fn code_of(n: usize, direction: u8) -> u8
     64 * level + 8 + direction
 }
 
-// Three runs, behind the first of which there is a gap.
+// The code of a sample in three runs, behind the first of which there is a gap.
 fn gapped_code(n: usize) -> u8 {
     if n < 700 {
         code_of(n, 2)
@@ -201,14 +201,20 @@ fn gapped_code(n: usize) -> u8 {
     }
 }
 
-#[test]
-fn runs_by_hand(rt: HostRuntime) -> Result<(), Fail> {
+// Three runs, behind the first of which there is a gap, in 1300 samples.
+fn gapped_codes() -> [u8; 1300] {
     let mut codes = [0; 1300];
     for (n, code) in codes.iter_mut().enumerate() {
         *code = gapped_code(n);
     }
+    codes
+}
+
+#[test]
+fn runs_by_hand(rt: HostRuntime) -> Result<(), Fail> {
+    let codes = gapped_codes();
     let mut planes = Planes::room(rt.alloc(), 7, 1307)?;
-    planes.fill(&codes);
+    planes.fill(7, &codes);
     for i in 0..1500_u16 {
         assert!(rt; is_filled(&codes, &planes, 7, i64::from(i) - 80));
     }
@@ -247,14 +253,11 @@ fn runs_by_hand(rt: HostRuntime) -> Result<(), Fail> {
 // Words are set beside runs, and show what these do.
 #[test]
 fn words_beside_runs(rt: HostRuntime) -> Result<(), Fail> {
-    let mut codes = [0; 1300];
-    for (n, code) in codes.iter_mut().enumerate() {
-        *code = gapped_code(n);
-    }
+    let codes = gapped_codes();
     let mut planes = Planes::room(rt.alloc(), 7, 1307)?;
-    planes.fill(&codes);
+    planes.fill(7, &codes);
     let high = planes.word_at(3, 690);
-    planes.fill_words(&codes);
+    planes.fill_words();
     assert!(rt; planes.levels().is_some());
     assert_eq!(rt; planes.word_at(3, 690), high);
     for i in 0..1500_u16 {
@@ -271,13 +274,10 @@ fn turning_code(n: usize) -> u8 {
 // The room of planes is used again, whether their words or their levels hold the values.
 #[test]
 fn room_again(rt: HostRuntime) -> Result<(), Fail> {
-    let mut codes = [0; 1300];
-    for (n, code) in codes.iter_mut().enumerate() {
-        *code = gapped_code(n);
-    }
+    let codes = gapped_codes();
     let mut planes = Planes::room(rt.alloc(), 7, 1307)?;
-    planes.fill(&codes);
-    planes.fill_words(&codes);
+    planes.fill(7, &codes);
+    planes.fill_words();
     let mut planes = planes.again(rt.alloc(), 100, 1390)?;
     for i in 0..1500_u16 {
         assert_eq!(rt; planes.at(i64::from(i)), Word::NONE);
@@ -286,14 +286,14 @@ fn room_again(rt: HostRuntime) -> Result<(), Fail> {
     for (n, code) in turning.iter_mut().enumerate() {
         *code = turning_code(n);
     }
-    planes.fill(&turning);
+    planes.fill(100, &turning);
     assert!(rt; planes.levels().is_none());
-    planes.fill_words(&turning);
+    planes.fill_words();
     for i in 0..1500_u16 {
         assert!(rt; is_filled(&turning, &planes, 100, i64::from(i)));
     }
     let mut planes = planes.again(rt.alloc(), 0, 1300)?;
-    planes.fill(&codes);
+    planes.fill(0, &codes);
     assert!(rt; planes.levels().is_some());
     for i in 0..1500_u16 {
         assert!(rt; is_filled(&codes, &planes, 0, i64::from(i) - 80));
@@ -313,20 +313,17 @@ fn room_and_runs(planes: &Planes) -> Option<(u64, usize)> {
 // is not used for 1300.
 #[test]
 fn room_of_another_length(rt: HostRuntime) -> Result<(), Fail> {
-    let mut codes = [0; 1300];
-    for (n, code) in codes.iter_mut().enumerate() {
-        *code = gapped_code(n);
-    }
+    let codes = gapped_codes();
     let mut planes = Planes::room(rt.alloc(), 7, 1307)?;
-    planes.fill(&codes);
+    planes.fill(7, &codes);
     let mut planes = planes.again(rt.alloc(), 3, 73)?;
-    planes.fill(&codes[660..730]);
+    planes.fill(3, &codes[660..730]);
     assert_eq!(rt; room_and_runs(&planes), Some((1344, 1)));
     for i in 0..200_u16 {
         assert!(rt; is_filled(&codes[660..730], &planes, 3, i64::from(i) - 80));
     }
     let mut planes = planes.again(rt.alloc(), 0, 1300)?;
-    planes.fill(&codes);
+    planes.fill(0, &codes);
     assert_eq!(rt; room_and_runs(&planes), Some((1344, 3)));
     for i in 0..1500_u16 {
         assert!(rt; is_filled(&codes, &planes, 0, i64::from(i) - 80));
@@ -334,7 +331,7 @@ fn room_of_another_length(rt: HostRuntime) -> Result<(), Fail> {
     let short = Planes::room(rt.alloc(), 0, 70)?;
     assert_eq!(rt; room_and_runs(&short), Some((128, 0)));
     let mut planes = short.again(rt.alloc(), 0, 1300)?;
-    planes.fill(&codes);
+    planes.fill(0, &codes);
     assert_eq!(rt; room_and_runs(&planes), Some((1344, 3)));
     Ok(())
 }
@@ -342,12 +339,9 @@ fn room_of_another_length(rt: HostRuntime) -> Result<(), Fail> {
 // Room that is used again and not filled holds no value, by levels without runs.
 #[test]
 fn no_values_without_codes(rt: HostRuntime) -> Result<(), Fail> {
-    let mut codes = [0; 1300];
-    for (n, code) in codes.iter_mut().enumerate() {
-        *code = gapped_code(n);
-    }
+    let codes = gapped_codes();
     let mut planes = Planes::room(rt.alloc(), 7, 1307)?;
-    planes.fill(&codes);
+    planes.fill(7, &codes);
     let planes = planes.again(rt.alloc(), 0, 1200)?;
     assert_eq!(rt; room_and_runs(&planes), Some((1344, 0)));
     for i in 0..1500_u16 {
@@ -365,8 +359,153 @@ fn no_runs_of_turning_codes(rt: HostRuntime) -> Result<(), Fail> {
     }
     let mut planes = Planes::room(rt.alloc(), 0, 1300)?;
     assert!(rt; planes.levels().is_some());
-    planes.fill(&codes);
+    planes.fill(0, &codes);
     assert!(rt; planes.levels().is_none());
+    for i in 0..1500_u16 {
+        assert!(rt; is_filled(&codes, &planes, 0, i64::from(i) - 80));
+    }
+    Ok(())
+}
+
+// Where a run of the list begins and ends, and its direction.
+fn run_of(held: &LevelRuns, n: usize) -> Option<(u64, u64, u8)> {
+    match held.runs.get(n).copied() {
+        Some(run) => Some((run.from, run.to, run.direction)),
+        None => None,
+    }
+}
+
+// In parts of 640 and 660 samples the values are as in one. The first run goes over the border of the parts and is two there.
+#[test]
+fn runs_in_two_parts(rt: HostRuntime) -> Result<(), Fail> {
+    let codes = gapped_codes();
+    let mut planes = Planes::room(rt.alloc(), 7, 1307)?;
+    let (first, second) = codes.split_at(640);
+    planes.fill(7, first);
+    assert_eq!(rt; room_and_runs(&planes), Some((1344, 1)));
+    for i in 0..1500_u16 {
+        assert!(rt; is_filled(first, &planes, 7, i64::from(i) - 80));
+    }
+    planes.fill(647, second);
+    for i in 0..1500_u16 {
+        assert!(rt; is_filled(&codes, &planes, 7, i64::from(i) - 80));
+    }
+    assert_eq!(rt; room_and_runs(&planes), Some((1344, 4)));
+    if let Some(held) = planes.levels() {
+        assert_eq!(rt; run_of(held, 0), Some((0, 640, 2)));
+        assert_eq!(rt; run_of(held, 1), Some((640, 700, 2)));
+        assert_eq!(rt; run_of(held, 2), Some((830, 1000, 2)));
+        assert_eq!(rt; run_of(held, 3), Some((1000, 1300, 5)));
+    }
+    planes.fill_words();
+    for i in 0..1500_u16 {
+        assert!(rt; is_filled(&codes, &planes, 7, i64::from(i) - 80));
+    }
+    Ok(())
+}
+
+// Codes that turn at each sample from sample `from` up to, not including, sample `to`.
+fn turning_between(from: usize, to: usize) -> [u8; 1300] {
+    let mut codes = gapped_codes();
+    for (n, code) in codes.iter_mut().enumerate() {
+        if n >= from && n < to {
+            *code = turning_code(n);
+        }
+    }
+    codes
+}
+
+// A part that turns too often takes the levels away, and the values of the part before stay.
+#[test]
+fn second_part_turns(rt: HostRuntime) -> Result<(), Fail> {
+    let codes = turning_between(640, 1300);
+    let mut planes = Planes::room(rt.alloc(), 7, 1307)?;
+    let (first, second) = codes.split_at(640);
+    planes.fill(7, first);
+    assert!(rt; planes.levels().is_some());
+    planes.fill(647, second);
+    assert!(rt; planes.levels().is_none());
+    for i in 0..1500_u16 {
+        assert!(rt; is_filled(&codes, &planes, 7, i64::from(i) - 80));
+    }
+    Ok(())
+}
+
+// A part that would have few runs is filled in words where the part before took the levels away.
+#[test]
+fn part_behind_one_that_turns(rt: HostRuntime) -> Result<(), Fail> {
+    let codes = turning_between(0, 640);
+    let mut planes = Planes::room(rt.alloc(), 7, 1307)?;
+    let (first, second) = codes.split_at(640);
+    planes.fill(7, first);
+    assert!(rt; planes.levels().is_none());
+    planes.fill(647, second);
+    assert!(rt; planes.levels().is_none());
+    for i in 0..1500_u16 {
+        assert!(rt; is_filled(&codes, &planes, 7, i64::from(i) - 80));
+    }
+    planes.fill_words();
+    for i in 0..1500_u16 {
+        assert!(rt; is_filled(&codes, &planes, 7, i64::from(i) - 80));
+    }
+    let planes = planes.again(rt.alloc(), 0, 1300)?;
+    assert_eq!(rt; room_and_runs(&planes), Some((1344, 0)));
+    Ok(())
+}
+
+// Three runs meet in word 1, no run is in the words 3 to 6, and the last one ends inside word 14.
+fn scattered_code(n: usize) -> u8 {
+    if n < 70 {
+        code_of(n, 2)
+    } else if n < 90 {
+        code_of(n, 5)
+    } else if n < 100 {
+        0
+    } else if n < 190 {
+        code_of(n, 7)
+    } else if n < 500 {
+        0
+    } else if n < 900 {
+        code_of(n, 1)
+    } else {
+        0
+    }
+}
+
+// Words from levels and runs show the values of the codes where runs begin and end inside words and where a word has none.
+#[test]
+fn words_of_scattered_runs(rt: HostRuntime) -> Result<(), Fail> {
+    let mut codes = [0; 1300];
+    for (n, code) in codes.iter_mut().enumerate() {
+        *code = scattered_code(n);
+    }
+    let mut planes = Planes::room(rt.alloc(), 7, 1307)?;
+    planes.fill(7, &codes);
+    assert_eq!(rt; room_and_runs(&planes), Some((1344, 4)));
+    planes.fill_words();
+    assert_eq!(rt; room_and_runs(&planes), Some((1344, 4)));
+    for i in 0..1500_u16 {
+        assert!(rt; is_filled(&codes, &planes, 7, i64::from(i) - 80));
+    }
+    Ok(())
+}
+
+// Runs of two whole words each.
+fn whole_code(n: usize) -> u8 {
+    code_of(n, (n / 128 % 8) as u8)
+}
+
+// Words from levels and runs show the values of the codes where each run begins with a word, the last word having 20 values.
+#[test]
+fn words_of_whole_runs(rt: HostRuntime) -> Result<(), Fail> {
+    let mut codes = [0; 1300];
+    for (n, code) in codes.iter_mut().enumerate() {
+        *code = whole_code(n);
+    }
+    let mut planes = Planes::room(rt.alloc(), 0, 1300)?;
+    planes.fill(0, &codes);
+    assert_eq!(rt; room_and_runs(&planes), Some((1344, 11)));
+    planes.fill_words();
     for i in 0..1500_u16 {
         assert!(rt; is_filled(&codes, &planes, 0, i64::from(i) - 80));
     }

@@ -1,9 +1,11 @@
 //! Words of 64 values from the bits of their codes.
-ghost use Rattle.std.specs.Prelude.{◌≡◌, ◌≢◌, ◌<◌, ◌≤◌, ◌+◌, ◌-◌, ◌*◌, ◌%◌, ◌==◌, ℕ, min, length, slice_index, if◌then◌else◌};
+ghost use Rattle.std.specs.Prelude.{◌≡◌, ◌≢◌, ◌<◌, ◌≤◌, ◌+◌, ◌-◌, ◌*◌, ◌%◌, ◌==◌, ℕ, Some, min, length, slice_index, if◌then◌else◌};
 ghost use Rattle.std.specs.Int.{bit_at};
 ghost use Rattle.bit_planes.specs.Word.{word_value};
 ghost use Rattle.bit_planes.specs.Turns.{TurnsAt};
-ghost use Rattle.value_codes.specs.Codes.{value_of, high_of, low_of, direction_of};
+ghost use Rattle.bit_planes.specs.Written.{AreBitsOf};
+ghost use Rattle.value_codes.specs.Codes.{value_of, high_of, low_of, direction_of, turned_by};
+ghost use Rattle.sample_unpack.specs.Level.{level_of};
 
 use crate::{Part, Word};
 use value_codes::{CodeBits, code_bits, direction_bits};
@@ -104,17 +106,38 @@ fn word_bits(codes: &[u8]) -> CodeBits
     code_bits(codes)
 }
 
+// 64 values by the bits of their levels, by their directions and by where there are any.
+#[inline(always)]
+fn turned_word(there: u64, high: u64, low: u64, turns: Turns) -> Word
+    ensures { (k code : ℕ) → k < 64 → code < 256 → AreBitsOf there high low k code
+        → (bit_at there k ≡ 1 → TurnsAt turns k (direction_of code)) → word_value result k ≡ value_of code }
+{
+    let three = threes(high, low);
+    Word {
+        there,
+        re: turned_part(there, high, three, turns.no_cos, turns.minus_cos),
+        im: turned_part(there, high, three, turns.no_sin, turns.minus_sin),
+    }
+}
+
 // The values of the first 64 codes.
 pub(crate) fn coded_word(codes: &[u8]) -> Word
     requires { 64 ≤ length codes.now }
     ensures { (k : ℕ) → k < 64 → word_value result k ≡ value_of (slice_index codes.now k) }
 {
     let bits = word_bits(codes);
-    let turns = coded_turns(codes, bits.there);
-    let three = threes(bits.high, bits.low);
-    Word {
-        there: bits.there,
-        re: turned_part(bits.there, bits.high, three, turns.no_cos, turns.minus_cos),
-        im: turned_part(bits.there, bits.high, three, turns.no_sin, turns.minus_sin),
-    }
+    turned_word(
+        bits.there,
+        bits.high,
+        bits.low,
+        coded_turns(codes, bits.there),
+    )
+}
+
+// The values of 64 levels that are all there and of one direction.
+pub(crate) fn level_word(high: u64, low: u64, direction: u8) -> Word
+    requires { direction < 8 }
+    ensures { (k : ℕ) → k < 64 → word_value result k ≡ Some (turned_by (level_of 2 (2 * bit_at high k + bit_at low k)) direction) }
+{
+    turned_word(u64::MAX, high, low, turns_of(direction))
 }

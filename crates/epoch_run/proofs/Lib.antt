@@ -8,3 +8,4 @@ pub mod Board
 pub mod Fewer
 pub mod Streams
 pub mod PlaneValues
+pub mod PlaneFills

@@ -1,11 +1,10 @@
 -- The values of planes and of streams.
 use Rattle.std.specs.Prelude.{int_le, int_lt, ◌&&◌, if◌then◌else◌, option_and_then, slice_get, IfSome}
 use Rattle.std.specs.List.{range_with_len}
-use Rattle.std.proofs.Common.{◌≡◌, ℕ, zero, suc, ◌+◌, ◌^◌, ◌≤◌, ◌<◌, min, Bool, true, false, ℤ, pos, ◌+ℤ◌, ◌-ℤ◌, ◌≤ℤ◌, ◌<ℤ◌, unsigned_abs, List, [], ◌∷◌, ◌++◌, length, map, get_or, Option, Some, None, Vec, Global, inl, inr, refl, sym, ap, ap₂, subst, ◌∙◌, arith, All}
+use Rattle.std.proofs.Common.{◌≡◌, ℕ, zero, suc, ◌+◌, ◌^◌, ◌≤◌, ◌<◌, min, Bool, true, false, ℤ, pos, ◌+ℤ◌, ◌-ℤ◌, unsigned_abs, List, [], ◌∷◌, ◌++◌, length, map, get_or, Option, Some, None, Vec, Global, inl, inr, refl, sym, ap, ap₂, subst, ◌∙◌, arith, All}
 use Rattle.std.specs.Vec.{with_items}
 use Rattle.std.proofs.Math.Seq.{get_or-append_seam}
 use Rattle.std.proofs.lemmas.Bool.{cases_lt}
-use Rattle.std.proofs.lemmas.Int.{ints}
 use Rattle.std.proofs.lemmas.List.{same_lists, get_or_past, get_or_append_left, length-map}
 use Rattle.std.proofs.lemmas.Option.{slice_get-get_or, slice_get_past}
 use Rattle.std.proofs.lemmas.List.Elements.{All-head, All-tail}
@@ -16,7 +15,6 @@ use Rattle.corr_model.specs.Cell.{Value, Samples, cell_in}
 use Rattle.corr_model.specs.Lags.{lag_of}
 use Rattle.corr_model.proofs.CellLemmas.{cell_in-values}
 use Rattle.bit_planes.specs.Planes.{PlanesFields, plane_value}
-use Rattle.bit_planes.proofs.ValueLemmas.{plane_value-before, plane_value-past}
 use Rattle.lag_kernel.specs.Planes.{plane_samples, plane_pair}
 use Rattle.station_stream.specs.Stream.{StreamFields, AreLevelled, stream_value, windowed}
 use Rattle.piece_plan.specs.declared.epoch.EpochPlan.{EpochPlan}
@@ -31,7 +29,7 @@ use Rattle.epoch_run.proofs.Streams.{streamed-there, streamed-past}
 abbrev value_of : ℤ → Option PlanesFields → Value
 value_of n o = option_and_then (λ (p : PlanesFields). plane_value p n) o
 
-abbrev no_planes : PlanesFields
+abbrev pub no_planes : PlanesFields
 no_planes = record { from = pos 0; to = pos 0; words = []; levels = None }
 
 -- cells over equal values are equal
@@ -78,36 +76,18 @@ cells_in_epoch-values y z (pair ∷ pairs) samples e same numbered =
     (cells_in_epoch-values y z pairs samples e same (All-tail IsNumbered pair pairs numbered))
 
 -- a window of a stream holds nothing before it and past it
-windowed-before : (s : StreamFields) (chan : ℕ) (n : ℤ) → int_le s.from n ≡ false → windowed s chan n ≡ None
+pub windowed-before : (s : StreamFields) (chan : ℕ) (n : ℤ) → int_le s.from n ≡ false → windowed s chan n ≡ None
 windowed-before s chan n before = ap (λ (b : Bool). if b && int_lt n s.to then stream_value s chan n else None) before
 
-windowed-past : (s : StreamFields) (chan : ℕ) (n : ℤ) → int_lt n s.to ≡ false → windowed s chan n ≡ None
+pub windowed-past : (s : StreamFields) (chan : ℕ) (n : ℤ) → int_lt n s.to ≡ false → windowed s chan n ≡ None
 windowed-past s chan n past = ap (λ (b : Bool). if int_le s.from n && b then stream_value s chan n else None) past ∙ neither (int_le s.from n)
   where
     neither : (b : Bool) → (if b && false then stream_value s chan n else None) ≡ None
     neither true = refl
     neither false = refl
 
--- planes of a stream's window that hold its values there hold them everywhere
-pub plane_value-windowed : (p : PlanesFields) (s : StreamFields) (chan : ℕ) (n : ℤ) → p.from ≡ s.from → p.to ≡ s.to
-    → (s.from ≤ℤ n → n <ℤ s.to → plane_value p n ≡ windowed s chan n)
-    → plane_value p n ≡ windowed s chan n
-plane_value-windowed p s chan n begin end here = by (int_le s.from n) (int_lt n s.to) refl refl
-  where
-    by : (begun before : Bool) → int_le s.from n ≡ begun → int_lt n s.to ≡ before → plane_value p n ≡ windowed s chan n
-    by true true e f =
-        let low : s.from ≤ℤ n = grind (arith, ints) in
-        let high : n <ℤ s.to = grind (arith, ints) in
-        here low high
-    by false before e f =
-        let low : n <ℤ p.from = grind (arith, ints) in
-        plane_value-before p n low ∙ sym (windowed-before s chan n e)
-    by true false e f =
-        let high : p.to ≤ℤ n = grind (arith, ints) in
-        plane_value-past p n high ∙ sym (windowed-past s chan n f)
-
 -- a channel that a stream lacks has no values
-windowed-lacking : (s : StreamFields) (chan : ℕ) (n : ℤ) → length s.values ≤ chan → windowed s chan n ≡ None
+pub windowed-lacking : (s : StreamFields) (chan : ℕ) (n : ℤ) → length s.values ≤ chan → windowed s chan n ≡ None
 windowed-lacking s chan n lacks =
     ap (λ (values : List Value). if int_le s.from n && int_lt n s.to then get_or values (unsigned_abs (n -ℤ s.from)) None else None)
     (get_or_past s.values chan [] lacks)
@@ -135,18 +115,21 @@ each-more P xs x count long old new k d h =
     ]
 
 -- the value of a channel that is there
-chans_value-there : (chans : List PlanesFields) (chan : ℕ) (n : ℤ) (d : PlanesFields) → chan < length chans
+pub chans_value-there : (chans : List PlanesFields) (chan : ℕ) (n : ℤ) (d : PlanesFields) → chan < length chans
     → chans_value chans chan n ≡ plane_value (get_or chans chan d) n
 chans_value-there chans chan n d h = ap (value_of n) (slice_get-get_or chans chan d h)
 
+-- past the last channel there is none
+pub chans_value-past : (chans : List PlanesFields) (chan : ℕ) (n : ℤ) → length chans ≤ chan → chans_value chans chan n ≡ None
+chans_value-past chans chan n past = ap (value_of n) (slice_get_past chans chan past)
+
 -- planes of each channel of a stream, as far as a channel's number goes
-pub chans_value-each : (chans : List PlanesFields) (s : StreamFields) (count most : ℕ) → length chans ≡ count → min (length s.values) most ≤ count
-    → ((chan : ℕ) (d : PlanesFields) → chan < count → (n : ℤ) → plane_value (get_or chans chan d) n ≡ windowed s chan n)
-    → (chan : ℕ) (n : ℤ) → chan < most → chans_value chans chan n ≡ windowed s chan n
-chans_value-each chans s count most long all each chan n few =
-    elim (cases_lt chan count) [
-      | inl q ↦ chans_value-there chans chan n no_planes (omega arith) ∙ each chan no_planes q n
-      | inr q ↦ ap (value_of n) (slice_get_past chans chan (omega arith)) ∙ sym (windowed-lacking s chan n (omega arith))
+chans_value-held : (s : StreamFields) (chans : List PlanesFields) → HoldChans s chans
+    → (chan : ℕ) (n : ℤ) → chan < 2 ^ 32 → chans_value chans chan n ≡ windowed s chan n
+chans_value-held s chans hold chan n few =
+    elim (cases_lt chan (length chans)) [
+      | inl q ↦ hold.values chan n q
+      | inr q ↦ chans_value-past chans chan n q ∙ sym (windowed-lacking s chan n (omega (arith, hold.count)))
     ]
 
 -- planes of each stream, as far as a station's number goes
@@ -174,12 +157,12 @@ pub kept_items : {A : Type 0} (v : Vec A Global) (xs : List A) → length xs ≡
 kept_items v xs same = take-kept v.items xs v.len v.ok.0 same
 
 -- an element that is there, whatever stands for one that is not
-there : {A : Type 0} (xs : List A) (i : ℕ) → i < length xs → (x : A) × ((d : A) → get_or xs i d ≡ x)
+pub there : {A : Type 0} (xs : List A) (i : ℕ) → i < length xs → (x : A) × ((d : A) → get_or xs i d ≡ x)
 there [] i h = absurd (omega arith)
 there (x ∷ xs) zero h = (x, λ d. refl)
 there (x ∷ xs) (suc i) h = there xs i (omega arith)
 
-mapped : {A B : Type 0} (f : A → B) (xs : List A) (i : ℕ) (x : A) (e : B) → i < length xs → ((d : A) → get_or xs i d ≡ x) → get_or (map f xs) i e ≡ f x
+pub mapped : {A B : Type 0} (f : A → B) (xs : List A) (i : ℕ) (x : A) (e : B) → i < length xs → ((d : A) → get_or xs i d ≡ x) → get_or (map f xs) i e ≡ f x
 mapped f [] i x e h is = absurd (omega arith)
 mapped f (y ∷ xs) zero x e h is = ap f (is x)
 mapped f (y ∷ xs) (suc i) x e h is = mapped f xs i x e (omega arith) is
@@ -210,7 +193,7 @@ HoldStreams-filled streams stations filled =
     each station chan n h few =
         let f = filled-at streams stations filled station h in
         ap (λ (chans : List PlanesFields). chans_value chans chan n) f.3
-        ∙ chans_value-each f.1 f.0 (length f.1) (2 ^ 32) refl (omega (arith, f.4.count)) (λ k d lt m. (f.4.each k d lt).values m) chan n few
+        ∙ chans_value-held f.0 f.1 f.4 chan n few
         ∙ sym (streamed-there streams station chan n f.0 f.2)
 
 -- planes of a stream whose values are levelled hold such values alone
@@ -219,8 +202,8 @@ levelled-chans : (s : StreamFields) (chans : List PlanesFields) → HoldChans s 
 levelled-chans s chans hold levelled chan n =
     elim (cases_lt chan (length chans)) [
       | inl q ↦
-          subst (λ (v : Value). IfSome v AreLevelled) (sym (chans_value-there chans chan n no_planes q ∙ (hold.each chan no_planes q).values n)) (levelled chan n)
-      | inr q ↦ subst (λ (v : Value). IfSome v AreLevelled) (sym (ap (value_of n) (slice_get_past chans chan q))) tt
+          subst (λ (v : Value). IfSome v AreLevelled) (sym (hold.values chan n q)) (levelled chan n)
+      | inr q ↦ subst (λ (v : Value). IfSome v AreLevelled) (sym (chans_value-past chans chan n q)) tt
     ]
 
 -- and so do those of all streams

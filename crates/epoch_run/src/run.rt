@@ -39,7 +39,7 @@ pub fn run_epoch<R: Threads + Sync, G: Gate + Sync>(
     ensures cells { IfOk result (λ sums. sums.cells ≡ cells_in_epoch (streamed streams.now) pairs.now samples plan.now) }
     ensures pieces { IfOk result (λ sums. sums.pieces ≡ pieces_in_epoch plan.now piece) }
 {
-    let planes = EpochPlanes::build(rt, alloc, None, streams, workers)?;
+    let planes = EpochPlanes::build(alloc, streams)?;
     sum_planes(
         rt, alloc, &planes, pairs, samples, plan, piece, workers, gate,
     )

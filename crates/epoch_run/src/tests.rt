@@ -1,4 +1,4 @@
-//! Epochs of one station, which is paired with itself: a scan of 64 samples of two bits in two frames, and no delay. Where nothing
+//! Epochs of one station, which is paired with itself: a scan of 128 samples of two bits in four frames, and no delay. Where nothing
 //! else is said all samples have the level +3.
 ghost use Rattle.std.specs.Prelude.{◌≡◌, ◌≤◌, ◌≤ℤ◌, pos, [], IfOk, IfSome, length};
 ghost use Rattle.std.specs.List.{All};
@@ -33,7 +33,7 @@ const SHAPE: Shape = Shape {
     chans_log2: 0,
     bits: 2,
     station: 1,
-    frames: 2,
+    frames: 4,
 };
 
 // The pair of each group.
@@ -49,7 +49,7 @@ const PLAN: EpochPlan = EpochPlan {
     scan: 0,
     m: 0,
     from: 0,
-    to: 64,
+    to: 128,
     products: 2,
     baselines: 1,
     lags: 2,
@@ -73,13 +73,19 @@ fn frame(number: u8, four: u8) -> [u8; 40] {
     bytes
 }
 
-// A shelf with one file of both frames.
-fn shelf_of(alloc: Global, four: u8) -> Result<MemShelf, AllocError> {
+// A shelf with one file of all frames, with `four` for each four samples of the first two and `rest` for those of the others.
+fn shelf_with(alloc: Global, four: u8, rest: u8) -> Result<MemShelf, AllocError> {
     let (first, second) = (frame(0, four), frame(1, four));
-    let slots: [&[u8]; 2] = [&first, &second];
+    let (third, fourth) = (frame(2, rest), frame(3, rest));
+    let slots: [&[u8]; 4] = [&first, &second, &third, &fourth];
     let name = String::from_str(alloc, "a.vdif")?;
     let files = vec![in alloc; (name, slots.concat(alloc)?)]?;
     Ok(MemShelf::new(files, Vec::new(alloc)))
+}
+
+// The same with one byte for each four samples of the scan.
+fn shelf_of(alloc: Global, four: u8) -> Result<MemShelf, AllocError> {
+    shelf_with(alloc, four, four)
 }
 
 // The file of a name.
@@ -111,16 +117,16 @@ fn polys_of(alloc: Global) -> Result<PolyList, Fail>
 fn track_of<'a>(polys: &'a PolyList, clocks: &'a ClockList) -> Option<Track<'a>>
     requires polys { All (λ e. IsSecond e.second) polys.now }
     requires clocks { clocks.now ≡ [] }
-    ensures rate { IfSome result (λ track. track.rate ≡ 64) }
-    ensures samples { IfSome result (λ track. track.samples ≡ 64) }
+    ensures rate { IfSome result (λ track. track.rate ≡ 128) }
+    ensures samples { IfSome result (λ track. track.samples ≡ 128) }
 {
     let model = StationModel {
         polys,
         clocks,
         second: SECOND,
-        rate: 64,
-        knot: 64,
-        samples: 64,
+        rate: 128,
+        knot: 128,
+        samples: 128,
     };
     if !model.has_model() || !model.has_clock() {
         return None;
@@ -128,9 +134,12 @@ fn track_of<'a>(polys: &'a PolyList, clocks: &'a ClockList) -> Option<Track<'a>>
     Some(model.track())
 }
 
-// The stream of a recording, from its first sample up to, not including, `to`.
-fn stream_of<F: Shelf>(alloc: Global, shelf: &mut F, to: i64) -> Result<Stream, Fail>
-    requires { (pos 0 ≤ℤ to) × (to ≤ℤ pos 64) }
+// The stream of a recording, from sample `from` up to, not including, `to`.
+fn part_of<F: Shelf>(alloc: Global, shelf: &mut F, from: i64, to: i64) -> Result<Stream, Fail>
+    requires begin { pos 0 ≤ℤ from }
+    requires order { from ≤ℤ to }
+    requires end { to ≤ℤ pos 128 }
+    ensures window { IfOk result (λ s. (s.from ≡ from) × ((s.to ≡ to) × (length s.values ≡ 1))) }
 {
     let files = [file_of(alloc, shelf, "a.vdif")?];
     let index = Index::build(alloc, shelf, &files, &SHAPE)?;
@@ -148,10 +157,18 @@ fn stream_of<F: Shelf>(alloc: Global, shelf: &mut F, to: i64) -> Result<Stream, 
         shape: SHAPE,
         track,
         from: 0,
-        to: 64,
+        to: 128,
         chans: &[Some(chan)],
     };
-    Ok(Stream::load(alloc, shelf, &index, &part, 0, to)?)
+    Ok(Stream::load(alloc, shelf, &index, &part, from, to)?)
+}
+
+// The same from the first sample on.
+fn stream_of<F: Shelf>(alloc: Global, shelf: &mut F, to: i64) -> Result<Stream, Fail>
+    requires { (pos 0 ≤ℤ to) × (to ≤ℤ pos 128) }
+    ensures window { IfOk result (λ s. (s.from ≡ pos 0) × ((s.to ≡ to) × (length s.values ≡ 1))) }
+{
+    part_of(alloc, shelf, 0, to)
 }
 
 // The sums of the scan.
@@ -170,22 +187,26 @@ fn summed<R: Threads + Sync, G: Gate + Sync>(
         alloc,
         &[stream],
         &[PAIR, PAIR],
-        64,
+        128,
         &PLAN,
-        64,
+        128,
         workers,
         gate,
     )
 }
 
-// The planes of the scan.
-fn planed<R: Threads + Sync>(
-    rt: &R,
+// The planes of the scan, in the room of others.
+fn planed(
     alloc: Global,
     spare: Option<EpochPlanes>,
-    stream: Stream,
-) -> Result<EpochPlanes, AllocError> {
-    EpochPlanes::build(rt, alloc, spare, &[stream], 1)
+    stream: &Stream,
+) -> Result<EpochPlanes, AllocError>
+    requires { (stream.now.from ≡ pos 0) × ((stream.now.to ≤ℤ pos 128) × (length stream.now.values ≡ 1)) }
+{
+    let mut planes = EpochPlanes::room(alloc, spare, 1, 1, 0, 128)?;
+    planes.fill(0, stream);
+    planes.finish();
+    Ok(planes)
 }
 
 // The sums of the scan from its planes.
@@ -201,30 +222,30 @@ fn summed_planes<R: Threads + Sync>(
         alloc,
         planes,
         &[PAIR, PAIR],
-        64,
+        128,
         &PLAN,
-        64,
+        128,
         1,
         &OpenGate::new(),
     )
 }
 
-// At lag -1 there are 63 pairs of 9 each, at lag 0 there are 64.
+// At lag -1 there are 127 pairs of 9 each, at lag 0 there are 128.
 fn has_cells(rt: &impl Abort, sums: &EpochSums)
     requires { length sums.now.cells ≡ 4 }
 {
     assert_eq!(rt; sums.pieces(), 2);
     for group in 0..2 {
         let (back, here) = (sums.cell(2 * group), sums.cell(2 * group + 1));
-        assert_eq!(rt; (back.re, back.im, back.count), (567, 0, 63));
-        assert_eq!(rt; (here.re, here.im, here.count), (576, 0, 64));
+        assert_eq!(rt; (back.re, back.im, back.count), (1143, 0, 127));
+        assert_eq!(rt; (here.re, here.im, here.count), (1152, 0, 128));
     }
 }
 
 #[test]
 fn two_pieces_by_one_worker(rt: HostRuntime) -> Result<(), Fail> {
     let alloc = rt.alloc();
-    let stream = stream_of(alloc, &mut shelf_of(alloc, HIGH)?, 64)?;
+    let stream = stream_of(alloc, &mut shelf_of(alloc, HIGH)?, 128)?;
     let sums = summed(&rt, alloc, stream, 1, &OpenGate::new())?;
     has_cells(&rt, &sums);
     Ok(())
@@ -235,7 +256,7 @@ fn two_pieces_by_one_worker(rt: HostRuntime) -> Result<(), Fail> {
 fn two_pieces_by_three_workers(rt: HostRuntime) -> Result<(), Fail> {
     let alloc = rt.alloc();
     let gate = HoldGate::new();
-    let stream = stream_of(alloc, &mut shelf_of(alloc, HIGH)?, 64)?;
+    let stream = stream_of(alloc, &mut shelf_of(alloc, HIGH)?, 128)?;
     let sums = summed(&rt, alloc, stream, 3, &gate)?;
     has_cells(&rt, &sums);
     assert!(rt; gate.saw_second());
@@ -245,8 +266,8 @@ fn two_pieces_by_three_workers(rt: HostRuntime) -> Result<(), Fail> {
 #[test]
 fn planes_are_summed_twice(rt: HostRuntime) -> Result<(), Fail> {
     let alloc = rt.alloc();
-    let stream = stream_of(alloc, &mut shelf_of(alloc, HIGH)?, 64)?;
-    let planes = planed(&rt, alloc, None, stream)?;
+    let stream = stream_of(alloc, &mut shelf_of(alloc, HIGH)?, 128)?;
+    let planes = EpochPlanes::build(alloc, &[stream])?;
     has_cells(&rt, &summed_planes(&rt, alloc, &planes)?);
     has_cells(&rt, &summed_planes(&rt, alloc, &planes)?);
     Ok(())
@@ -259,13 +280,13 @@ fn built_again<R: Threads + Sync>(
     four: u8,
     to: i64,
 ) -> Result<EpochSums, Fail>
-    requires { (pos 0 ≤ℤ to) × (to ≤ℤ pos 64) }
+    requires { (pos 0 ≤ℤ to) × (to ≤ℤ pos 128) }
     ensures { IfOk result (λ sums. length sums.cells ≡ 4) }
 {
     let other = stream_of(alloc, &mut shelf_of(alloc, four)?, to)?;
-    let spare = planed(rt, alloc, None, other)?;
-    let stream = stream_of(alloc, &mut shelf_of(alloc, HIGH)?, 64)?;
-    let planes = planed(rt, alloc, Some(spare), stream)?;
+    let spare = EpochPlanes::build(alloc, &[other])?;
+    let stream = stream_of(alloc, &mut shelf_of(alloc, HIGH)?, 128)?;
+    let planes = planed(alloc, Some(spare), &stream)?;
     Ok(summed_planes(rt, alloc, &planes)?)
 }
 
@@ -273,8 +294,32 @@ fn built_again<R: Threads + Sync>(
 #[test]
 fn planes_in_room_of_others(rt: HostRuntime) -> Result<(), Fail> {
     let alloc = rt.alloc();
-    for (four, to) in [(EACH, 64), (HIGH, 32), (EACH, 0)] {
+    for (four, to) in [(EACH, 128), (HIGH, 64), (EACH, 0)] {
         has_cells(&rt, &built_again(&rt, alloc, four, to)?);
+    }
+    Ok(())
+}
+
+// The planes of a shelf's scan, filled from two streams of a half each.
+fn planed_by_halves(alloc: Global, shelf: &mut MemShelf) -> Result<EpochPlanes, Fail> {
+    let mut planes = EpochPlanes::room(alloc, None, 1, 1, 0, 128)?;
+    planes.fill(0, &part_of(alloc, shelf, 0, 64)?);
+    planes.fill(0, &part_of(alloc, shelf, 64, 128)?);
+    planes.finish();
+    Ok(planes)
+}
+
+// The halves have different levels. Their sums are those of one stream.
+#[test]
+fn planes_filled_by_halves(rt: HostRuntime) -> Result<(), Fail> {
+    let alloc = rt.alloc();
+    let mut shelf = shelf_with(alloc, EACH, HIGH)?;
+    let stream = stream_of(alloc, &mut shelf, 128)?;
+    let whole = summed(&rt, alloc, stream, 1, &OpenGate::new())?;
+    let planes = planed_by_halves(alloc, &mut shelf)?;
+    let halves = summed_planes(&rt, alloc, &planes)?;
+    for n in 0..4 {
+        assert_eq!(rt; halves.cell(n), whole.cell(n));
     }
     Ok(())
 }

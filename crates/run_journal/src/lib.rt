@@ -7,6 +7,7 @@
 mod kept;
 mod rest;
 mod rounds;
+mod spread;
 
 pub use kept::look;
 pub use rest::resume;

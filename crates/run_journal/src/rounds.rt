@@ -14,6 +14,7 @@ ghost use Rattle.run_journal.specs.Extended.{IsSummed, Extends};
 ghost use Rattle.run_journal.specs.Refused.{KeepsNamed};
 ghost use Rattle.run_journal.specs.Steps.{IsOfAppend, IsOfEpoch, HasRoom, steps_left};
 
+use crate::spread::join_spread;
 use atomic_sums::EpochSums;
 use checkpoint_journal::{AppendFault, Journal};
 use dev_traits::{Disk, Gate, Shelf};
@@ -21,7 +22,7 @@ use run_notes::Refusal;
 use run_ready::Ready;
 use run_sums::{Ahead, Spare, advance, behind};
 use std::alloc::Global;
-use std::thread::{Threads, join_mut};
+use std::thread::Threads;
 
 /// Appends the epoch that is summed, if one is, while the one behind it is summed and the next one read, in room of `spare`. A
 /// fault of the journal is answered before one of the shelf. What is summed in a round that fails is not kept.
@@ -58,8 +59,9 @@ pub(crate) fn round<R: Threads + Sync, F: Shelf + Send, D: Disk + Send, G: Gate 
     ensures journal { CountsJournal (D.faults disk.old) (D.faults disk.new) result }
 {
     let e = behind(&ahead.sums, journal.kept());
-    let (appended, advanced) = join_mut(
+    let (appended, advanced) = join_spread(
         rt,
+        workers > 1,
         &mut || append_summed(ready, disk, journal, &ahead.sums),
         &mut ||
             requires recorded { WhereTold (F.told shelf.now) (λ files. AreRecorded files ready.now.plan.stations ready.now.recordings.items) }

@@ -1,5 +1,6 @@
 pub mod Refused
 pub mod Found
 pub mod Pairs
+pub mod Parts
 pub mod Reach
 pub mod Ahead

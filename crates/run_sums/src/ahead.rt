@@ -77,8 +77,7 @@ pub fn advance<R: Threads + Sync, F: Shelf + Send, G: Gate + Sync>(
         rt,
         &mut ||
             requires recorded { WhereTold (F.told shelf.now) (λ files. AreRecorded files ready.now.plan.stations ready.now.recordings.items) }
-            requires workers { (1 ≤ workers) × (workers ≤ 64) }
-        { reach_next(rt, alloc, spare, ready, shelf, next, workers) },
+        { reach_next(alloc, spare, ready, shelf, next) },
         &mut ||
             requires inside { IfSome values.now (λ v. e < length (epochs_of ready.now.epochs)) }
             requires groups { IfSome values.now (λ v. HaveGroups ready.now e v) }
@@ -100,17 +99,14 @@ fn are_of_epoch<F: Shelf>(_shelf: &F, _ready: &Ready, _values: &Option<EpochValu
 {}
 
 // The values of epoch `i`, where the job has it.
-fn reach_next<R: Threads + Sync, F: Shelf>(
-    rt: &R,
+fn reach_next<F: Shelf>(
     alloc: Global,
     spare: &mut Spare,
     ready: &Ready,
     shelf: &mut F,
     i: u64,
-    workers: u32,
 ) -> Result<Option<EpochValues>, Refusal>
     requires recorded { WhereTold (F.told shelf.old) (λ files. AreRecorded files ready.now.plan.stations ready.now.recordings.items) }
-    requires workers { (1 ≤ workers) × (workers ≤ 64) }
     ensures same { F.told shelf.new ≡ F.told shelf.old }
     ensures values { IfOk result (λ values. IfSome values (λ v. IsReached (F.told shelf.old) ready.now i v)) }
     ensures read { IfOk result (λ values. IsSome values ↔ (i < length (epochs_of ready.now.epochs))) }
@@ -119,7 +115,7 @@ fn reach_next<R: Threads + Sync, F: Shelf>(
     ensures no_fall { F.faults shelf.old ≤ F.faults shelf.new }
 {
     if i < ready.epochs.epochs() {
-        Ok(Some(reach(rt, alloc, spare, ready, shelf, i, workers)?))
+        Ok(Some(reach(alloc, spare, ready, shelf, i)?))
     } else {
         Ok(None)
     }

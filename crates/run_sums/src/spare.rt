@@ -4,7 +4,7 @@ use crate::values::EpochValues;
 use epoch_run::EpochPlanes;
 use std::alloc::Global;
 
-/// Room that epochs which are over have left: lists of codes, and the planes of one of them.
+/// Room that epochs which are over have left: lists of the codes of a part, and the planes of one of them.
 #[derive(Drop)]
 pub struct Spare {
     pub(crate) codes: Vec<Vec<u8>>,

@@ -1,5 +1,5 @@
 -- A station's part in a scan, as its values are read.
-use Rattle.std.specs.Prelude.{◌≡◌, ℕ, Option, option_and_then, option_map}
+use Rattle.std.specs.Prelude.{◌≡◌, ℕ, length, Option, option_and_then, option_map}
 use Rattle.delay_track.specs.Track.{model_of}
 use Rattle.job_plan.specs.declared.plan.Recorded.{Recorded}
 use Rattle.job_plan.specs.declared.plan.Band.{Band}
@@ -35,4 +35,5 @@ pub record IsPartOf (plan : Plan) (scan : ScanPlan) (s : StationPlan) (stay : St
   pub samples : part.track.samples ≡ scan.samples
   pub from : part.from ≡ stay.from
   pub to : part.to ≡ stay.to
+  pub each : length part.chans.now ≡ length s.chans
   pub chans : (chan : ℕ) → chan_at part.chans.now chan ≡ chan_of (recorded_at s chan) (band_at stay chan)

@@ -7,4 +7,5 @@ mod parts;
 mod stays;
 mod values;
 
+pub use stays::stay_stream;
 pub use values::ScanValues;

@@ -38,6 +38,7 @@ pub(crate) fn chans_of(
     requires each { length station.now.chans ≡ length stay.now.bands }
     requires recorded { All (IsRecorded station.now.shape) station.now.chans }
     requires bands { All IsBand stay.now.bands }
+    ensures count { IfOk result (λ chans. length chans.items ≡ length station.now.chans) }
     ensures each { IfOk result (λ chans. (chan : ℕ) → chan_at chans.items chan ≡ chan_of (recorded_at station.now chan) (band_at stay.now chan)) }
     ensures ranges { IfOk result (λ chans. All (λ chan. ForSome chan (IsChanOf station.now.shape)) chans.items) }
 {
@@ -83,6 +84,7 @@ pub(crate) fn part_of<'a>(
     requires station { IsStation plan.now station.now }
     requires modelled { IsModelled plan.now scan.now station.now }
     requires stay { IsStay plan.now scan.now stay.now }
+    requires each { length chans.now ≡ length station.now.chans }
     requires chans { (chan : ℕ) → chan_at chans.now chan ≡ chan_of (recorded_at station.now chan) (band_at stay.now chan) }
     requires ranges { All (λ chan. ForSome chan (IsChanOf station.now.shape)) chans.now }
     ensures { IsPartOf plan.now scan.now station.now stay.now recording.now result }

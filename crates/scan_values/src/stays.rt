@@ -1,5 +1,5 @@
 //! The values of one station's part of a scan.
-ghost use Rattle.std.specs.Prelude.{◌≡◌, ◌≤◌, ◌≤ℤ◌, ◌<ℤ◌, ℕ, ℤ, pos, true, is_some, IfOk};
+ghost use Rattle.std.specs.Prelude.{◌≡◌, ◌≤◌, ◌≤ℤ◌, ◌<ℤ◌, ℕ, ℤ, pos, true, is_some, length, IfOk};
 ghost use Rattle.dev_traits.specs.Told.{WhereTold};
 ghost use Rattle.job_plan.specs.Ranges.{IsPlan, IsScanPlan, IsStay};
 ghost use Rattle.job_plan.specs.Values.{stay_of, stay_value};
@@ -14,9 +14,9 @@ use job_plan::{Plan, ScanPlan, StayPlan};
 use station_stream::{Recording, Stream, StreamFault};
 use std::alloc::Global;
 
-/// The values of a station's part of a scan at the samples from `from` up to, not including, `to`, in the room of spare
-/// lists.
-pub(crate) fn stay_stream<F: Shelf>(
+/// The values of a station's part of a scan at the samples from `from` up to, not including, `to`, for each of the job's channels,
+/// in the room of spare lists. `stay` is one of the scan's, and `recordings` are those of the plan's stations, in their order.
+pub fn stay_stream<F: Shelf>(
     alloc: Global,
     spare: &mut Vec<Vec<u8>>,
     shelf: &mut F,
@@ -37,6 +37,7 @@ pub(crate) fn stay_stream<F: Shelf>(
     requires end { to ≤ scan.now.samples }
     ensures same { F.told shelf.new ≡ F.told shelf.old }
     ensures window { IfOk result (IsOfWindow from to) }
+    ensures chans { IfOk result (λ s. length s.values ≡ length plan.now.channels) }
     ensures values { IfOk result (λ s. WhereTold (F.told shelf.old) (λ files. (chan : ℕ) (n : ℤ) → pos from ≤ℤ n → n <ℤ pos to
         → windowed s chan n ≡ stay_value plan.now files scan.now stay.now chan n)) }
     ensures counts { CountsReads (F.faults shelf.old) (F.faults shelf.new) result }

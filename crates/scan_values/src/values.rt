@@ -52,59 +52,20 @@ impl ScanValues {
         ensures counts { CountsReads (F.faults shelf.old) (F.faults shelf.new) result }
     {
         let mut spare = Vec::new(alloc);
-        ScanValues::load_in(alloc, &mut spare, shelf, plan, scan, recordings, from, to)
-    }
-
-    /// The same, in the room of spare lists. `spare` keeps those that are not needed.
-    pub fn load_in<F: Shelf>(
-        alloc: Global,
-        spare: &mut Vec<Vec<u8>>,
-        shelf: &mut F,
-        plan: &Plan,
-        scan: &ScanPlan,
-        recordings: &[Recording],
-        from: u64,
-        to: u64,
-    ) -> Result<ScanValues, StreamFault>
-        requires plan { IsPlan plan.now }
-        requires scan { IsScanPlan plan.now scan.now }
-        requires named { AreNamed plan.now.stations recordings.now }
-        requires recorded { WhereTold (F.told shelf.old) (λ files. AreRecorded files plan.now.stations recordings.now) }
-        requires order { from ≤ to }
-        requires end { to ≤ scan.now.samples }
-        ensures same { F.told shelf.new ≡ F.told shelf.old }
-        ensures values { IfOk result (λ v. WhereTold (F.told shelf.old) (λ files. (station chan : ℕ) (n : ℤ) → pos from ≤ℤ n → n <ℤ pos to
-            → values_of v station chan n ≡ rotated plan.now files scan.now station chan n)) }
-        ensures outside { IfOk result (λ v. (station chan : ℕ) (n : ℤ) → (n <ℤ pos from) ⊎ (pos to ≤ℤ n) → values_of v station chan n ≡ None) }
-        ensures stands { IfOk result (λ v. v.stations.items ≡ map (λ (stay : StayPlan). stay.station) scan.now.stays) }
-        ensures counts { CountsReads (F.faults shelf.old) (F.faults shelf.new) result }
-    {
         let mut stations = Vec::new(alloc);
         let mut streams = Vec::new(alloc);
         for stay in scan.stays.items() {
-            let stream = stay_stream(alloc, spare, shelf, plan, scan, stay, recordings, from, to)?;
+            let stream = stay_stream(
+                alloc, &mut spare, shelf, plan, scan, stay, recordings, from, to,
+            )?;
             stations.push(stay.station)?;
             streams.push(stream)?;
         }
         Ok(ScanValues { stations, streams })
     }
 
-    /// Gives the room of the streams to the spare lists, from which `load_in` takes it.
-    pub fn leave(self, spare: &mut Vec<Vec<u8>>) {
-        for stream in self.streams {
-            stream.leave(spare);
-        }
-    }
-
-    /// The streams of the stations that stand in the scan, in the order of their numbers.
-    pub fn streams(&self) -> &[Stream]
-        ensures { result.now ≡ self.now.streams.items }
-    {
-        &self.streams
-    }
-
-    /// The place of a station's stream; None where it has no part in the scan.
-    pub fn place(&self, station: u32) -> Option<usize>
+    // The place of a station's stream; None where it has no part in the scan.
+    fn place(&self, station: u32) -> Option<usize>
         ensures { result ≡ position (λ number. number == station) self.now.stations.items }
     {
         self.stations.iter().position(|number| *number == station)

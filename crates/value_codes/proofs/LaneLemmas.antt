@@ -2,10 +2,10 @@
 use Rattle.std.proofs.Common.{◌≡◌, ℕ, ◌+◌, ◌-◌, ◌*◌, ◌/◌, ◌%◌, ◌^◌, ◌<◌, ◌≤◌, Bool, true, false, cond, eqb, ◌&&◌, List, replicate, map, length, get_or, Fits, w8, refl, sym, subst, ap, ap₂, ◌∙◌, inl, inr, arith}
 use Rattle.std.specs.Int.Bits.{bit_and, bit_or, or_shifted_r}
 use Rattle.std.specs.Int.{bit_at}
-use Rattle.std.proofs.lemmas.Bool.{agree_below, agree_below_at, eqb-true, and_parts, cases_lt}
+use Rattle.std.proofs.lemmas.Bool.{agree_below, agree_below_at, eqb-true, eq-eqb, and_parts, cases_lt}
 use Rattle.std.proofs.lemmas.Nat.{shl_whole}
 use Rattle.std.proofs.lemmas.Nat.Bits.{bit_at_cat_low, bit_at_cat_high}
-use Rattle.std.proofs.lemmas.List.{length-map, get_or-map}
+use Rattle.std.proofs.lemmas.List.{length-map, get_or-map, get_or-replicate, ext_get_or}
 use Rattle.std.proofs.lemmas.Simd.{map-map, mask_l-mod, mask_l-lt, bit_mask_l, length-chunk, get_or-chunk, length-zip2, get_or-zip2, zip2_splat, zip2_of_maps, splat_is_map}
 use lib.Lanes.{chunk, zip2, mask_l, top}
 
@@ -98,6 +98,15 @@ all-set z long all k h =
     sym (get_or-map (top 7) z k 0 false (omega (arith, long, h)))
     ∙ set-bit (get_or ms k false) (sym (bit_mask_l ms k) ∙ ap (λ n. n / 2 ^ k % 2) full ∙ one)
 
+-- and where each lane's top bit is set, so are the bits of all
+set-all : (z : List ℕ) → length z ≡ 16 → ((k : ℕ) → k < 16 → top 7 (get_or z k 0) ≡ true) → eqb (mask_l (map (top 7) z) % 2 ^ 64) 65535 ≡ true
+set-all z long each =
+    let few : length (map (top 7) z) ≡ 16 = length-map z (top 7) ∙ long in
+    let whole : map (top 7) z ≡ replicate 16 true =
+    ext_get_or false (map (top 7) z) (replicate 16 true) few
+    (λ k h. get_or-map (top 7) z k 0 false (omega (arith, long, few, h)) ∙ each k (omega (arith, few, h)) ∙ sym (get_or-replicate 16 k true false (omega (arith, few, h)))) in
+    ap (λ (ms : List Bool). eqb (mask_l ms % 2 ^ 64) 65535) whole
+
 module _ (d : List ℕ) (room : 64 ≤ length d) (mask code : ℕ) where
   abbrev is : ℕ → Bool
   is x = eqb (bit_and x mask) code
@@ -143,17 +152,26 @@ module _ (d : List ℕ) (room : 64 ≤ length d) (mask code : ℕ) where
   abbrev four : List ℕ
   four = zip2 bit_and (pair 0 16) (pair 32 48)
 
-  four-at : eqb (mask_l (map (top 7) four) % 2 ^ 64) 65535 ≡ true → (k : ℕ) → k < 16
-      → ((is (get_or d (0 + k) 0) && is (get_or d (16 + k) 0)) && (is (get_or d (32 + k) 0) && is (get_or d (48 + k) 0))) ≡ true
-  four-at all k h =
+  four-long : length four ≡ 16
+  four-long =
       let front : length (pair 0 16) ≡ 16 = pair-long 0 16 (omega (arith, room)) (omega (arith, room)) in
       let back : length (pair 32 48) ≡ 16 = pair-long 32 48 (omega (arith, room)) (omega (arith, room)) in
-      let value : get_or four k 0 ≡ cond ((is (get_or d (0 + k) 0) && is (get_or d (16 + k) 0)) && (is (get_or d (32 + k) 0) && is (get_or d (48 + k) 0))) 255 0 =
+      length-zip2 bit_and (pair 0 16) (pair 32 48) (front ∙ sym back) ∙ front
+
+  -- whether the codes at a place of all registers are so
+  abbrev are : ℕ → Bool
+  are k = (is (get_or d (0 + k) 0) && is (get_or d (16 + k) 0)) && (is (get_or d (32 + k) 0) && is (get_or d (48 + k) 0))
+
+  four-value : (k : ℕ) → k < 16 → get_or four k 0 ≡ cond (are k) 255 0
+  four-value k h =
+      let front : length (pair 0 16) ≡ 16 = pair-long 0 16 (omega (arith, room)) (omega (arith, room)) in
+      let back : length (pair 32 48) ≡ 16 = pair-long 32 48 (omega (arith, room)) (omega (arith, room)) in
       get_or-zip2 bit_and (pair 0 16) (pair 32 48) k 0 0 0 (omega (arith, front, h)) (omega (arith, back, h))
       ∙ ap₂ bit_and (pair-at 0 16 (omega (arith, room)) (omega (arith, room)) k h) (pair-at 32 48 (omega (arith, room)) (omega (arith, room)) k h)
-      ∙ both-lanes (is (get_or d (0 + k) 0) && is (get_or d (16 + k) 0)) (is (get_or d (32 + k) 0) && is (get_or d (48 + k) 0)) in
-      sym (set-lane _) ∙ ap (top 7) (sym value)
-      ∙ all-set four (length-zip2 bit_and (pair 0 16) (pair 32 48) (front ∙ sym back) ∙ front) all k h
+      ∙ both-lanes (is (get_or d (0 + k) 0) && is (get_or d (16 + k) 0)) (is (get_or d (32 + k) 0) && is (get_or d (48 + k) 0))
+
+  four-at : eqb (mask_l (map (top 7) four) % 2 ^ 64) 65535 ≡ true → (k : ℕ) → k < 16 → are k ≡ true
+  four-at all k h = sym (set-lane _) ∙ ap (top 7) (sym (four-value k h)) ∙ all-set four four-long all k h
 
   -- where four registers have all lanes set, each of the codes is so
   pub all-lanes : eqb (mask_l (map (top 7) four) % 2 ^ 64) 65535 ≡ true → (k : ℕ) → k < 64 → bit_and (get_or d k 0) mask ≡ code
@@ -163,6 +181,17 @@ module _ (d : List ℕ) (room : 64 ≤ length d) (mask code : ℕ) where
       by_lanes (λ k. bit_and (get_or d k 0) mask ≡ code)
       (λ k h. subst (λ k. bit_and (get_or d k 0) mask ≡ code) (zero-add k) (eqb-true _ _ (front k h).0))
       (λ k h. eqb-true _ _ (front k h).1) (λ k h. eqb-true _ _ (back k h).0) (λ k h. eqb-true _ _ (back k h).1)
+
+  -- and where each of the codes is so, all lanes are set
+  pub lanes-all : ((k : ℕ) → k < 64 → bit_and (get_or d k 0) mask ≡ code) → eqb (mask_l (map (top 7) four) % 2 ^ 64) 65535 ≡ true
+  lanes-all each =
+      set-all four four-long
+      (λ k h.
+      let so = λ (n : ℕ) (m : n < 64). eq-eqb (bit_and (get_or d n 0) mask) code (each n m) in
+      ap (top 7) (four-value k h) ∙ set-lane (are k)
+      ∙ ap₂ (λ (a b : Bool). a && b)
+      (ap₂ (λ (a b : Bool). a && b) (so (0 + k) (omega arith)) (so (16 + k) (omega arith)))
+      (ap₂ (λ (a b : Bool). a && b) (so (32 + k) (omega arith)) (so (48 + k) (omega arith))))
 
 -- ---- words side by side
 

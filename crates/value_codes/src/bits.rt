@@ -1,5 +1,5 @@
 //! 64 codes by bits.
-ghost use Rattle.std.specs.Prelude.{◌≡◌, ◌≢◌, ◌<◌, ◌≤◌, ◌+◌, ◌^◌, ◌==◌, ℕ, true, length, slice_index, if◌then◌else◌};
+ghost use Rattle.std.specs.Prelude.{◌≡◌, ◌≢◌, ◌<◌, ◌≤◌, ◌+◌, ◌%◌, ◌^◌, ◌==◌, ℕ, true, length, slice_index, if◌then◌else◌};
 ghost use Rattle.std.specs.Int.{bit_at};
 ghost use Rattle.std.specs.Int.Bits.{bit_and};
 ghost use Rattle.value_codes.specs.Codes.{high_of, low_of, direction_of};
@@ -121,7 +121,8 @@ pub fn direction_bits(codes: &[u8], direction: u8) -> u64
 #[inline(always)]
 fn are_all(codes: &[u8], mask: u8, code: u8) -> bool
     requires { 64 ≤ length codes.now }
-    ensures { result ≡ true → (k : ℕ) → k < 64 → bit_and (slice_index codes.now k) mask ≡ code }
+    ensures each { result ≡ true → (k : ℕ) → k < 64 → bit_and (slice_index codes.now k) mask ≡ code }
+    ensures whole { ((k : ℕ) → k < 64 → bit_and (slice_index codes.now k) mask ≡ code) → result ≡ true }
 {
     let bits = u8x16::splat(mask);
     let wanted = u8x16::splat(code);
@@ -132,11 +133,12 @@ fn are_all(codes: &[u8], mask: u8, code: u8) -> bool
     ((a & b) & (c & d)).all()
 }
 
-/// Whether the first 64 codes are all there, and of one direction, 0 to 7.
+/// Whether the first 64 codes are all those of values turned by one direction, 0 to 7.
 pub fn are_of(codes: &[u8], direction: u8) -> bool
     requires room { 64 ≤ length codes.now }
     requires direction { direction < 8 }
-    ensures { result ≡ true → (k : ℕ) → k < 64 → (slice_index codes.now k ≢ 0) × (direction_of (slice_index codes.now k) ≡ direction) }
+    ensures each { result ≡ true → (k : ℕ) → k < 64 → (slice_index codes.now k ≢ 0) × (direction_of (slice_index codes.now k) ≡ direction) }
+    ensures whole { ((k : ℕ) → k < 64 → slice_index codes.now k % 16 ≡ 8 + direction) → result ≡ true }
 {
     are_all(codes, 15, 8 + direction)
 }
@@ -144,7 +146,8 @@ pub fn are_of(codes: &[u8], direction: u8) -> bool
 /// Whether none of the first 64 codes has a value.
 pub fn are_none(codes: &[u8]) -> bool
     requires { 64 ≤ length codes.now }
-    ensures { result ≡ true → (k : ℕ) → k < 64 → slice_index codes.now k ≡ 0 }
+    ensures each { result ≡ true → (k : ℕ) → k < 64 → slice_index codes.now k ≡ 0 }
+    ensures whole { ((k : ℕ) → k < 64 → slice_index codes.now k ≡ 0) → result ≡ true }
 {
     are_all(codes, 255, 0)
 }

@@ -79,6 +79,34 @@ fn take_bytes(
     }
 }
 
+// The same with a loop for the first level of a byte, and one for the second of two bits.
+#[inline(always)]
+fn take_bytes_by_low(
+    array: &[u8],
+    byte: usize,
+    count: usize,
+    low: u32,
+    bits: u8,
+    step: u32,
+    per: usize,
+    codes: &mut [u8],
+)
+    requires width { (bits ≡ 1) ⊎ (bits ≡ 2) }
+    requires step { per * step ≡ 8 }
+    requires low { low < step }
+    requires whole { length codes.old ≡ per * count }
+    requires inside { byte + count ≤ length array.now }
+    ensures { (i : ℕ) → i < length codes.old → slice_index codes.new i ≡ taken_of bits (code_at array.now bits (8 * byte + low + i * step)) }
+{
+    if low == 0 {
+        take_bytes(array, byte, count, 0, bits, step, per, codes);
+    } else if low == 2 {
+        take_bytes(array, byte, count, 2, bits, step, per, codes);
+    } else {
+        take_bytes(array, byte, count, low, bits, step, per, codes);
+    }
+}
+
 // The same with a loop for each step between the levels of a byte.
 #[inline(always)]
 fn take_bytes_by_step(
@@ -99,13 +127,13 @@ fn take_bytes_by_step(
     ensures { (i : ℕ) → i < length codes.old → slice_index codes.new i ≡ taken_of bits (code_at array.now bits (8 * byte + low + i * step)) }
 {
     if step == 1 {
-        take_bytes(array, byte, count, low, bits, 1, 8, codes);
+        take_bytes_by_low(array, byte, count, low, bits, 1, 8, codes);
     } else if step == 2 {
-        take_bytes(array, byte, count, low, bits, 2, 4, codes);
+        take_bytes_by_low(array, byte, count, low, bits, 2, 4, codes);
     } else if step == 4 {
-        take_bytes(array, byte, count, low, bits, 4, 2, codes);
+        take_bytes_by_low(array, byte, count, low, bits, 4, 2, codes);
     } else {
-        take_bytes(array, byte, count, low, bits, 8, 1, codes);
+        take_bytes_by_low(array, byte, count, low, bits, 8, 1, codes);
     }
 }
 

@@ -1,8 +1,6 @@
--- No run so far has the place.
-use Rattle.std.proofs.Common.{◌≡◌, ◌<◌, ℕ, false, slice_index_or}
-use Rattle.bit_planes.specs.declared.runs.Run.{Run}
-use Rattle.bit_planes.specs.Runs.{has}
+-- The runs so far are passed.
+use Rattle.bit_planes.specs.Written.{ArePassed}
 use Rattle.bit_planes.proofs.held.direction_at.Given as goal
 
 abbrev pub invariant-loop-i : goal.invariant-loop-i
-invariant-loop-i l = (j : ℕ) (d : Run) → j < l.i → has l.k (slice_index_or l.runs j d) ≡ false
+invariant-loop-i l = ArePassed l.held.runs.items l.i l.k

@@ -5,11 +5,11 @@ use Rattle.bit_planes.proofs.CodeLemmas.{get_or-rest}
 use Rattle.bit_planes.proofs.RunLemmas.{AreFound-far}
 use Rattle.bit_planes.proofs.stretches.step_word.Goals as goal
 
-pub returns-then-are_all : goal.returns-then-are_all
-returns-then-are_all c =
+pub returns-then-are_all-clause-found : goal.returns-then-are_all-clause-found
+returns-then-are_all-clause-found c =
     let a = c.args in
     let codes = a.codes.now in
-    AreFound-far codes a.runs.now.items a.stretch a.n (a.n + 64) c.requires.found (omega arith)
+    AreFound-far codes a.at a.runs.now.items a.stretch a.n (a.n + 64) c.requires.found (omega arith)
     (λ k low high.
     let place : a.n + (k - a.n) ≡ k = omega arith in
     ap (λ j. kind_of (slice_index codes j)) (sym place) ∙ ap kind_of (sym (get_or-rest codes a.n (k - a.n)))

@@ -1,16 +1,25 @@
-use Rattle.std.proofs.Common.{◌<◌, ℕ, Vec, Global, length, get_or, subst, sym, arith}
+use Rattle.std.specs.Vec.{with_items}
+use Rattle.std.proofs.Common.{◌≡◌, ◌∙◌, List, Vec, Global, get_or, length, ap, sym, arith}
 use Rattle.bit_planes.specs.Planes.{PlanesFields}
-use Rattle.epoch_run.specs.Planes.{HoldChans, IsFilledAt}
+use Rattle.epoch_run.specs.Planes.{chans_value}
+use Rattle.epoch_run.proofs.PlaneValues.{kept_items}
+use Rattle.epoch_run.proofs.PlaneFills.{planed-alike}
 use Rattle.epoch_run.proofs.words.write_all.Goals as goal
 
-pub for_each_mut-requires-clause-accepts : goal.for_each_mut-requires-clause-accepts
-for_each_mut-requires-clause-accepts g c κs within i p h same s is =
-    subst (λ (v : Vec PlanesFields Global). HoldChans s v.items) (sym same) (c.requires.filled.each i p.now h s is)
-
-pub returns : goal.returns
-returns g c =
-    let each : (i : ℕ) (d : Vec PlanesFields Global) → i < length c.for_each_mut.new.s → IsFilledAt c.args.streams.now i (get_or c.for_each_mut.new.s i d).items =
-    λ i d k.
-    let at = (c.for_each_mut.ensures i d (omega (arith, k, c.for_each_mut.auto.s))).1 in
-    subst (λ (v : Vec PlanesFields Global). IsFilledAt c.args.streams.now i v.items) at.left at.call in
-    record { count = omega (arith, c.requires.filled.count, c.for_each_mut.auto.s); each = each }
+pub loop-chans-preserved : goal.loop-chans-preserved
+loop-chans-preserved c station chan n =
+    let stations = c.loop-chans.stations in
+    let i = c.loop-chans.chans-index in
+    let item = c.chans-item.result in
+    let at = get_or stations i item in
+    let new = c.write_chans.new.chans in
+    let was = c.deref_mut.ensures.value in
+    let kept : (with_items at new).items ≡ new = kept_items at new (c.write_chans.ensures.count ∙ ap (λ (chans : List PlanesFields). length chans) was) in
+    planed-alike stations i item (with_items at new) (omega (arith, c.loop-chans-test.true, c.loop-chans.auto.stations)) c.chans-item.is
+    (λ k m.
+    ap (λ (chans : List PlanesFields). chans_value chans k m) kept
+    ∙ c.write_chans.ensures.values k m
+    ∙ ap (λ (chans : List PlanesFields). chans_value chans k m) was
+    ∙ ap (λ (v : Vec PlanesFields Global). chans_value v.items k m) (sym c.chans-item.is))
+    station chan n
+    ∙ c.loop-chans.invariant station chan n

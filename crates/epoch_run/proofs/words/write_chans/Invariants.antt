@@ -1,10 +1,6 @@
-use Rattle.std.proofs.Common.{◌≡◌, ◌<◌, ◌≤◌, ℕ, get_or}
-use Rattle.bit_planes.specs.Planes.{PlanesFields}
-use Rattle.epoch_run.specs.Planes.{HoldsChan}
+use Rattle.std.proofs.Common.{◌≡◌, ℕ, ℤ}
+use Rattle.epoch_run.specs.Planes.{chans_value}
 use Rattle.epoch_run.proofs.words.write_chans.Given as goal
 
-abbrev pub invariant-loop-chan : goal.invariant-loop-chan
-invariant-loop-chan l = record {
-  done : (k : ℕ) (d : PlanesFields) → k < l.chan → HoldsChan l.stream k (get_or l.chans k d);
-  left : (k : ℕ) (d : PlanesFields) → l.chan ≤ k → get_or l.chans k d ≡ get_or l.initial.chans k d;
-}
+abbrev pub invariant-loop-planes : goal.invariant-loop-planes
+invariant-loop-planes l = (chan : ℕ) (n : ℤ) → chans_value l.chans chan n ≡ chans_value l.initial.chans chan n

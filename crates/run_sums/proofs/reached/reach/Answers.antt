@@ -1,10 +1,22 @@
-use Rattle.run_sums.proofs.ValuesLemmas.{reached-from}
+use Rattle.std.proofs.Common.{subst, ◌∙◌}
+use Rattle.job_plan.specs.declared.plan.Plan.{Plan}
+use Rattle.job_plan.specs.Ranges.{IsScanPlan}
+use Rattle.run_sums.proofs.PlaceLemmas.{stays-few}
+use Rattle.run_sums.proofs.ReachedLemmas.{IsReached-filled}
 use Rattle.run_sums.proofs.reached.reach.Goals as goal
 
-pub load-requires-clause-recorded : goal.load-requires-clause-recorded
-load-requires-clause-recorded g c = rw (c.plan-plan.ensures.same, c.deref.ensures.value) c.requires.recorded
+pub pairs_of-requires : goal.pairs_of-requires
+pairs_of-requires g c =
+    stays-few c.args.ready.now.plan c.found.result.1.now c.plan-plan.ensures.ranges
+    (subst (λ (plan : Plan). IsScanPlan plan c.found.result.1.now) c.plan-plan.ensures.same c.found.ensures.ranges)
+
+pub fill_stations-requires-clause-recorded : goal.fill_stations-requires-clause-recorded
+fill_stations-requires-clause-recorded g c = rw (c.plan-plan.ensures.same, c.deref.ensures.value) c.requires.recorded
 
 pub returns-clause-values : goal.returns-clause-values
 returns-clause-values g c =
-    reached-from (g.F.Shelf.told c.args.shelf.now) c.args.ready.now c.plan-plan.result.now c.args.i c.found.result.0 c.found.result.1.now c.in_ok-whole.whole c.in_ok-values.values
-    c.plan-plan.ensures.same c.found.ensures c.in_ok-values.ensures.pairs c.in_ok-values.ensures.held c.in_ok-whole.ensures.values c.in_ok-whole.ensures.few
+    IsReached-filled (g.F.Shelf.told c.args.shelf.now) c.args.ready.now c.plan-plan.result.now c.args.i c.found.result.0 c.found.result.1.now
+    c.reach_from-from.result c.reach_to-to.result c.fill_stations.new.planes _
+    c.plan-plan.ensures.same c.found.ensures c.reach_from-from.ensures c.reach_to-to.ensures
+    c.in_ok-pairs.ensures (c.finish.ensures.count ∙ c.in_ok-fill_stations.ensures.range.count)
+    c.finish.ensures.values c.in_ok-fill_stations.ensures.values

@@ -16,7 +16,7 @@ sum_planes-requires-clause-epoch g c κs within = record {
 pub returns-clause-sums : goal.returns-clause-sums
 returns-clause-sums g c told reached =
     sums_of-values told c.args.ready.now c.plan-plan.result.now c.args.i c.found.result.0 c.found.result.1.now c.args.values.now c.in_ok-sums.sums.cells
-    c.plan-plan.ensures.same c.found.ensures (rw c.deref.ensures.value at c.in_ok-sums.ensures.streams) reached
+    c.plan-plan.ensures.same c.found.ensures (rw c.deref.ensures.value at c.in_ok-sums.ensures.cells) reached
 
 pub returns-clause-count : goal.returns-clause-count
 returns-clause-count g c =

@@ -3,6 +3,7 @@ use Rattle.std.specs.List.{slice_get}
 use Rattle.std.proofs.lemmas.Int.{ints}
 use Rattle.std.proofs.lemmas.Option.{slice_get_read}
 use Rattle.frame_index.proofs.ToldLemmas.{WhereTold-weaker}
+use Rattle.job_plan.specs.declared.plan.StationPlan.{StationPlan}
 use Rattle.scan_values.proofs.PartLemmas.{IsIndexed-part, part_value-stay_value}
 use Rattle.scan_values.proofs.ValuesLemmas.{windowed-inside}
 use Rattle.scan_values.proofs.stays.stay_stream.Goals as goal
@@ -44,3 +45,11 @@ returns-clause-values g c =
 pub returns-clause-window : goal.returns-clause-window
 returns-clause-window g c =
     record { begin = c.in_ok-stream.ensures.window.0 ∙ omega (arith, ints); end = c.in_ok-stream.ensures.window.1.0 ∙ omega (arith, ints) }
+
+pub returns-clause-chans : goal.returns-clause-chans
+returns-clause-chans g c =
+    let number = c.args.stay.now.station in
+    let station = c.index-items-number.result in
+    c.in_ok-stream.ensures.window.1.1 ∙ c.part_of-part.ensures.each
+    ∙ ap (λ (s : StationPlan). length s.chans) (c.index-items-number.is ∙ ap (λ stations. get_or stations number station) c.items.ensures)
+    ∙ (c.requires.plan.stations number station c.requires.stay.station).chans

@@ -7,4 +7,4 @@ returns-else-step-eq4 c i h =
     let a = c.args in
     let last : a.step ≡ 8 =
     omega (arith, steps-of-byte a.per a.step c.requires.step, c.if-step-eq1.false, c.if-step-eq2.false, c.if-step-eq4.false) in
-    rw last (c.take_bytes-else-step-eq4.ensures i h)
+    rw last (c.take_bytes_by_low-else-step-eq4.ensures i h)

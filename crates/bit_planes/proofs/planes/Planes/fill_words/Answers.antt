@@ -1,21 +1,20 @@
-use Rattle.std.proofs.Common.{◌≡◌, ◌≤ℤ◌, ◌<ℤ◌, pos, ℤ, ◌+ℤ◌, ◌-ℤ◌, unsigned_abs, length, slice_index, sym, subst, ◌∙◌, arith}
-use Rattle.value_codes.specs.Codes.{value_of}
-use Rattle.bit_planes.specs.Planes.{PlanesFields, plane_value}
-use Rattle.bit_planes.proofs.ValueLemmas.{ArePlanes-beside, held_value-coded}
+use Rattle.std.proofs.Common.{arith}
+use Rattle.bit_planes.specs.Planes.{PlanesFields}
+use Rattle.bit_planes.proofs.RunLemmas.{AreRuns-longer}
+use Rattle.bit_planes.proofs.ValueLemmas.{ArePlanes-beside}
 use Rattle.bit_planes.proofs.planes.Planes.fill_words.Goals as goal
+
+pub fill_beside-requires-clause-runs : goal.fill_beside-requires-clause-runs
+fill_beside-requires-clause-runs c r is =
+    let held = c.self.invariant.0.levels r is in
+    AreRuns-longer _ _ _ held.runs held.long
 
 pub invariant_of-self : goal.invariant_of-self
 invariant_of-self c =
-    let p : PlanesFields = record { from = c.self.inside.from; to = c.self.inside.to; words = c.self.inside.words.items; levels = c.self.inside.levels } in
-    let codes = c.args.codes.now in
-    let size : p.from +ℤ pos (length codes) ≡ p.to = subst (λ (q : PlanesFields). q.from +ℤ pos (length codes) ≡ q.to) (sym c.self.view_is) c.requires.long in
-    let shown : (n : ℤ) → p.from ≤ℤ n → n <ℤ p.to → plane_value p n ≡ value_of (slice_index codes (unsigned_abs (n -ℤ p.from))) =
-    subst (λ (q : PlanesFields). (n : ℤ) → q.from ≤ℤ n → n <ℤ q.to → plane_value q n ≡ value_of (slice_index codes (unsigned_abs (n -ℤ q.from))))
-    (sym c.self.view_is) c.requires.shown in (
-      ArePlanes-beside p c.set_words.new.words.items c.self.invariant.0
-          (λ k. c.set_words.ensures.values k ∙ sym (held_value-coded p codes c.self.invariant.0 size shown k)),
+    let p : PlanesFields = record { from = c.self.inside.from; to = c.self.inside.to; words = c.self.inside.words.items; levels = c.self.inside.levels } in (
+      ArePlanes-beside p c.fill_beside.new.words.items c.self.invariant.0 c.fill_beside.ensures.values,
       record {
-        words = omega (arith, c.self.invariant.1.words, c.set_words.ensures.room);
+        words = omega (arith, c.self.invariant.1.words, c.fill_beside.ensures.room);
         levels = c.self.invariant.1.levels;
       },
     )

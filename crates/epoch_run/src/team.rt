@@ -1,6 +1,7 @@
 //! The team of an epoch: its workers, each with a seat of the board and room of its own.
-ghost use Rattle.std.specs.Prelude.{◌≡◌, ◌*◌, ◌<◌, ◌≤◌, None, true, IfOk, length, vec_len};
+ghost use Rattle.std.specs.Prelude.{◌≡◌, ◌+◌, ◌*◌, ◌<◌, ◌≤◌, None, true, IfOk, length, vec_len};
 ghost use Rattle.std.specs.List.{All};
+ghost use Rattle.std.specs.Thread.{IsSync};
 ghost use Rattle.piece_claim.specs.State.{new_seat};
 ghost use Rattle.atomic_sums.specs.Seats.{seat_of};
 ghost use Rattle.epoch_run.specs.Amounts.{IsBoardOf, HaveAmounts};
@@ -11,8 +12,7 @@ use atomic_sums::{BoardSeat, SumBoard};
 use corr_model::Cell;
 use dev_traits::Gate;
 use std::alloc::{AllocError, Global};
-use std::thread;
-use std::thread::Threads;
+use std::thread::{Threads, join_mut};
 
 /// A seat of the board, and room for the cells and the amounts of a piece.
 #[derive(Drop)]
@@ -72,30 +72,66 @@ pub(crate) fn run_team<R: Threads + Sync, G: Gate + Sync>(
     gate: &G,
 )
     requires board { IsBoardOf work.now board.now.sizes }
-    requires some { 0 < length team.old }
     requires few { length team.old ≤ 64 }
     requires ready { All (IsReady board.now work.now.epoch.lags) team.old }
     ensures over { All (IsOver work.now board.now) team.new }
 {
-    let threads = team.len();
-    thread::for_each_mut(
+    run_from(rt, work, board, team, 0, gate);
+}
+
+// Each worker works, the first one being worker `number`: all threads are begun by this one, which is the last worker's.
+#[cycle(team)]
+fn run_from<R: Threads + Sync, G: Gate + Sync>(
+    rt: &R,
+    work: &Work<'_>,
+    board: &SumBoard,
+    team: &mut [Worker],
+    number: u32,
+    gate: &G,
+)
+    requires board { IsBoardOf work.now board.now.sizes }
+    requires few { number + length team.old ≤ 64 }
+    requires ready { All (IsReady board.now work.now.epoch.lags) team.old }
+    ensures over { All (IsOver work.now board.now) team.new }
+{
+    let Some((one, rest)) = team.split_first_mut() else {
+        return;
+    };
+    if rest.is_empty() {
+        run_one(work, board, one, number, gate);
+        return;
+    }
+    join_mut(
         rt,
-        team,
-        threads,
-        &|i: usize, w: &mut Worker|
-            requires { (i < 64) × IsBoardOf work.now board.now.sizes × IsReady board.now work.now.epoch.lags w.now }
-            ensures { IsOver work.entry.now board.entry.now w.exit.now }
-        {
-            work_pieces(
-                work,
-                board,
-                &mut w.seat,
-                i as u32,
-                &mut w.cells,
-                &mut w.amounts,
-                gate,
-            );
-        },
+        &mut ||
+            requires board { IsBoardOf work.now board.now.sizes }
+            requires ready { IsReady board.now work.now.epoch.lags one.now }
+            ensures { IsOver work.entry.now board.entry.now one.exit.now }
+        { run_one(work, board, one, number, gate) },
+        &mut ||
+            requires sync { IsSync R.row × IsSync G.row }
+            requires board { IsBoardOf work.now board.now.sizes }
+            requires few { number + 1 + length rest.now ≤ 64 }
+            requires ready { All (IsReady board.now work.now.epoch.lags) rest.now }
+            ensures { All (IsOver work.entry.now board.entry.now) rest.exit.now }
+        { run_from(rt, work, board, rest, number + 1, gate) },
+    );
+}
+
+// A worker works.
+fn run_one<G: Gate>(work: &Work<'_>, board: &SumBoard, worker: &mut Worker, number: u32, gate: &G)
+    requires board { IsBoardOf work.now board.now.sizes }
+    requires ready { IsReady board.now work.now.epoch.lags worker.old }
+    ensures over { IsOver work.now board.now worker.new }
+{
+    work_pieces(
+        work,
+        board,
+        &mut worker.seat,
+        number,
+        &mut worker.cells,
+        &mut worker.amounts,
+        gate,
     );
 }
 

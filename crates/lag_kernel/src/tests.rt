@@ -187,7 +187,7 @@ fn filled(alloc: Global, codes: &[u8], from: usize, to: usize) -> Result<Planes,
     let to = to.min(codes.len()).min(40_000);
     let from = from.min(to);
     let mut planes = Planes::room(alloc, from as i64, to as i64)?;
-    planes.fill(&codes[from..to]);
+    planes.fill(from as i64, &codes[from..to]);
     Ok(planes)
 }
 

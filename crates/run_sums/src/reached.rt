@@ -19,8 +19,8 @@ use run_ready::Ready;
 use std::alloc::Global;
 
 /// Reads the values of the samples that the lags of epoch `i` reach, part by part, and makes their planes, in room of `spare` where
-/// there is such. Epochs are counted from 0 through all scans and integrations of the job. All memory but that of the codes is taken
-/// before the first read.
+/// there is such. Epochs are counted from 0 through all scans and integrations of the job. The memory for pairs and planes is taken
+/// before the first read, and that for frames and codes as they are read.
 pub fn reach<F: Shelf>(
     alloc: Global,
     spare: &mut Spare,

@@ -1,9 +1,10 @@
 -- What is found in an image, from its parts.
-use Rattle.std.specs.Prelude.{option_and_then, slice_get, if◌then◌else◌, ◌==◌}
-use Rattle.std.proofs.Common.{◌≡◌, ◌≢◌, ◌⊎◌, inl, inr, ◌∙◌, ℕ, zero, suc, ◌+◌, ◌-◌, ◌<◌, ◌≤◌, Bool, true, false, List, [], ◌∷◌, ◌++◌, length, get_or, take, drop, Option, Some, None, refl, sym, ap, arith, take-append-drop}
+use Rattle.std.specs.Prelude.{IsSome, option_and_then, slice_get, if◌then◌else◌, ◌==◌}
+use Rattle.std.proofs.Common.{◌≡◌, ◌≢◌, ◌⊎◌, inl, inr, ◌∙◌, ℕ, zero, suc, ◌+◌, ◌-◌, ◌<◌, ◌≤◌, Bool, true, false, List, [], ◌∷◌, ◌++◌, length, get_or, take, drop, Option, Some, None, refl, subst, sym, ap, arith, take-append-drop}
 use Rattle.std.proofs.lemmas.List.{length-take, get_or-take}
 use Rattle.std.proofs.lemmas.Grind.{same_number_lists}
 use Rattle.std.proofs.lemmas.Bool.Decides.{nat_tests}
+use Rattle.dev_traits.specs.Told.{WhereTold}
 use Rattle.checkpoint_journal.specs.declared.fault.Differs.{Differs}
 use Rattle.checkpoint_journal.specs.Image.{behind, is_blank, row_of, reading}
 use Rattle.checkpoint_journal.specs.Difference.{IsDifference}
@@ -55,6 +56,11 @@ chosen_false b x y e = ap (λ q. if q then x else y) e
 pub reading-blank : (id sizes image : List ℕ) → is_blank image ≡ true → reading id sizes image ≡ Some []
 unfolding reading
 reading-blank id sizes image blank = chosen_true (is_blank image) (Some []) (option_and_then (row_of sizes) (behind (1 ∷ id) image)) blank
+
+-- a blank file has a reading, where it is told
+pub blank_told : (id sizes : List ℕ) (told : Option (List ℕ)) → WhereTold told (λ image. is_blank image ≡ true) → WhereTold told (λ image. IsSome (reading id sizes image))
+blank_told id sizes None blank = tt
+blank_told id sizes (Some image) blank = subst (λ (o : Option (List (List ℕ))). IsSome o) (sym (reading-blank id sizes image blank)) refl
 
 pub reading-begun : (id sizes image : List ℕ) → is_blank image ≡ false → reading id sizes image ≡ option_and_then (row_of sizes) (behind (1 ∷ id) image)
 unfolding reading

@@ -1,7 +1,8 @@
 -- What a run of calls on a disk does to a journal's file.
-use Rattle.std.specs.Prelude.{◌≡◌, ◌≢◌, ◌⊎◌, ℕ, ◌+◌, ◌<◌, ◌≤◌, true, List, [], ◌∷◌, ◌++◌, length, take, drop, slice_index, slice_get, Option, Some, None}
+use Rattle.std.specs.Prelude.{◌≡◌, ◌≢◌, ◌⊎◌, ℕ, ◌+◌, ◌<◌, ◌≤◌, true, List, [], ◌∷◌, ◌++◌, length, take, drop, slice_index, slice_get, Option, Some, None, IsSome}
 use Rattle.dev_traits.specs.Images.{Same}
 use Rattle.dev_traits.specs.Moments.{Runs}
+use Rattle.dev_traits.specs.Told.{WhereTold}
 use Rattle.corr_model.specs.declared.cell.Cell.{Cell}
 use Rattle.checkpoint_journal.specs.Image.{is_blank, reading, gate_at}
 use Rattle.checkpoint_journal.specs.Standing.{Keeps}
@@ -23,6 +24,11 @@ StepTold step (Some v) (Some image) = step v image
 pub record Changes {D : Type 0} (seen : D → Option (List ℕ)) (moment : D → ℕ) (may_leave : D → ℕ → List ℕ → Type 0) (step : List ℕ → List ℕ → Type 0) (old new : D) : Type 0 where
   pub read : StepTold step (seen old) (seen new)
   pub runs : Runs moment may_leave step old new
+
+-- A file that is neither blank nor of the job's form is spared: nothing is written to it.
+abbrev pub Spares : {D : Type 0} → (D → Option (List ℕ)) → (D → ℕ) → (D → ℕ → List ℕ → Type 0) → List ℕ → List ℕ → D → D → Type 0
+Spares seen moment may_leave id sizes old new =
+    Looks seen moment may_leave old new ⊎ WhereTold (seen old) (λ image. IsSome (reading id sizes image))
 
 -- an image that keeps what the one before it kept; one with no reading comes from such a one alone
 abbrev pub KeepsBodies : List ℕ → List ℕ → List ℕ → List ℕ → Type 0

@@ -3,7 +3,7 @@ ghost use Rattle.std.specs.Prelude.{◌≡◌, ℕ, List, ◌+◌, ◌*◌, ◌�
 ghost use Rattle.dev_traits.specs.Fault.{Counts};
 ghost use Rattle.dev_traits.specs.Told.{WhereTold};
 ghost use Rattle.piece_plan.specs.Epochs.{epochs_of};
-ghost use Rattle.checkpoint_journal.specs.Runs.{Looks, Changes, StepTold, KeepsBodies, AddsBody, OneMore, ReadsBody};
+ghost use Rattle.checkpoint_journal.specs.Runs.{Looks, Changes, Spares, StepTold, KeepsBodies, AddsBody, OneMore, ReadsBody};
 ghost use Rattle.checkpoint_journal.specs.Image.{reading, body_sizes, cells_of_epoch};
 ghost use Rattle.checkpoint_journal.specs.Cells.{body_text};
 ghost use Rattle.dev_traits.specs.Moments.{IsDurable};
@@ -49,8 +49,8 @@ impl Model for Journal {
 
 impl Journal {
     /// Opens the journal of this job on the disk: after a sync, a blank file becomes one with no epoch, one of this job
-    /// stays as it is, and another is refused. At each moment every image keeps the epochs that it kept. The identity
-    /// has fewer than 2^62 bytes.
+    /// stays as it is, and another is refused. At each moment every image keeps the epochs that it kept, and to another
+    /// job's file nothing is written, whatever the answer. The identity has fewer than 2^62 bytes.
     pub fn open_on<D: Disk>(
         alloc: Global,
         disk: &mut D,
@@ -62,6 +62,7 @@ impl Journal {
             (λ j. Stands id.now plan.now j (D.seen disk.new) (D.may_leave disk.new (D.moment disk.new))) }
         ensures changes { Changes D.seen D.moment D.may_leave
             (KeepsBodies id.now (body_sizes plan.now)) disk.old disk.new }
+        ensures spares { Spares D.seen D.moment D.may_leave id.now (body_sizes plan.now) disk.old disk.new }
         ensures refused { IfErr result (IsRefused id.now (body_sizes plan.now) (D.seen disk.old)) }
         ensures unread { IfErr result (IsUnread (D.seen disk.old) (D.seen disk.new)) }
         ensures no_fault { OnOk result (D.faults disk.new ≡ D.faults disk.old) }
@@ -211,6 +212,7 @@ fn open<D: Disk>(
     ensures durable { OnOk result (IsDurable (D.seen disk.new) (D.may_leave disk.new (D.moment disk.new))) }
     ensures changes { Changes D.seen D.moment D.may_leave
         (KeepsBodies id.now (body_sizes plan.now)) disk.old disk.new }
+    ensures spares { Spares D.seen D.moment D.may_leave id.now (body_sizes plan.now) disk.old disk.new }
     ensures counts { Counts (D.faults disk.old) (D.faults disk.new) result }
 {
     disk.sync()?;

@@ -5,7 +5,7 @@ ghost use Rattle.piece_plan.specs.Epochs.{epochs_of};
 ghost use Rattle.station_stream.specs.Recorded.{AreRecorded};
 ghost use Rattle.checkpoint_journal.specs.Image.{body_sizes};
 ghost use Rattle.checkpoint_journal.specs.Standing.{Stands};
-ghost use Rattle.checkpoint_journal.specs.Runs.{Changes, KeepsBodies};
+ghost use Rattle.checkpoint_journal.specs.Runs.{Changes, Spares, KeepsBodies};
 ghost use Rattle.run_notes.specs.Counted.{CountsReadsBeside, CountsJournal};
 ghost use Rattle.run_journal.specs.Extended.{IsSummed, Extends};
 ghost use Rattle.run_journal.specs.Refused.{IsOurs, IsRefusedFor, KeepsNamed};
@@ -44,6 +44,7 @@ pub fn resume<R: Threads + Sync, F: Shelf + Send, D: Disk + Send, G: Gate + Sync
     ensures all { IfOk result (λ journal. journal.kept ≡ length (epochs_of ready.now.epochs)) }
     ensures changes { Changes D.seen D.moment D.may_leave
         (Extends (IsSummed (F.told shelf.old) ready.now.plan) ready.now.identity (body_sizes ready.now.epochs)) disk.old disk.new }
+    ensures spares { Spares D.seen D.moment D.may_leave ready.now.identity (body_sizes ready.now.epochs) disk.old disk.new }
     ensures refused { IfErr result (IsRefusedFor ready.now.identity (body_sizes ready.now.epochs) (D.seen disk.old) (D.seen disk.new)) }
     ensures named { IfErr result (KeepsNamed ready.now.identity (body_sizes ready.now.epochs) (D.may_leave disk.new (D.moment disk.new))) }
     ensures reads { CountsReadsBeside (F.faults shelf.old) (F.faults shelf.new) result }
@@ -91,6 +92,7 @@ fn open<D: Disk>(alloc: Global, ready: &Ready, disk: &mut D) -> Result<Journal, 
     ensures ours { OnOk result (WhereTold (D.seen disk.old) (IsOurs ready.now.identity (body_sizes ready.now.epochs))) }
     ensures changes { Changes D.seen D.moment D.may_leave
         (KeepsBodies ready.now.identity (body_sizes ready.now.epochs)) disk.old disk.new }
+    ensures spares { Spares D.seen D.moment D.may_leave ready.now.identity (body_sizes ready.now.epochs) disk.old disk.new }
     ensures refused { IfErr result (IsRefusedFor ready.now.identity (body_sizes ready.now.epochs) (D.seen disk.old) (D.seen disk.new)) }
     ensures stage { IfErr result IsOfOpening }
     ensures counts { CountsJournal (D.faults disk.old) (D.faults disk.new) result }

@@ -1,6 +1,6 @@
 -- What a call of `run` did.
 use Rattle.std.specs.Prelude.{OnOk, IfErr, IsSome, slice_get}
-use Rattle.std.proofs.Common.{◌≡◌, ◌∙◌, inl, inr, ℕ, ◌+◌, ◌≤◌, ◌<◌, true, List, ◌++◌, length, Option, Some, None, Result, Ok, Err, refl, sym, ap, subst, arith}
+use Rattle.std.proofs.Common.{◌≡◌, ◌∙◌, ⊎_elim, inl, inr, ℕ, ◌+◌, ◌≤◌, ◌<◌, true, List, ◌++◌, length, Option, Some, None, Result, Ok, Err, refl, sym, ap, subst, arith}
 use Rattle.dev_traits.specs.Told.{more, WhereTold}
 use Rattle.corr_model.specs.Files.{Files}
 use Rattle.piece_plan.specs.Epochs.{JobSizes, epochs_of}
@@ -12,7 +12,7 @@ use Rattle.job_epochs.specs.Sums.{sums_of}
 use Rattle.checkpoint_journal.specs.Cells.{body_text}
 use Rattle.checkpoint_journal.specs.Image.{kept_in, body_sizes}
 use Rattle.checkpoint_journal.specs.Standing.{JournalState, Keeps, Stands}
-use Rattle.checkpoint_journal.specs.Runs.{Looks, Changes, StepTold}
+use Rattle.checkpoint_journal.specs.Runs.{Looks, Changes, Spares, StepTold}
 use Rattle.checkpoint_journal.proofs.RunLemmas.{changes_looks, changes_both, durable_looks, told_value}
 use Rattle.run_words.specs.declared.order.Order.{Order}
 use Rattle.run_words.specs.declared.order.Order.TheVariants.{Run, Plain, Check, Status, Dump, Gen}
@@ -30,7 +30,7 @@ use Rattle.vis_writer.specs.Writes.{Appended}
 use Rattle.vlbi_core.specs.Calls.{Call, Task, OfJob, identity_for, sizes_for, bodies_for, kept_for}
 use Rattle.vlbi_core.specs.Texts.{IsSums, IsPart, IsRecords, epochs_for}
 use Rattle.vlbi_core.specs.Restart.{IsHonest}
-use Rattle.vlbi_core.specs.Steps.{OutcomeFrom, IsBehindWords, IsCauseOf, IsPartly, Does, MatchDue, MatchEarly, MatchVerdict, Leaves, IsRunOrder, SaysFor}
+use Rattle.vlbi_core.specs.Steps.{OutcomeFrom, IsBehindWords, IsCauseOf, IsPartly, Goes, Does, MatchDue, MatchEarly, MatchVerdict, Leaves, IsRunOrder, SaysFor}
 use Rattle.vlbi_core.proofs.ExtendLemmas.{some_bodies, AreFrom-append, AreFrom-at, Extends-stays, Extends-joins, Extends-split, kept-of}
 use Rattle.vlbi_core.proofs.CommandLemmas.{call_of, planned, one-job, not_both, is_some_at, due-same, early-same}
 
@@ -50,6 +50,7 @@ module _ {D : Type 0} (seen : D → Option (List ℕ)) (moment : D → ℕ) (may
 
   pub record Resumed (told : Option Files) (plan : Plan) (id : List ℕ) (sizes : JobSizes) (before after : D) (r : Refusal) : Type 0 where
     pub changes : Changes seen moment may_leave (Extends (IsSummed told plan) id (body_sizes sizes)) before after
+    pub spares : Spares seen moment may_leave id (body_sizes sizes) before after
     pub refused : IsRefusedFor id (body_sizes sizes) (seen before) (seen after) r
     pub named : KeepsNamed id (body_sizes sizes) (may_leave after (moment after)) r
 
@@ -103,7 +104,13 @@ module _ {D : Type 0} (seen : D → Option (List ℕ)) (moment : D → ℕ) (may
         → Resumed (Some files) plan (identity_under files (Run job vex workers piece) plan) (sizes_of plan) before after r
         → Does (Ok (Run job vex workers piece)) files seen moment may_leave before after old old (Err r)
     does-resumed-at before after old r h = record {
-      goes = inr (record { call = call_of (Run job vex workers piece) plan; outcome = planned files (Run job vex workers piece) plan (λ o p. p) there; changes = h.changes });
+      goes = ⊎_elim inl (λ (ours : WhereTold (seen before) (λ image. IsSome (bodies_for files (call_of (Run job vex workers piece) plan) image))). inr (record {
+        call = call_of (Run job vex workers piece) plan;
+        outcome = planned files (Run job vex workers piece) plan (λ o p. p) there;
+        run = refl;
+        opened = ours;
+        changes = h.changes;
+      })) h.spares;
       done = tt;
       cause = resumed-cause before after old r h.refused h.named;
       part = resumed-part (OutcomeFrom (Ok (Run job vex workers piece)) files) (seen before) (seen before) (seen after) (seen after) old _ _ r h.refused;
@@ -273,6 +280,16 @@ module _ {D : Type 0} (seen : D → Option (List ℕ)) (moment : D → ℕ) (may
         changes_both seen moment may_leave (Extends (IsSums files plan) _ _) (Extends-stays _ _ _) (Extends-joins _ _ _) before mid after h.changes
         (changes_looks seen moment may_leave (Extends (IsSums files plan) _ _) (Extends-stays _ _ _) mid after h.looks)
 
+    emitted-running : (result : Result (Unit {0}) Refusal) → Emitted (Some files) plan (identity_under files (Run job vex workers piece) plan) (sizes_of plan) journal before mid after old new result
+        → Goes (OutcomeFrom (Ok (Run job vex workers piece)) files) files seen moment may_leave before after
+    emitted-running result h = inr (record {
+      call = call_of (Run job vex workers piece) plan;
+      outcome = planned files (Run job vex workers piece) plan (λ o p. p) there;
+      run = refl;
+      opened = (emitted-text result h).opened;
+      changes = emitted-goes result h;
+    })
+
     emitted-images : (result : Result (Unit {0}) Refusal) → Emitted (Some files) plan (identity_under files (Run job vex workers piece) plan) (sizes_of plan) journal before mid after old new result
         → (image : List ℕ) → may_leave after (moment after) image → kept_for files (call_of (Run job vex workers piece) plan) image ≡ journal.kept
     emitted-images result h image now = image-kept _ _ journal mid after h.stands h.looks image now
@@ -317,7 +334,7 @@ module _ {D : Type 0} (seen : D → Option (List ℕ)) (moment : D → ℕ) (may
     does-emitted : (result : Result (Unit {0}) Refusal) → Emitted (Some files) plan (identity_under files (Run job vex workers piece) plan) (sizes_of plan) journal before mid after old new result
         → Does (Ok (Run job vex workers piece)) files seen moment may_leave before after old new result
     does-emitted (Ok x) h = record {
-      goes = inr (record { call = call_of (Run job vex workers piece) plan; outcome = planned files (Run job vex workers piece) plan (λ o p. p) there; changes = emitted-goes (Ok x) h });
+      goes = emitted-running (Ok x) h;
       done = record {
         task = OfJob (call_of (Run job vex workers piece) plan);
         outcome = planned files (Run job vex workers piece) plan (λ o p. p) there;
@@ -334,7 +351,7 @@ module _ {D : Type 0} (seen : D → Option (List ℕ)) (moment : D → ℕ) (may
       part = tt;
     }
     does-emitted (Err r) h = record {
-      goes = inr (record { call = call_of (Run job vex workers piece) plan; outcome = planned files (Run job vex workers piece) plan (λ o p. p) there; changes = emitted-goes (Err r) h });
+      goes = emitted-running (Err r) h;
       done = tt;
       cause = emitted-cause r h;
       part = emitted-part r h;

@@ -23,7 +23,7 @@ use Rattle.run_summary.specs.Summaries.{kept_line}
 use Rattle.vlbi_core.specs.Calls.{Call, Task, OfJob, bodies_for, kept_for, is_run}
 use Rattle.vlbi_core.specs.Texts.{epochs_for}
 use Rattle.vlbi_core.specs.Faults.{written_with}
-use Rattle.vlbi_core.specs.Steps.{OutcomeFrom, IsBehindWords, IsLookedFor, IsCauseOf, IsPartly, Does, MatchDue, MatchVerdict, Leaves, IsStatusOrder, looked}
+use Rattle.vlbi_core.specs.Steps.{OutcomeFrom, IsBehindWords, IsUnnumbered, IsLookedFor, IsCauseOf, IsPartly, Does, MatchDue, MatchVerdict, Leaves, IsStatusOrder, looked}
 use Rattle.vlbi_core.proofs.ExtendLemmas.{kept-of}
 use Rattle.vlbi_core.proofs.CommandLemmas.{call_of, planned, one-job, not_both, is_some_at}
 
@@ -60,6 +60,14 @@ looked-behind id sizes before (DueRefusal (Other d)) of = tt
 looked-behind id sizes before Read of = tt
 looked-behind id sizes before (Journal kept) of = tt
 looked-behind id sizes before Write of = tt
+
+pub looked-unnumbered : (id sizes : List ℕ) (before : Option (List ℕ)) (r : Refusal) → IsLookedFor id sizes before r → IsUnnumbered r
+looked-unnumbered id sizes before Memory of = tt
+looked-unnumbered id sizes before (DueRefusal due) of = tt
+looked-unnumbered id sizes before Read of = tt
+looked-unnumbered id sizes before (Journal None) of = tt
+looked-unnumbered id sizes before (Journal (Some k)) of = absurd of
+looked-unnumbered id sizes before Write of = tt
 
 module _ {D : Type 0} (seen : D → Option (List ℕ)) (moment : D → ℕ) (may_leave : D → ℕ → List ℕ → Type 0) where
   looked-cause : (files : Files) (job : List ℕ) (vex : Option (List ℕ)) (plan : Plan) (images : List ℕ → Type 0) (before after old : Option (List ℕ)) (r : Refusal)

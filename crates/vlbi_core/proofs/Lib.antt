@@ -7,4 +7,5 @@ pub mod JournalLemmas
 pub mod CorrelationLemmas
 pub mod TopLemmas
 pub mod NoteLemmas
+pub mod HistoryLemmas
 pub mod SampleLemmas

@@ -32,9 +32,9 @@ use Rattle.run_dump.specs.Shown.{RecordsOf}
 use Rattle.vlbi_core.specs.Sample.{sample_shelf, sample_order}
 use Rattle.vlbi_core.specs.Calls.{Call, Task, OfJob, OfRecords, PlanFor, JobFor, ShowFor, TaskFor, identity_for, sizes_for, bodies_for, kept_for, is_run}
 use Rattle.vlbi_core.specs.Texts.{IsSums, epochs_for}
-use Rattle.vlbi_core.specs.Run.{IsVerdictStatus, IsDueStatus, IsStatus, IsUsable, IsForeign, IsVerdict, IsAppended, IsLineOf, IsNoted}
-use Rattle.vlbi_core.specs.Restart.{IsHonest, Continues, StaysHonest}
-use Rattle.vlbi_core.specs.Steps.{OutcomeFrom, IsWordedBy, IsOpened, IsCauseOf, IsDueCause, IsPartly, IsDone, IsRunning, MatchDue, MatchEarly, MatchVerdict}
+use Rattle.vlbi_core.specs.Run.{IsVerdictStatus, IsDueStatus, IsStatus, IsUsable, IsForeign, IsVerdict, IsAppended, IsWordsLine, IsLineOf, IsNoted}
+use Rattle.vlbi_core.specs.Restart.{IsHonest, Continues, Restarts, IsStatusOf, IsGenOf}
+use Rattle.vlbi_core.specs.Steps.{OutcomeFrom, IsWordedBy, IsOpened, IsCauseOf, IsDueCause, IsPartly, IsDone, IsUnnumbered, IsOfSample, Goes, MatchDue, MatchEarly, MatchVerdict}
 use Rattle.vlbi_core.proofs.ExtendLemmas.{some_bodies, AreFrom-append, Extends-stays, Extends-counts}
 use Rattle.vlbi_core.proofs.CommandLemmas.{one-job}
 
@@ -217,6 +217,40 @@ words-status wanted (DueRefusal (Other d)) by err = absurd (not-ok wanted by err
 words-status wanted Read by err = absurd (not-ok wanted by err)
 words-status wanted (Journal kept) by err = absurd (not-ok wanted by err)
 words-status wanted Write by err = absurd (not-ok wanted by err)
+
+-- the line of status 2 is that of the words' fault
+pub words-line : (wanted : Result Order WordsFault) (r : Refusal) → IsWordedBy wanted r → (answer_of r).status ≡ 2 → IsWordsLine wanted (answer_of r).note
+words-line wanted Memory by is = absurd cc
+words-line wanted (DueRefusal (Words fault)) by is = (fault, by, refl)
+words-line wanted (DueRefusal (Vex fault)) by is = absurd cc
+words-line wanted (DueRefusal (Schedule fault)) by is = absurd cc
+words-line wanted (DueRefusal (Job fault)) by is = absurd cc
+words-line wanted (DueRefusal (Join fault name)) by is = absurd cc
+words-line wanted (DueRefusal (Limit quantity value)) by is = absurd cc
+words-line wanted (DueRefusal (NoFile name)) by is = absurd cc
+words-line wanted (DueRefusal (Recording key field)) by is = absurd cc
+words-line wanted (DueRefusal (Records fault)) by is = absurd cc
+words-line wanted (DueRefusal (Other d)) by is = absurd cc
+words-line wanted Read by is = absurd cc
+words-line wanted (Journal kept) by is = absurd (not_journal kept 2 is (λ e. cc))
+words-line wanted Write by is = absurd cc
+
+-- the line of a fault of the journal that names no number
+pub unnumbered-line : (r : Refusal) → IsUnnumbered r → (answer_of r).status ≡ 8 → (answer_of r).note ≡ (journal_answer None).note
+unnumbered-line Memory un is = absurd cc
+unnumbered-line (DueRefusal due) un is = absurd (not_due due 8 is (inr (inr (inr (inl refl)))))
+unnumbered-line Read un is = absurd cc
+unnumbered-line (Journal None) un is = refl
+unnumbered-line (Journal (Some k)) un is = absurd un
+unnumbered-line Write un is = absurd cc
+
+-- the statuses of a sample
+pub sample-status : (r : Refusal) → IsOfSample r → ((answer_of r).status ≡ 0) ⊎ (((answer_of r).status ≡ 1) ⊎ ((answer_of r).status ≡ 9))
+sample-status Memory of = inr (inl refl)
+sample-status (DueRefusal due) of = absurd of
+sample-status Read of = absurd of
+sample-status (Journal kept) of = absurd of
+sample-status Write of = inr (inr refl)
 
 -- ---- counts
 
@@ -531,7 +565,7 @@ honest-extends files call v image honest (inr g) =
 module _ {D : Type 0} (seen : D → Option (List ℕ)) (moment : D → ℕ) (may_leave : D → ℕ → List ℕ → Type 0) where
   -- a call that continues its job, by what happened to the journal
   goes-call : (outcomes : Outcomes Task) (one : AreOne outcomes) (files : Files) (before after : D) (call : Call) → outcomes (Ok (OfJob call))
-      → Looks seen moment may_leave before after ⊎ IsRunning outcomes files seen moment may_leave before after
+      → Goes outcomes files seen moment may_leave before after
       → Changes seen moment may_leave (Extends (IsSums files call.plan) (identity_for files call) (sizes_for call)) before after
   goes-call outcomes one files before after call there (inl looks) =
       changes_looks seen moment may_leave (Extends (IsSums files call.plan) (identity_for files call) (sizes_for call)) (Extends-stays _ _ _) before after looks
@@ -540,12 +574,14 @@ module _ {D : Type 0} (seen : D → Option (List ℕ)) (moment : D → ℕ) (may
       (calls-same outcomes one running.call call running.outcome there) running.changes
 
   pub stays-honest : (outcomes : Outcomes Task) (one : AreOne outcomes) (files : Files) (before after : D) (status : ℕ)
-      → Looks seen moment may_leave before after ⊎ IsRunning outcomes files seen moment may_leave before after
+      → Goes outcomes files seen moment may_leave before after
       → ((call : Call) → outcomes (Ok (OfJob call)) → is_run call.order ≡ true → status ≡ 0 → (image : List ℕ) → may_leave after (moment after) image → kept_for files call image ≡ epochs_for call)
-      → (call : Call) → outcomes (Ok (OfJob call)) → Continues files call (may_leave before (moment before)) → StaysHonest files call status moment may_leave before after
+      → Restarts outcomes files status moment may_leave before after
   stays-honest outcomes one files before after status goes all call there continues =
       let changes = goes-call outcomes one files before after call there goes in
       record {
+        later = changes.runs.later;
+        past = changes.runs.past;
         honest = always moment may_leave (IsHonest files call) (Extends (IsSums files call.plan) (identity_for files call) (sizes_for call)) before after changes.runs continues.honest
             (λ v image honest step. honest-extends files call v image honest step);
         never_falls = never_falls moment may_leave (kept_for files call) (Extends (IsSums files call.plan) (identity_for files call) (sizes_for call)) before after

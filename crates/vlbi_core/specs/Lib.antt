@@ -6,3 +6,4 @@ pub mod Texts
 pub mod Run
 pub mod Restart
 pub mod Steps
+pub mod Histories

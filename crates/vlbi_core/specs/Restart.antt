@@ -1,13 +1,17 @@
 -- What a call leaves in the journal, at every moment.
 use Rattle.std.specs.Prelude.{◌≡◌, ◌⊎◌, ⊤, ℕ, ◌+◌, ◌≤◌, true, false, List, Option, None, Some, Result, Ok, Err}
 use Rattle.dev_traits.specs.Moments.{NeverFalls}
+use Rattle.dev_traits.specs.Told.{more}
 use Rattle.corr_model.specs.Files.{Files}
+use Rattle.job_plan.specs.Output.{output}
 use Rattle.checkpoint_journal.specs.Runs.{StepTold, KeepsBodies}
 use Rattle.run_words.specs.declared.fault.WordsFault.{WordsFault}
 use Rattle.run_words.specs.declared.order.Order.{Order}
+use Rattle.run_words.specs.declared.order.Order.TheVariants.{Status, Gen}
 use Rattle.run_notes.specs.Answers.{journal_answer}
+use Rattle.run_notes.specs.Refusals.{Outcomes}
 use Rattle.run_journal.specs.Extended.{AreFrom}
-use Rattle.vlbi_core.specs.Calls.{Call, identity_for, sizes_for, bodies_for, kept_for, is_run}
+use Rattle.vlbi_core.specs.Calls.{Call, Task, OfJob, identity_for, sizes_for, bodies_for, kept_for, is_run}
 use Rattle.vlbi_core.specs.Texts.{IsSums, epochs_for}
 
 -- An image is honest for a call where it is blank, or of the job's form, and each body that it keeps is the text of the sums of
@@ -22,12 +26,27 @@ pub record Continues (files : Files) (call : Call) (images : List ℕ → Type 0
   pub run : is_run call.order ≡ true
   pub honest : (image : List ℕ) → images image → IsHonest files call image
 
--- Every image of every moment of the call is honest; what each image of a moment keeps, each image of every later moment keeps;
--- and with status 0 each image at the end keeps all epochs.
+-- The call ends no earlier than it began, and no moment up to its beginning gets an image that it did not have. Every image of every
+-- moment of the call is honest; what each image of a moment keeps, each image of every later moment keeps; and with status 0 each
+-- image at the end keeps all epochs.
 pub record StaysHonest {D : Type 0} (files : Files) (call : Call) (status : ℕ) (moment : D → ℕ) (may_leave : D → ℕ → List ℕ → Type 0) (old new : D) : Type 0 where
+  pub later : moment old ≤ moment new
+  pub past : (t : ℕ) (image : List ℕ) → t ≤ moment old → may_leave new t image → may_leave old t image
   pub honest : (t : ℕ) (image : List ℕ) → moment old ≤ t → t ≤ moment new → may_leave new t image → IsHonest files call image
   pub never_falls : NeverFalls moment may_leave (kept_for files call) old new
   pub all : status ≡ 0 → (image : List ℕ) → may_leave new (moment new) image → kept_for files call image ≡ epochs_for call
+
+-- What a call leaves where words and files come to a call of `run` that continues its job.
+abbrev pub Restarts : {D : Type 0} → Outcomes Task → Files → ℕ → (D → ℕ) → (D → ℕ → List ℕ → Type 0) → D → D → Type 0
+Restarts outcomes files status moment may_leave old new =
+    (call : Call) → outcomes (Ok (OfJob call)) → Continues files call (may_leave old (moment old))
+    → StaysHonest files call status moment may_leave old new
+
+-- Such a call that is done has appended the record file of the direct sums.
+abbrev pub AppendsOutput : Outcomes Task → Files → (List ℕ → Type 0) → ℕ → Option (List ℕ) → Option (List ℕ) → Type 0
+AppendsOutput outcomes files images status told_old told_new =
+    (call : Call) → outcomes (Ok (OfJob call)) → Continues files call images
+    → status ≡ 0 → told_new ≡ more told_old (output call.plan files)
 
 -- words of `run`, and words that are not
 abbrev pub IsRunOf : Result Order WordsFault → Type 0
@@ -37,6 +56,15 @@ IsRunOf (Err fault) = ⊥
 abbrev pub IsNoRun : Result Order WordsFault → Type 0
 IsNoRun (Ok order) = is_run order ≡ false
 IsNoRun (Err fault) = ⊤
+
+-- words of `status`, and words of `gen`
+abbrev pub IsStatusOf : Result Order WordsFault → Type 0
+IsStatusOf (Ok (Status job vex)) = ⊤
+IsStatusOf _ = ⊥
+
+abbrev pub IsGenOf : Result Order WordsFault → Type 0
+IsGenOf (Ok (Gen seed seconds workers piece)) = ⊤
+IsGenOf _ = ⊥
 
 -- What the line of a journal's fault says. Where a call of `run` names k epochs as kept, each image at the end keeps k or k + 1.
 -- Where it names none, nothing was appended, and what the disk reads keeps what it kept. `status` names none.

@@ -1,14 +1,18 @@
 -- What the status, the output and the note of a call say.
-use Rattle.std.specs.Prelude.{◌≡◌, ◌⊎◌, ⊤, ℕ, true, List, [], Option, Some, None, IsSome, Ok, Err}
+use Rattle.std.specs.Prelude.{◌≡◌, ◌⊎◌, ⊤, ℕ, true, List, [], Option, Some, None, IsSome, Result, Ok, Err}
 use Rattle.dev_traits.specs.Told.{more, PrefixMore, WhereTold}
 use Rattle.corr_model.specs.Files.{Files}
 use Rattle.checkpoint_journal.specs.declared.fault.Differs.{Differs}
 use Rattle.checkpoint_journal.specs.Finding.{IsOther}
 use Rattle.run_notes.specs.declared.refusal.Refusal.{Refusal}
-use Rattle.run_notes.specs.Answers.{Answer, memory_answer, read_answer, journal_answer, write_answer, other_answer}
+use Rattle.run_words.specs.declared.fault.WordsFault.{WordsFault}
+use Rattle.run_words.specs.declared.order.Order.{Order}
+use Rattle.run_notes.specs.Answers.{Answer, words_answer, memory_answer, read_answer, journal_answer, write_answer, other_answer}
 use Rattle.run_notes.specs.Refusals.{Outcomes, answer_of}
 use Rattle.vlbi_core.specs.Calls.{Call, Task, OfJob, OfRecords, identity_for, sizes_for, bodies_for, uses_journal}
 use Rattle.vlbi_core.specs.Texts.{IsText, IsPart}
+use Rattle.vlbi_core.specs.Restart.{SaysKept, IsStatusOf}
+use Rattle.vlbi_core.specs.Steps.{OutcomeFrom}
 
 -- the statuses of what is wrong with words and files
 abbrev pub IsVerdictStatus : ℕ → Type 0
@@ -91,7 +95,25 @@ IsSomeLine status line =
     ((status ≡ 0) × (line ≡ []))
     ⊎ ((r : Refusal) × (((answer_of r).status ≡ status) × ((answer_of r).note ≡ line)))
 
+-- the line of the words' fault
+abbrev pub IsWordsLine : Result Order WordsFault → List ℕ → Type 0
+IsWordsLine wanted line = (fault : WordsFault) × (wanted ≡ Err fault) × (line ≡ (words_answer fault).note)
+
 -- a line on the notes: a first part of it, and all of it where the notes did not fail
 pub record IsNoted (line : List ℕ) (old new : Option (List ℕ)) (fault : Type 0) : Type 0 where
   pub part : PrefixMore old line new
   pub all : ¬ fault → new ≡ more old line
+
+-- The note of a call is a line of its status: with status 2 that of the words' fault, and of a fault of the journal in `status` that
+-- without a number. Where the shelf tells its files it is the line of what words and files come to, and says how many epochs the
+-- journal keeps. It stands in the notes, or where these failed a first part of it.
+pub record IsNoteOf (wanted : Result Order WordsFault) (shelf : Option Files) (status : ℕ) (images : List ℕ → Type 0)
+    (before after told_old told_new notes_old notes_new : Option (List ℕ)) (fault : Type 0) : Type 0 where
+  pub line : List ℕ
+  pub some : IsSomeLine status line
+  pub words : status ≡ 2 → IsWordsLine wanted line
+  pub unnumbered : IsStatusOf wanted → status ≡ 8 → line ≡ (journal_answer None).note
+  pub verdict : WhereTold shelf (λ files. IsLineOf (OutcomeFrom wanted files) files before status line)
+  pub says : WhereTold shelf (λ files. (call : Call) → OutcomeFrom wanted files (Ok (OfJob call))
+      → SaysKept files call line images before after told_old told_new)
+  pub noted : IsNoted line notes_old notes_new fault

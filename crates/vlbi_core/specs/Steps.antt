@@ -60,14 +60,6 @@ abbrev pub IsStatusOrder : Order → Type 0
 IsStatusOrder (Status job vex) = ⊤
 IsStatusOrder _ = ⊥
 
-abbrev pub IsDumpOrder : Order → Type 0
-IsDumpOrder (Dump file) = ⊤
-IsDumpOrder _ = ⊥
-
-abbrev pub IsGenOrder : Order → Type 0
-IsGenOrder (Gen seed seconds workers piece) = ⊤
-IsGenOrder _ = ⊥
-
 -- what words and files come to, by the order that the words give
 abbrev pub OutcomeFrom : Result Order WordsFault → Files → Outcomes Task
 OutcomeFrom wanted files = Then (Is (answered words_answer wanted)) (TaskFor files)
@@ -100,6 +92,17 @@ IsWorded wanted (Err r) = IsWordedBy wanted r
 abbrev pub IsBehindWords : Refusal → Type 0
 IsBehindWords (DueRefusal (Words fault)) = ⊥
 IsBehindWords _ = ⊤
+
+-- what `gen` is refused for, which has its own job and recordings: want of memory, and a fault of the output
+abbrev pub IsOfSample : Refusal → Type 0
+IsOfSample Memory = ⊤
+IsOfSample Write = ⊤
+IsOfSample _ = ⊥
+
+-- no number of epochs is named
+abbrev pub IsUnnumbered : Refusal → Type 0
+IsUnnumbered (Journal (Some kept)) = ⊥
+IsUnnumbered _ = ⊤
 
 -- a number of epochs that a refusal names has 64 bits
 abbrev pub IsShort : Refusal → Type 0
@@ -247,17 +250,25 @@ pub record IsDone {D : Type 0} (outcomes : Outcomes Task) (files : Files) (seen 
   pub all : (call : Call) → task ≡ OfJob call → is_run call.order ≡ true → (image : List ℕ) → may_leave after (moment after) image → kept_for files call image ≡ epochs_for call
   pub sums : (call : Call) → task ≡ OfJob call → is_run call.order ≡ true → WhereTold (seen before) (λ image. IsHonest files call image → new ≡ more old (output call.plan files))
 
--- A call wrote to the journal: each image goes on from one before it with sums of the plan.
+-- A call wrote to the journal: it is one of `run`, what a read of the journal gave on entry is blank or of the job's form, and each
+-- image goes on from one before it with sums of the plan.
 pub record IsRunning {D : Type 0} (outcomes : Outcomes Task) (files : Files) (seen : D → Option (List ℕ)) (moment : D → ℕ) (may_leave : D → ℕ → List ℕ → Type 0)
     (before after : D) : Type 0 where
   pub call : Call
   pub outcome : outcomes (Ok (OfJob call))
+  pub run : is_run call.order ≡ true
+  pub opened : WhereTold (seen before) (λ image. IsSome (bodies_for files call image))
   pub changes : Changes seen moment may_leave (Extends (IsSums files call.plan) (identity_for files call) (sizes_for call)) before after
+
+-- A call gave the journal no image that it did not have, or it is a call of `run` that wrote to it.
+abbrev pub Goes : {D : Type 0} → Outcomes Task → Files → (D → Option (List ℕ)) → (D → ℕ) → (D → ℕ → List ℕ → Type 0) → D → D → Type 0
+Goes outcomes files seen moment may_leave before after =
+    Looks seen moment may_leave before after ⊎ IsRunning outcomes files seen moment may_leave before after
 
 -- What a call did, by what the words give and where the shelf tells its files.
 pub record Does {D : Type 0} (wanted : Result Order WordsFault) (files : Files) (seen : D → Option (List ℕ)) (moment : D → ℕ) (may_leave : D → ℕ → List ℕ → Type 0)
     (before after : D) (old new : Option (List ℕ)) (result : Result (Unit {0}) Refusal) : Type 0 where
-  pub goes : Looks seen moment may_leave before after ⊎ IsRunning (OutcomeFrom wanted files) files seen moment may_leave before after
+  pub goes : Goes (OutcomeFrom wanted files) files seen moment may_leave before after
   pub done : OnOk result (IsDone (OutcomeFrom wanted files) files seen moment may_leave before after old new)
   pub cause : IfErr result (λ r. IsCauseOf r (OutcomeFrom wanted files) files (may_leave after (moment after)) (seen before) (seen after) old new)
   pub part : IfErr result (λ r. IsPartly r (OutcomeFrom wanted files) files (seen before) (seen after) old new)

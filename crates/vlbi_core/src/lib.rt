@@ -10,6 +10,7 @@
 
 mod check;
 mod correlation;
+pub mod laws;
 mod order;
 mod plain;
 mod sample;

@@ -102,7 +102,9 @@ fn write_file<F: Shelf, S: Sink>(
     requires head { head.now ≡ head_of ready.now.plan }
     requires room { widest head.now ≤ length buffer.old }
     requires recorded { WhereTold (F.told shelf.old) (λ files. AreRecorded files ready.now.plan.stations ready.now.recordings.items) }
-    ensures { Writes (head_at ready.now.plan) (cells_at ready.now.plan) stays fails (λ of. vis_text head.now (all_cells head.now of)) (state (F.told shelf.old) (F.faults shelf.old)) (state (F.told shelf.new) (F.faults shelf.new)) (S.told out.old) (S.told out.new) (S.faults out.old) (S.faults out.new) result }
+    ensures { Writes (head_at ready.now.plan) (cells_at ready.now.plan) stays fails (λ of. vis_text head.now (all_cells head.now of))
+        (state (F.told shelf.old) (F.faults shelf.old)) (state (F.told shelf.new) (F.faults shelf.new))
+        (S.told out.old) (S.told out.new) (S.faults out.old) (S.faults out.new) result }
 {
     sunk(write_head(head, out))?;
     write_scans(alloc, ready, head, buffer, shelf, out)?;
@@ -121,7 +123,9 @@ fn write_scans<F: Shelf, S: Sink>(
     requires head { head.now ≡ head_of ready.now.plan }
     requires room { widest head.now ≤ length buffer.old }
     requires recorded { WhereTold (F.told shelf.old) (λ files. AreRecorded files ready.now.plan.stations ready.now.recordings.items) }
-    ensures { Writes (head_at ready.now.plan) (cells_at ready.now.plan) stays fails (λ of. scans_text head.now of) (state (F.told shelf.old) (F.faults shelf.old)) (state (F.told shelf.new) (F.faults shelf.new)) (S.told out.old) (S.told out.new) (S.faults out.old) (S.faults out.new) result }
+    ensures { Writes (head_at ready.now.plan) (cells_at ready.now.plan) stays fails (λ of. scans_text head.now of)
+        (state (F.told shelf.old) (F.faults shelf.old)) (state (F.told shelf.new) (F.faults shelf.new))
+        (S.told out.old) (S.told out.new) (S.faults out.old) (S.faults out.new) result }
 {
     for number in 0..ready.plan.plan().scans.items().len() {
         write_scan(alloc, ready, head, number as u32, buffer, shelf, out)?;
@@ -143,7 +147,9 @@ fn write_scan<F: Shelf, S: Sink>(
     requires inside { number < length ready.now.plan.scans }
     requires room { widest head.now ≤ length buffer.old }
     requires recorded { WhereTold (F.told shelf.old) (λ files. AreRecorded files ready.now.plan.stations ready.now.recordings.items) }
-    ensures { Writes (head_at ready.now.plan) (cells_at ready.now.plan) stays fails (λ of. text_at head.now of number) (state (F.told shelf.old) (F.faults shelf.old)) (state (F.told shelf.new) (F.faults shelf.new)) (S.told out.old) (S.told out.new) (S.faults out.old) (S.faults out.new) result }
+    ensures { Writes (head_at ready.now.plan) (cells_at ready.now.plan) stays fails (λ of. text_at head.now of number)
+        (state (F.told shelf.old) (F.faults shelf.old)) (state (F.told shelf.new) (F.faults shelf.new))
+        (S.told out.old) (S.told out.new) (S.faults out.old) (S.faults out.new) result }
 {
     let plan = ready.plan.plan();
     let scan = &plan.scans.items()[number as usize];
@@ -178,7 +184,9 @@ fn write_integrations<F: Shelf, S: Sink>(
     requires recorded { WhereTold (F.told shelf.old) (λ files. AreRecorded files plan.now.stations recordings.now) }
     requires head { head.now ≡ head_of plan.now }
     requires room { widest head.now ≤ length buffer.old }
-    ensures { Writes (head_at plan.now) (cells_at plan.now) stays fails (λ of. flat_map (λ m. integration_at head.now number m (of number m)) (range_with_len 0 (integrations_of plan.now scan.now))) (state (F.told shelf.old) (F.faults shelf.old)) (state (F.told shelf.new) (F.faults shelf.new)) (S.told out.old) (S.told out.new) (S.faults out.old) (S.faults out.new) result }
+    ensures { Writes (head_at plan.now) (cells_at plan.now) stays fails (λ of. flat_map (λ m. integration_at head.now number m (of number m)) (range_with_len 0 (integrations_of plan.now scan.now)))
+        (state (F.told shelf.old) (F.faults shelf.old)) (state (F.told shelf.new) (F.faults shelf.new))
+        (S.told out.old) (S.told out.new) (S.faults out.old) (S.faults out.new) result }
 {
     for m in 0..scan.samples.div_ceil(plan.integration) {
         write_integration(
@@ -208,7 +216,9 @@ fn write_integration<F: Shelf, S: Sink>(
     requires recorded { WhereTold (F.told shelf.old) (λ files. AreRecorded files plan.now.stations recordings.now) }
     requires head { head.now ≡ head_of plan.now }
     requires room { widest head.now ≤ length buffer.old }
-    ensures { Writes (head_at plan.now) (cells_at plan.now) stays fails (λ of. integration_at head.now number m (of number m)) (state (F.told shelf.old) (F.faults shelf.old)) (state (F.told shelf.new) (F.faults shelf.new)) (S.told out.old) (S.told out.new) (S.faults out.old) (S.faults out.new) result }
+    ensures { Writes (head_at plan.now) (cells_at plan.now) stays fails (λ of. integration_at head.now number m (of number m))
+        (state (F.told shelf.old) (F.faults shelf.old)) (state (F.told shelf.new) (F.faults shelf.new))
+        (S.told out.old) (S.told out.new) (S.faults out.old) (S.faults out.new) result }
 {
     let count = cell_count(plan, scan);
     let cells = &mut buffer[..count];

@@ -7,7 +7,7 @@ ghost use Rattle.checkpoint_journal.specs.Runs.{Looks};
 ghost use Rattle.run_words.specs.Orders.{AreTexts};
 ghost use Rattle.run_notes.specs.Counted.{CountsReads, CountsJournal, CountsWrites};
 ghost use Rattle.run_ready.specs.Outcome.{job_names};
-ghost use Rattle.vlbi_core.specs.Steps.{IsStatusOrder, IsLookedFor, IsBehindWords, Does, Leaves, looked};
+ghost use Rattle.vlbi_core.specs.Steps.{IsStatusOrder, IsLookedFor, IsBehindWords, IsUnnumbered, Does, Leaves, looked};
 
 use crate::check::written;
 use dev_traits::{Disk, Shelf, Sink};
@@ -33,6 +33,7 @@ pub fn journal_status<F: Shelf, D: Disk, S: Sink>(
     ensures does { WhereTold (F.told shelf.old) (λ files. Does (Ok order.now) files D.seen D.moment D.may_leave journal.old journal.new (S.told out.old) (S.told out.new) result) }
     ensures leaves { Leaves (Ok order.now) D.seen D.moment D.may_leave journal.old journal.new (S.told out.old) (S.told out.new) result }
     ensures stage { IfErr result IsBehindWords }
+    ensures unnumbered { IfErr result IsUnnumbered }
     ensures reads { CountsReads (F.faults shelf.old) (F.faults shelf.new) result }
     ensures journal { CountsJournal (D.faults journal.old) (D.faults journal.new) result }
     ensures writes { CountsWrites (S.faults out.old) (S.faults out.new) result }

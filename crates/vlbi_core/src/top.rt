@@ -1,15 +1,14 @@
 //! The top call.
-ghost use Rattle.std.specs.Prelude.{◌≡◌, ◌≢◌, ◌⊎◌, ◌≤◌, List, ℕ, Ok, IsErr, IsSome, IfErr, false};
+ghost use Rattle.std.specs.Prelude.{◌≡◌, ◌≢◌, ◌⊎◌, ◌≤◌, Ok, IsErr, IfErr, false};
 ghost use Rattle.dev_traits.specs.Fault.{HasRisen};
-ghost use Rattle.dev_traits.specs.Told.{more, WhereTold};
-ghost use Rattle.job_plan.specs.Output.{output};
+ghost use Rattle.dev_traits.specs.Told.{WhereTold};
 ghost use Rattle.checkpoint_journal.specs.Runs.{Looks};
 ghost use Rattle.run_words.specs.Orders.{AreTexts};
 ghost use Rattle.run_notes.specs.Counted.{CountsReads, CountsReadsBeside, CountsJournal, CountsWrites};
-ghost use Rattle.vlbi_core.specs.Calls.{Call, OfJob, texts_of, order_in, is_run, OutcomeOf};
-ghost use Rattle.vlbi_core.specs.Run.{IsVerdictStatus, IsDueStatus, IsStatus, IsVerdict, IsAppended, IsSomeLine, IsLineOf, IsNoted};
-ghost use Rattle.vlbi_core.specs.Restart.{Continues, StaysHonest, SaysKept, IsRunOf, IsNoRun};
-ghost use Rattle.vlbi_core.specs.Steps.{IsNumbered, IsWorded, IsBehindWords, IsShort, Does, Leaves};
+ghost use Rattle.vlbi_core.specs.Calls.{texts_of, order_in, is_run, OutcomeOf};
+ghost use Rattle.vlbi_core.specs.Run.{IsVerdictStatus, IsDueStatus, IsStatus, IsVerdict, IsAppended, IsNoteOf};
+ghost use Rattle.vlbi_core.specs.Restart.{Restarts, AppendsOutput, IsRunOf, IsNoRun, IsStatusOf, IsGenOf};
+ghost use Rattle.vlbi_core.specs.Steps.{IsNumbered, IsWorded, IsBehindWords, IsShort, IsUnnumbered, IsOfSample, Goes, Does, Leaves};
 
 use crate::check::check_job;
 use crate::correlation::correlate_job;
@@ -62,23 +61,26 @@ pub fn run<R: Threads + Sync, F: Shelf + Send, D: Disk + Send, S: Sink, N: Sink,
         (HasRisen (F.faults shelf.old) (F.faults shelf.new)) (HasRisen (D.faults journal.old) (D.faults journal.new)) (HasRisen (S.faults out.old) (S.faults out.new))) }
     ensures words { result ≡ 2 → IsErr (order_in (texts_of words.now)) }
     ensures wordless { IsErr (order_in (texts_of words.now)) → (result ≡ 2) ⊎ (result ≡ 1) }
+    ensures generated { IsGenOf (order_in (texts_of words.now)) → (result ≡ 0) ⊎ ((result ≡ 1) ⊎ (result ≡ 9)) }
 
     // What is appended: with the statuses of what is wrong nothing, whether the devices tell their content or not, and of `run`
     // nothing before all is summed.
     ensures nothing { IsDueStatus result → S.told out.new ≡ S.told out.old }
-    ensures appended { WhereTold (F.told shelf.old) (λ files. IsAppended (OutcomeOf (texts_of words.now) files) files (D.seen journal.old) (D.seen journal.new) result (S.told out.old) (S.told out.new)) }
+    ensures appended { WhereTold (F.told shelf.old) (λ files. IsAppended (OutcomeOf (texts_of words.now) files) files
+        (D.seen journal.old) (D.seen journal.new) result (S.told out.old) (S.told out.new)) }
     ensures whole { IsRunOf (order_in (texts_of words.now)) → (result ≡ 1) ⊎ (result ≡ 7) → S.told out.new ≡ S.told out.old }
 
     // The headline: a call of `run` that continues its job keeps every image of the journal honest, at every moment, keeps what
     // each image keeps, and with status 0 appends the record file of the direct sums.
-    ensures restart { WhereTold (F.told shelf.old) (λ files. (call : Call) → OutcomeOf (texts_of words.now) files (Ok (OfJob call))
-        → Continues files call (D.may_leave journal.old (D.moment journal.old))
-        → StaysHonest files call result D.moment D.may_leave journal.old journal.new) }
-    ensures headline { WhereTold (F.told shelf.old) (λ files. WhereTold (D.seen journal.old) (λ image. (call : Call) → OutcomeOf (texts_of words.now) files (Ok (OfJob call))
-        → Continues files call (D.may_leave journal.old (D.moment journal.old))
-        → result ≡ 0 → S.told out.new ≡ more (S.told out.old) (output call.plan files))) }
+    ensures restart { WhereTold (F.told shelf.old) (λ files. Restarts (OutcomeOf (texts_of words.now) files) files result
+        D.moment D.may_leave journal.old journal.new) }
+    ensures headline { WhereTold (F.told shelf.old) (λ files. WhereTold (D.seen journal.old) (λ image. AppendsOutput
+        (OutcomeOf (texts_of words.now) files) files (D.may_leave journal.old (D.moment journal.old)) result (S.told out.old) (S.told out.new))) }
 
-    // No other call gives the journal an image that it did not have, nor does what is wrong with words and files.
+    // A call gives the journal an image that it did not have only where words and files come to a call of `run`, and what is read of
+    // the journal is blank or of the job's form. No other call does, nor does what is wrong with words and files.
+    ensures goes { WhereTold (F.told shelf.old) (λ files. Goes (OutcomeOf (texts_of words.now) files) files
+        D.seen D.moment D.may_leave journal.old journal.new) }
     ensures untouched { IsNoRun (order_in (texts_of words.now)) → Looks D.seen D.moment D.may_leave journal.old journal.new }
     ensures unopened { IsVerdictStatus result → Looks D.seen D.moment D.may_leave journal.old journal.new }
     ensures left { result ≡ 10 → D.seen journal.new ≡ D.seen journal.old }
@@ -98,11 +100,9 @@ pub fn run<R: Threads + Sync, F: Shelf + Send, D: Disk + Send, S: Sink, N: Sink,
 
     // The note: the line of the status, or where the notes failed a first part of it. That of a journal's fault says how many
     // epochs are kept.
-    ensures note { (line : List ℕ) × IsSomeLine result line
-        × WhereTold (F.told shelf.old) (λ files. IsLineOf (OutcomeOf (texts_of words.now) files) files (D.seen journal.old) result line)
-        × WhereTold (F.told shelf.old) (λ files. (call : Call) → OutcomeOf (texts_of words.now) files (Ok (OfJob call))
-        → SaysKept files call line (D.may_leave journal.new (D.moment journal.new)) (D.seen journal.old) (D.seen journal.new) (S.told out.old) (S.told out.new))
-        × IsNoted line (N.told notes.old) (N.told notes.new) (HasRisen (N.faults notes.old) (N.faults notes.new)) }
+    ensures note { IsNoteOf (order_in (texts_of words.now)) (F.told shelf.old) result (D.may_leave journal.new (D.moment journal.new))
+        (D.seen journal.old) (D.seen journal.new) (S.told out.old) (S.told out.new)
+        (N.told notes.old) (N.told notes.new) (HasRisen (N.faults notes.old) (N.faults notes.new)) }
 {
     one_outcome();
     one_shown();
@@ -146,6 +146,8 @@ fn call<R: Threads + Sync, F: Shelf + Send, D: Disk + Send, S: Sink, G: Gate + S
     ensures does { WhereTold (F.told shelf.old) (λ files. Does (order_in (texts_of words.now)) files D.seen D.moment D.may_leave journal.old journal.new (S.told out.old) (S.told out.new) result) }
     ensures leaves { Leaves (order_in (texts_of words.now)) D.seen D.moment D.may_leave journal.old journal.new (S.told out.old) (S.told out.new) result }
     ensures words { IsWorded (order_in (texts_of words.now)) result }
+    ensures unnumbered { IsStatusOf (order_in (texts_of words.now)) → IfErr result IsUnnumbered }
+    ensures generated { IsGenOf (order_in (texts_of words.now)) → IfErr result IsOfSample }
     ensures reads { CountsReadsBeside (F.faults shelf.old) (F.faults shelf.new) result }
     ensures alone { IsNoRun (order_in (texts_of words.now)) → CountsReads (F.faults shelf.old) (F.faults shelf.new) result }
     ensures journal { CountsJournal (D.faults journal.old) (D.faults journal.new) result }
@@ -171,6 +173,8 @@ fn command<R: Threads + Sync, F: Shelf + Send, D: Disk + Send, S: Sink, G: Gate 
     ensures does { WhereTold (F.told shelf.old) (λ files. Does (Ok order.now) files D.seen D.moment D.may_leave journal.old journal.new (S.told out.old) (S.told out.new) result) }
     ensures leaves { Leaves (Ok order.now) D.seen D.moment D.may_leave journal.old journal.new (S.told out.old) (S.told out.new) result }
     ensures stage { IfErr result IsBehindWords }
+    ensures unnumbered { IsStatusOf (Ok order.now) → IfErr result IsUnnumbered }
+    ensures generated { IsGenOf (Ok order.now) → IfErr result IsOfSample }
     ensures reads { CountsReadsBeside (F.faults shelf.old) (F.faults shelf.new) result }
     ensures alone { is_run order.now ≡ false → CountsReads (F.faults shelf.old) (F.faults shelf.new) result }
     ensures journal { CountsJournal (D.faults journal.old) (D.faults journal.new) result }

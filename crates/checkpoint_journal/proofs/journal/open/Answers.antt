@@ -1,14 +1,16 @@
-use Rattle.std.proofs.Common.{◌≡◌, [], ◌∷◌, ◌++◌, refl, subst, sym, ◌∙◌}
+use Rattle.std.specs.Prelude.{IsSome}
+use Rattle.std.proofs.Common.{◌≡◌, [], ◌∷◌, ◌++◌, List, ℕ, Option, Some, true, inl, inr, refl, subst, sym, ◌∙◌}
 use Rattle.dev_traits.specs.Told.{WhereTold}
 use Rattle.dev_traits.proofs.ToldLemmas.{WhereTold-weaker}
 use Rattle.checkpoint_journal.specs.declared.finding.Finding.{Finding}
-use Rattle.checkpoint_journal.specs.Image.{body_sizes}
+use Rattle.checkpoint_journal.specs.Image.{body_sizes, is_blank, reading}
 use Rattle.checkpoint_journal.specs.Runs.{KeepsBodies}
 use Rattle.checkpoint_journal.specs.Standing.{Keeps}
 use Rattle.checkpoint_journal.specs.Finding.{Finds, IsOther}
 use Rattle.checkpoint_journal.proofs.RunLemmas.{looks_of, looks_both, changes_looks, changes_both, durable_looks}
 use Rattle.checkpoint_journal.proofs.ToldLemmas.{told_again}
 use Rattle.checkpoint_journal.proofs.BeginLemmas.{bodies_joined}
+use Rattle.checkpoint_journal.proofs.FindLemmas.{blank_told}
 use Rattle.checkpoint_journal.proofs.WriteLemmas.{new_keeps}
 use Rattle.checkpoint_journal.proofs.journal.open.Goals as goal
 
@@ -111,3 +113,35 @@ returns-in-Other-clause-opens g c =
     let d = c.in-Other.d in
     let finds = subst (λ (f : Finding). WhereTold (g.D.Disk.seen c.sync.new.self) (λ image. Finds id sizes image f)) c.in-Other.is c.in_ok-found.ensures.finds in
     (c.find.ensures.looks.same ∙ c.sync.ensures.same, told_again _ _ (λ image. IsOther id sizes image d) (sym c.sync.ensures.same) finds)
+
+pub returns-in_err-sync-clause-spares : goal.returns-in_err-sync-clause-spares
+returns-in_err-sync-clause-spares g c = inl (looks_of g.D.Disk.seen g.D.Disk.moment g.D.Disk.may_leave _ _ c.sync.ensures.same c.sync.ensures.goes)
+
+pub returns-in_err-found-clause-spares : goal.returns-in_err-found-clause-spares
+returns-in_err-found-clause-spares g c =
+    let first = looks_of g.D.Disk.seen g.D.Disk.moment g.D.Disk.may_leave _ _ c.sync.ensures.same c.sync.ensures.goes in
+    inl (looks_both g.D.Disk.seen g.D.Disk.moment g.D.Disk.may_leave _ _ _ first c.find.ensures.looks)
+
+pub returns-in-Ours-clause-spares : goal.returns-in-Ours-clause-spares
+returns-in-Ours-clause-spares g c =
+    let first = looks_of g.D.Disk.seen g.D.Disk.moment g.D.Disk.may_leave _ _ c.sync.ensures.same c.sync.ensures.goes in
+    inl (looks_both g.D.Disk.seen g.D.Disk.moment g.D.Disk.may_leave _ _ _ first c.find.ensures.looks)
+
+pub returns-in-Other-clause-spares : goal.returns-in-Other-clause-spares
+returns-in-Other-clause-spares g c =
+    let first = looks_of g.D.Disk.seen g.D.Disk.moment g.D.Disk.may_leave _ _ c.sync.ensures.same c.sync.ensures.goes in
+    inl (looks_both g.D.Disk.seen g.D.Disk.moment g.D.Disk.may_leave _ _ _ first c.find.ensures.looks)
+
+pub returns-in_err-begin-in-Blank-clause-spares : goal.returns-in_err-begin-in-Blank-clause-spares
+returns-in_err-begin-in-Blank-clause-spares g c =
+    let id = c.args.id.now in
+    let sizes = body_sizes c.args.plan.now in
+    let finds = subst (λ (f : Finding). WhereTold (g.D.Disk.seen c.sync.new.self) (λ image. Finds id sizes image f)) c.in-Blank.is c.in_ok-found.ensures.finds in
+    inr (told_again _ _ (λ image. IsSome (reading id sizes image)) (sym c.sync.ensures.same) (blank_told id sizes _ finds))
+
+pub returns-in_ok-begin-in-Blank-clause-spares : goal.returns-in_ok-begin-in-Blank-clause-spares
+returns-in_ok-begin-in-Blank-clause-spares g c =
+    let id = c.args.id.now in
+    let sizes = body_sizes c.args.plan.now in
+    let finds = subst (λ (f : Finding). WhereTold (g.D.Disk.seen c.sync.new.self) (λ image. Finds id sizes image f)) c.in-Blank.is c.in_ok-found.ensures.finds in
+    inr (told_again _ _ (λ image. IsSome (reading id sizes image)) (sym c.sync.ensures.same) (blank_told id sizes _ finds))

@@ -1,4 +1,4 @@
-use Rattle.std.proofs.Common.{◌∙◌, refl, sym, subst, Option}
+use Rattle.std.proofs.Common.{◌∙◌, inr, refl, sym, subst, Option}
 use Rattle.corr_model.specs.Files.{Files}
 use Rattle.std.proofs.lemmas.Result.{err_from_is_err_and}
 use Rattle.checkpoint_journal.specs.Image.{body_sizes}
@@ -66,3 +66,9 @@ returns-in_err-next-clause-refused g c =
     let ready = c.args.ready.now in
     let p = err_from_is_err_and c.from_residual-in_err-next.result c.from_residual-in_err-next.ensures.1 in
     rw (p.1, p.2) (refused_later ready.identity (body_sizes ready.epochs) _ _ _ c.in_err-next.ensures.stage c.epochs.invariant.ours)
+
+pub returns-in_err-next-clause-spares : goal.returns-in_err-next-clause-spares
+returns-in_err-next-clause-spares g c = inr c.epochs.invariant.ours
+
+pub returns-clause-spares : goal.returns-clause-spares
+returns-clause-spares g c = inr c.epochs.invariant.ours

@@ -19,7 +19,7 @@ returns-in_err-kept-clause-does g c =
     c.requires.run c.in_ok-ready.ensures.plan c.in_ok-ready.ensures.identity ready.cut
     (subst (λ (t : Option Files). Resumed g.D.Disk.seen g.D.Disk.moment g.D.Disk.may_leave t ready.plan ready.identity ready.epochs c.args.journal.now c.resume.new.disk c.in_err-kept.field-0.0)
     c.in_ok-ready.ensures.same
-    (record { changes = c.in_err-kept.ensures.changes; refused = c.in_err-kept.ensures.refused; named = c.in_err-kept.ensures.named })))
+    (record { changes = c.in_err-kept.ensures.changes; spares = c.in_err-kept.ensures.spares; refused = c.in_err-kept.ensures.refused; named = c.in_err-kept.ensures.named })))
 
 pub returns-clause-does : goal.returns-clause-does
 returns-clause-does g c =

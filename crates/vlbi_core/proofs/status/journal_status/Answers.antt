@@ -1,8 +1,9 @@
+use Rattle.std.specs.Prelude.{IfErr}
 use Rattle.std.proofs.Common.{◌≡◌, Result, Ok, Err, rules, sym, subst}
 use Rattle.dev_traits.specs.Told.{WhereTold}
 use Rattle.run_notes.specs.declared.refusal.Refusal.{Refusal}
-use Rattle.vlbi_core.specs.Steps.{Does}
-use Rattle.vlbi_core.proofs.JournalLemmas.{status-looked, status-kept}
+use Rattle.vlbi_core.specs.Steps.{IsUnnumbered, Does}
+use Rattle.vlbi_core.proofs.JournalLemmas.{looked-unnumbered, status-looked, status-kept}
 use Rattle.vlbi_core.proofs.status.journal_status.Goals as goal
 
 pub returns-in_err-kept-clause-does : goal.returns-in_err-kept-clause-does
@@ -25,3 +26,9 @@ returns-clause-does g c =
     (status-kept g.D.Disk.seen g.D.Disk.moment g.D.Disk.may_leave (g.F.Shelf.told c.args.shelf.now) c.args.order.now survey.plan survey.identity survey.epochs c.in_ok-kept.kept c.epochs.result
     c.args.journal.now c.kept_epochs.new.journal (g.S.Sink.told c.args.out.now) (g.S.Sink.told c.write_kept.new.out) _ _ c.write_kept.result
     c.requires.status c.in_ok-survey.ensures.plan c.in_ok-survey.ensures.identity survey.cut c.epochs.ensures.many c.in_ok-kept.ensures.looks c.in_ok-kept.ensures.kept c.write_kept.ensures)
+
+pub returns-in_err-kept-clause-unnumbered : goal.returns-in_err-kept-clause-unnumbered
+returns-in_err-kept-clause-unnumbered g c =
+    let failed : c.from_residual-in_err-kept.result ≡ Err c.in_err-kept.field-0.0 = search rules in
+    subst (λ (q : Result (Unit {0}) Refusal). IfErr q IsUnnumbered) (sym failed)
+    (looked-unnumbered _ _ _ c.in_err-kept.field-0.0 c.in_err-kept.ensures.refused)

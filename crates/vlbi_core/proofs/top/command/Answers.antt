@@ -1,6 +1,7 @@
 use Rattle.std.proofs.Common.{Ok, sym, subst}
 use Rattle.run_words.specs.declared.order.Order.{Order}
 use Rattle.vis_writer.proofs.WritesLemmas.{where_then, where_always}
+use Rattle.vlbi_core.specs.Restart.{IsStatusOf, IsGenOf}
 use Rattle.vlbi_core.specs.Steps.{IsCheckOrder, IsPlainOrder, IsRunOrder, Does}
 use Rattle.vlbi_core.proofs.CommandLemmas.{reads-beside, run-not-alone, does-check, does-plain, does-dump, does-gen}
 use Rattle.vlbi_core.proofs.SampleLemmas.{reads-same}
@@ -57,3 +58,33 @@ returns-in-Run-clause-alone g c = λ alone. absurd (run-not-alone c.args.order.n
 
 pub returns-in-Gen-clause-alone : goal.returns-in-Gen-clause-alone
 returns-in-Gen-clause-alone g c = λ alone. reads-same _ c.total_sample.result c.total_sample.ensures.unread
+
+pub returns-in-Run-clause-unnumbered : goal.returns-in-Run-clause-unnumbered
+returns-in-Run-clause-unnumbered g c = λ is. absurd (subst (λ (o : Order). IsStatusOf (Ok o)) c.in-Run.is is)
+
+pub returns-in-Plain-clause-unnumbered : goal.returns-in-Plain-clause-unnumbered
+returns-in-Plain-clause-unnumbered g c = λ is. absurd (subst (λ (o : Order). IsStatusOf (Ok o)) c.in-Plain.is is)
+
+pub returns-in-Check-clause-unnumbered : goal.returns-in-Check-clause-unnumbered
+returns-in-Check-clause-unnumbered g c = λ is. absurd (subst (λ (o : Order). IsStatusOf (Ok o)) c.in-Check.is is)
+
+pub returns-in-Dump-clause-unnumbered : goal.returns-in-Dump-clause-unnumbered
+returns-in-Dump-clause-unnumbered g c = λ is. absurd (subst (λ (o : Order). IsStatusOf (Ok o)) c.in-Dump.is is)
+
+pub returns-in-Gen-clause-unnumbered : goal.returns-in-Gen-clause-unnumbered
+returns-in-Gen-clause-unnumbered g c = λ is. absurd (subst (λ (o : Order). IsStatusOf (Ok o)) c.in-Gen.is is)
+
+pub returns-in-Run-clause-generated : goal.returns-in-Run-clause-generated
+returns-in-Run-clause-generated g c = λ is. absurd (subst (λ (o : Order). IsGenOf (Ok o)) c.in-Run.is is)
+
+pub returns-in-Plain-clause-generated : goal.returns-in-Plain-clause-generated
+returns-in-Plain-clause-generated g c = λ is. absurd (subst (λ (o : Order). IsGenOf (Ok o)) c.in-Plain.is is)
+
+pub returns-in-Check-clause-generated : goal.returns-in-Check-clause-generated
+returns-in-Check-clause-generated g c = λ is. absurd (subst (λ (o : Order). IsGenOf (Ok o)) c.in-Check.is is)
+
+pub returns-in-Status-clause-generated : goal.returns-in-Status-clause-generated
+returns-in-Status-clause-generated g c = λ is. absurd (subst (λ (o : Order). IsGenOf (Ok o)) c.in-Status.is is)
+
+pub returns-in-Dump-clause-generated : goal.returns-in-Dump-clause-generated
+returns-in-Dump-clause-generated g c = λ is. absurd (subst (λ (o : Order). IsGenOf (Ok o)) c.in-Dump.is is)

@@ -5,7 +5,7 @@ use Rattle.vis_writer.proofs.WritesLemmas.{where_then, where_always}
 use Rattle.vlbi_core.specs.Calls.{texts_of, order_in}
 use Rattle.vlbi_core.specs.Restart.{IsNoRun}
 use Rattle.vlbi_core.specs.Steps.{OutcomeFrom, IsShort}
-use Rattle.vlbi_core.proofs.TopLemmas.{outcome-one, verdict-done, verdict-refused, appended-done, appended-refused, read-risen, read-kept, read-no_fall, stays-honest, all-done, headline-done, headline-refused, refusal-not-zero, line-refused, noted-nothing, noted-appends, due-nothing, early-nothing, verdict-fact, other-fact, verdict-not}
+use Rattle.vlbi_core.proofs.TopLemmas.{outcome-one, verdict-done, verdict-refused, appended-done, appended-refused, read-risen, read-kept, read-no_fall, stays-honest, all-done, headline-done, headline-refused, refusal-not-zero, line-refused, words-line, unnumbered-line, sample-status, noted-nothing, noted-appends, due-nothing, early-nothing, verdict-fact, other-fact, verdict-not}
 use Rattle.vlbi_core.proofs.NoteLemmas.{nothing-other, other-says, refused-says}
 use Rattle.vlbi_core.proofs.top.run.Goals as goal
 
@@ -102,30 +102,44 @@ returns-in-Err-clause-no_read g c =
 pub returns-in-Err-clause-no_fall : goal.returns-in-Err-clause-no_fall
 returns-in-Err-clause-no_fall g c = rw c.status.ensures (λ not. read-no_fall c.in-Err.refusal _ _ c.in-Err.ensures.reads not)
 
+pub returns-in-Ok-clause-goes : goal.returns-in-Ok-clause-goes
+returns-in-Ok-clause-goes g c = where_then (g.F.Shelf.told c.args.shelf.now) _ _ (λ files does. does.goes) c.in-Ok.ensures.does
+
+pub returns-in-Err-clause-goes : goal.returns-in-Err-clause-goes
+returns-in-Err-clause-goes g c = where_then (g.F.Shelf.told c.args.shelf.now) _ _ (λ files does. does.goes) c.in-Err.ensures.does
+
+pub returns-in-Err-clause-generated : goal.returns-in-Err-clause-generated
+returns-in-Err-clause-generated g c = rw c.status.ensures (λ is. sample-status c.in-Err.refusal (c.in-Err.ensures.generated is))
+
 pub returns-in-Ok-clause-note : goal.returns-in-Ok-clause-note
-returns-in-Ok-clause-note g c = (
-  [],
-  inl (refl, refl),
-  where_always (g.F.Shelf.told c.args.shelf.now) _ (λ files. inl (inl (refl, refl))),
-  where_always (g.F.Shelf.told c.args.shelf.now) _
+returns-in-Ok-clause-note g c = record {
+  line = [];
+  some = inl (refl, refl);
+  words = λ is. absurd cc;
+  unnumbered = λ _ is. absurd cc;
+  verdict = where_always (g.F.Shelf.told c.args.shelf.now) _ (λ files. inl (inl (refl, refl)));
+  says = where_always (g.F.Shelf.told c.args.shelf.now) _
       (λ files call there. other-says files (g.D.Disk.may_leave c.call.new.journal (g.D.Disk.moment c.call.new.journal)) (g.D.Disk.seen c.args.journal.now) (g.D.Disk.seen c.call.new.journal)
-      (g.S.Sink.told c.args.out.now) (g.S.Sink.told c.call.new.out) call [] nothing-other),
-  noted-nothing (g.N.Sink.told c.args.notes.now) _,
-)
+      (g.S.Sink.told c.args.out.now) (g.S.Sink.told c.call.new.out) call [] nothing-other);
+  noted = noted-nothing (g.N.Sink.told c.args.notes.now) _;
+}
 
 pub returns-in-Err-clause-note : goal.returns-in-Err-clause-note
 returns-in-Err-clause-note g c =
     let wanted = order_in (texts_of c.args.words.now) in
-    let short : IsShort c.in-Err.refusal = c.is_short.ensures in (
-      (answer_of c.in-Err.refusal).note,
-      inr (c.in-Err.refusal, (sym c.status.ensures, refl)),
-      rw c.status.ensures (where_then (g.F.Shelf.told c.args.shelf.now) _ _
+    let short : IsShort c.in-Err.refusal = c.is_short.ensures in
+    rw c.status.ensures (record {
+      line = (answer_of c.in-Err.refusal).note;
+      some = inr (c.in-Err.refusal, (refl, refl));
+      words = words-line wanted c.in-Err.refusal c.in-Err.ensures.words;
+      unnumbered = λ of. unnumbered-line c.in-Err.refusal (c.in-Err.ensures.unnumbered of);
+      verdict = where_then (g.F.Shelf.told c.args.shelf.now) _ _
           (λ files does. line-refused (OutcomeFrom wanted files) files (g.D.Disk.may_leave c.call.new.journal (g.D.Disk.moment c.call.new.journal)) (g.D.Disk.seen c.args.journal.now)
           (g.D.Disk.seen c.call.new.journal) (g.S.Sink.told c.args.out.now) (g.S.Sink.told c.call.new.out) c.in-Err.refusal does.cause)
-          c.in-Err.ensures.does),
-      where_then (g.F.Shelf.told c.args.shelf.now) _ _
+          c.in-Err.ensures.does;
+      says = where_then (g.F.Shelf.told c.args.shelf.now) _ _
           (λ files does. refused-says files (g.D.Disk.may_leave c.call.new.journal (g.D.Disk.moment c.call.new.journal)) (g.D.Disk.seen c.args.journal.now) (g.D.Disk.seen c.call.new.journal)
           (g.S.Sink.told c.args.out.now) (g.S.Sink.told c.call.new.out) (OutcomeFrom wanted files) (outcome-one c.one_outcome.ensures c.one_shown.ensures wanted files) c.in-Err.refusal short does.cause)
-          c.in-Err.ensures.does,
-      noted-appends (answer_of c.in-Err.refusal).note _ _ _ _ c.write_note.result c.write_note.ensures,
-    )
+          c.in-Err.ensures.does;
+      noted = noted-appends (answer_of c.in-Err.refusal).note _ _ _ _ c.write_note.result c.write_note.ensures;
+    })

@@ -1,0 +1,269 @@
+-- Calls of `run` one after another.
+use Rattle.std.specs.Prelude.{is_some, slice_get}
+use Rattle.std.proofs.Common.{◌≡◌, ◌∙◌, ◌⊎◌, ⊎_elim, inl, inr, ℕ, zero, suc, ◌<◌, ◌≤◌, true, List, [], ◌∷◌, Option, Some, None, Result, Ok, Err, refl, sym, ap, subst, arith, length}
+use Rattle.dev_traits.specs.Moments.{AtLeast}
+use Rattle.dev_traits.specs.Told.{more, WhereTold}
+use Rattle.corr_model.specs.Files.{Files}
+use Rattle.piece_plan.specs.Epochs.{epochs_of}
+use Rattle.job_plan.specs.declared.plan.Plan.{Plan}
+use Rattle.job_plan.specs.Output.{output}
+use Rattle.job_epochs.specs.Sizes.{sizes_of}
+use Rattle.checkpoint_journal.specs.Image.{is_blank}
+use Rattle.checkpoint_journal.proofs.FindLemmas.{reading-blank}
+use Rattle.run_words.specs.declared.order.Order.{Order}
+use Rattle.run_words.specs.declared.order.Order.TheVariants.{Run, Plain, Check, Status, Dump, Gen}
+use Rattle.run_notes.specs.Answers.{Answer}
+use Rattle.run_ready.specs.Outcome.{PlanOf, job_names}
+use Rattle.run_ready.specs.Recordings.{recordings_answer}
+use Rattle.vlbi_core.specs.Calls.{Call, OfJob, TaskFor, OutcomeOf, identity_for, sizes_for, kept_for, is_run}
+use Rattle.vlbi_core.specs.Texts.{epochs_for}
+use Rattle.vlbi_core.specs.Restart.{IsHonest, StaysHonest}
+use Rattle.vlbi_core.specs.Histories.{IsRunBy, IsSameJob, End, Answered, Crashed, Step, stop, Left, IsEnd, IsStep, IsHistory, IsLater, Holds, AreAlike}
+use Rattle.vlbi_core.proofs.TopLemmas.{OneOutcome}
+use Rattle.vlbi_core.proofs.CommandLemmas.{call_of, not_both}
+
+-- ---- calls for one job
+
+-- an order of `run`, part by part
+record RunParts (order : Order) : Type 0 where
+  pub job : List ℕ
+  pub vex : Option (List ℕ)
+  pub workers : ℕ
+  pub piece : ℕ
+  pub is : order ≡ Run job vex workers piece
+
+parts : (order : Order) → is_run order ≡ true → RunParts order
+parts (Run job vex workers piece) run = record { job = job; vex = vex; workers = workers; piece = piece; is = refl }
+parts (Plain job vex) run = absurd cc
+parts (Check job vex) run = absurd cc
+parts (Status job vex) run = absurd cc
+parts (Dump file) run = absurd cc
+parts (Gen seed seconds workers piece) run = absurd cc
+
+not-run : (a b : Order) → a ≡ b → is_run a ≡ true → is_run b ≡ true
+not-run a b same run = subst (λ (o : Order). is_run o ≡ true) same run
+
+-- the plan of a call of `run`
+plan-at : (files : Files) (order : Order) (call : Call) → TaskFor files order (Ok (OfJob call)) → is_run call.order ≡ true → PlanOf files call.order (Ok call.plan)
+plan-at files (Run job vex workers piece) call there run = subst (λ (o : Order). PlanOf files o (Ok call.plan)) (sym there.0) there.1
+plan-at files (Plain job vex) call there run = absurd (not_both (is_run (Plain job vex)) (not-run call.order (Plain job vex) there.0 run) refl)
+plan-at files (Check job vex) call there run = absurd (not_both (is_run (Check job vex)) (not-run call.order (Check job vex) there.0 run) refl)
+plan-at files (Status job vex) call there run = absurd (not_both (is_run (Status job vex)) (not-run call.order (Status job vex) there.0 run) refl)
+plan-at files (Dump file) call there run = absurd there
+plan-at files (Gen seed seconds workers piece) call there run =
+    absurd (not_both (is_run (Gen seed seconds workers piece)) (not-run call.order (Gen seed seconds workers piece) there.0 run) refl)
+
+plan-by : (files : Files) (words : List (List ℕ)) (call : Call) → IsRunBy files words call → PlanOf files call.order (Ok call.plan)
+plan-by files words call by = plan-at files by.outcome.0 call by.outcome.2 by.run
+
+alike-parts : (files : Files) (job : List ℕ) (vex : Option (List ℕ)) (workers piece others other : ℕ) (plan : Plan)
+    → AreAlike files (call_of (Run job vex workers piece) plan) (call_of (Run job vex others other) plan)
+alike-parts files job vex workers piece others other plan = record {
+  honest = λ image h. record { bodies = h.bodies; reads = h.reads; sums = h.sums };
+  kept = λ image. refl;
+  plan = refl;
+}
+
+pub alike : OneOutcome → (files : Files) (first second : List (List ℕ)) (a b : Call) → IsRunBy files first a → IsRunBy files second b → IsSameJob a b → AreAlike files a b
+alike law files first second a b one two same =
+    let p = parts a.order one.run in
+    let q = parts b.order two.run in
+    let names : Some (p.job, p.vex) ≡ Some (q.job, q.vex) = sym (ap job_names p.is) ∙ same ∙ ap job_names q.is in
+    let jobs : p.job ≡ q.job = cc in
+    let schedules : p.vex ≡ q.vex = cc in
+    let orders : b.order ≡ Run p.job p.vex q.workers q.piece =
+    q.is ∙ ap (λ (job : List ℕ). Run job q.vex q.workers q.piece) (sym jobs) ∙ ap (λ (vex : Option (List ℕ)). Run p.job vex q.workers q.piece) (sym schedules) in
+    let here : PlanOf files (Run p.job p.vex p.workers p.piece) (Ok a.plan) =
+    subst (λ (o : Order). PlanOf files o (Ok a.plan)) p.is (plan-by files first a one) in
+    let there : PlanOf files (Run p.job p.vex q.workers q.piece) (Ok b.plan) =
+    subst (λ (o : Order). PlanOf files o (Ok b.plan)) orders (plan-by files second b two) in
+    let x : Result Plan Answer = Ok b.plan in
+    let y : Result Plan Answer = Ok a.plan in
+    let both : x ≡ y = law files (recordings_answer files) (Run p.job p.vex p.workers p.piece) x y there here in
+    let plans : b.plan ≡ a.plan = cc in
+    let left : a ≡ call_of (Run p.job p.vex p.workers p.piece) a.plan = λ i. record { order = p.is i; plan = a.plan } in
+    let right : b ≡ call_of (Run p.job p.vex q.workers q.piece) a.plan = λ i. record { order = orders i; plan = plans i } in
+    subst (λ (c : Call). AreAlike files c b) (sym left)
+    (subst (λ (c : Call). AreAlike files (call_of (Run p.job p.vex p.workers p.piece) a.plan) c) (sym right)
+    (alike-parts files p.job p.vex p.workers p.piece q.workers q.piece a.plan))
+
+-- ---- what a call leaves, said of another call for the job
+
+blank-honest : (files : Files) (call : Call) (image : List ℕ) → is_blank image ≡ true → IsHonest files call image
+blank-honest files call image blank = record { bodies = []; reads = reading-blank (identity_for files call) (sizes_for call) image blank; sums = tt }
+
+begun-honest : (files : Files) (call : Call) (image : List ℕ) → (is_blank image ≡ true) ⊎ IsHonest files call image → IsHonest files call image
+begun-honest files call image (inl blank) = blank-honest files call image blank
+begun-honest files call image (inr honest) = honest
+
+told_there : (told : Option (List ℕ)) (P : Type 0) → is_some told ≡ true → WhereTold told (λ image. P) → P
+told_there None P some fact = absurd cc
+told_there (Some image) P some fact = fact
+
+no_step : {A : Type 0} (i : ℕ) (a : A) → slice_get [] i ≡ Some a → ⊥
+no_step i a is = cc
+
+first_step : {A : Type 0} (a b : A) (rest : List A) → slice_get (a ∷ rest) 0 ≡ Some b → a ≡ b
+first_step a b rest is = cc
+
+next_step : {A : Type 0} (a b : A) (rest : List A) (i : ℕ) → slice_get (a ∷ rest) (suc i) ≡ Some b → slice_get rest i ≡ Some b
+next_step a b rest i is = is
+
+module _ {D : Type 0} (seen : D → Option (List ℕ)) (moment : D → ℕ) (may_leave : D → ℕ → List ℕ → Type 0) where
+  as-job : (files : Files) (call job : Call) (status : ℕ) (old new : D) → AreAlike files call job
+      → StaysHonest files call status moment may_leave old new → StaysHonest files job status moment may_leave old new
+  as-job files call job status old new same stays = record {
+    later = stays.later;
+    past = stays.past;
+    honest = λ t image low high now. same.honest image (stays.honest t image low high now);
+    never_falls = λ t t' n low up high all image now. subst (λ (k : ℕ). n ≤ k) (same.kept image)
+        (stays.never_falls t t' n low up high (λ v there. subst (λ (k : ℕ). n ≤ k) (sym (same.kept v)) (all v there)) image now);
+    all = λ done image now. sym (same.kept image) ∙ stays.all done image now ∙ ap (λ (plan : Plan). length (epochs_of (sizes_of plan))) same.plan;
+  }
+
+  -- ---- how a call ended
+
+  stop-low : (end : End) (old new : D) → moment old ≤ moment new → IsEnd seen moment may_leave end old new → moment old ≤ stop seen moment may_leave end new
+  stop-low Answered old new later is = later
+  stop-low (Crashed t left) old new later is = is.0
+
+  stop-high : (end : End) (old new : D) → IsEnd seen moment may_leave end old new → stop seen moment may_leave end new ≤ moment new
+  stop-high Answered old new is = omega arith
+  stop-high (Crashed t left) old new is = is.1
+
+  left-there : (end : End) (old new : D) → IsEnd seen moment may_leave end old new
+      → (image : List ℕ) → Left seen moment may_leave end new image → may_leave new (stop seen moment may_leave end new) image
+  left-there Answered old new is image now = now
+  left-there (Crashed t left) old new is image same = subst (λ (v : List ℕ). may_leave new t v) (sym same) is.2
+
+  -- ---- histories
+
+  module _ (law : OneOutcome) (files : Files) (words : List (List ℕ)) (job : Call) (base : IsRunBy files words job) where
+    back : (images : List ℕ → Type 0) (step : Step D) → IsStep seen moment may_leave files job images step → AreAlike files step.call job
+    back images step is = alike law files step.words words step.call job is.runs base (sym is.same)
+
+    stays : (images : List ℕ → Type 0) → ((image : List ℕ) → images image → (is_blank image ≡ true) ⊎ IsHonest files job image)
+        → (step : Step D) → IsStep seen moment may_leave files job images step → StaysHonest files job step.status moment may_leave step.old step.new
+    stays images each step is =
+        let there = alike law files words step.words job step.call base is.runs is.same in
+        as-job files step.call job step.status step.old step.new (back images step is)
+        (is.restart step.call is.runs.outcome (record {
+          run = is.runs.run;
+          honest = λ image now. there.honest image (begun-honest files job image (each image (is.begins image now)));
+        }))
+
+    appends : (images : List ℕ → Type 0) → ((image : List ℕ) → images image → (is_blank image ≡ true) ⊎ IsHonest files job image)
+        → (step : Step D) → IsStep seen moment may_leave files job images step → step.status ≡ 0 → step.told_new ≡ more step.told_old (output job.plan files)
+    appends images each step is done =
+        let there = alike law files words step.words job step.call base is.runs is.same in
+        let here = told_there (seen step.old) _ is.tells is.headline in
+        here step.call is.runs.outcome (record {
+          run = is.runs.run;
+          honest = λ image now. there.honest image (begun-honest files job image (each image (is.begins image now)));
+        }) done ∙ ap (λ (plan : Plan). more step.told_old (output plan files)) (back images step is).plan
+
+    left-honest : (step : Step D) → StaysHonest files job step.status moment may_leave step.old step.new → IsEnd seen moment may_leave step.end step.old step.new
+        → (image : List ℕ) → Left seen moment may_leave step.end step.new image → (is_blank image ≡ true) ⊎ IsHonest files job image
+    left-honest step keeps ends image now = inr (keeps.honest (stop seen moment may_leave step.end step.new) image
+        (stop-low step.end step.old step.new keeps.later ends) (stop-high step.end step.old step.new ends) (left-there step.end step.old step.new ends image now))
+
+    -- what each image on entry counts, each image of every moment of the call counts
+    entry-kept : (images : List ℕ → Type 0) (step : Step D) → IsStep seen moment may_leave files job images step
+        → StaysHonest files job step.status moment may_leave step.old step.new → (n : ℕ) → AtLeast (kept_for files job) images n
+        → (t : ℕ) → moment step.old ≤ t → t ≤ moment step.new → AtLeast (kept_for files job) (may_leave step.new t) n
+    entry-kept images step is keeps n all t low high =
+        keeps.never_falls (moment step.old) t n (omega arith) low high
+        (λ image now. all image (is.begins image (keeps.past (moment step.old) image (omega arith) now)))
+
+    -- and from a moment of the call on, what it leaves
+    left-kept : (step : Step D) → StaysHonest files job step.status moment may_leave step.old step.new → IsEnd seen moment may_leave step.end step.old step.new
+        → (t n : ℕ) → moment step.old ≤ t → t ≤ stop seen moment may_leave step.end step.new → AtLeast (kept_for files job) (may_leave step.new t) n
+        → AtLeast (kept_for files job) (Left seen moment may_leave step.end step.new) n
+    left-kept step keeps ends t n low up all image now =
+        keeps.never_falls t (stop seen moment may_leave step.end step.new) n low up (stop-high step.end step.old step.new ends) all image
+        (left-there step.end step.old step.new ends image now)
+
+    later-kept : (images : List ℕ → Type 0) → ((image : List ℕ) → images image → (is_blank image ≡ true) ⊎ IsHonest files job image)
+        → (steps : List (Step D)) → IsHistory seen moment may_leave files job images steps → (n : ℕ) → AtLeast (kept_for files job) images n
+        → (j : ℕ) (b : Step D) → slice_get steps j ≡ Some b
+        → (t : ℕ) → moment b.old ≤ t → t ≤ moment b.new → AtLeast (kept_for files job) (may_leave b.new t) n
+    later-kept images each [] is n all j b at t low high = absurd (no_step j b at)
+    later-kept images each (step ∷ later) is n all zero b at t low high =
+        subst (λ (s : Step D). (t : ℕ) → moment s.old ≤ t → t ≤ moment s.new → AtLeast (kept_for files job) (may_leave s.new t) n) (first_step step b later at)
+        (entry-kept images step is.0 (stays images each step is.0) n all) t low high
+    later-kept images each (step ∷ later) is n all (suc j) b at t low high =
+        let keeps = stays images each step is.0 in
+        let ends = is.0.ends in
+        let begun = entry-kept images step is.0 keeps n all (moment step.old) (omega arith) keeps.later in
+        later-kept (Left seen moment may_leave step.end step.new) (left-honest step keeps ends) later is.1 n
+        (left-kept step keeps ends (moment step.old) n (omega arith) (stop-low step.end step.old step.new keeps.later ends) begun) j b (next_step step b later j at) t low high
+
+    pub holds : (images : List ℕ → Type 0) → ((image : List ℕ) → images image → (is_blank image ≡ true) ⊎ IsHonest files job image)
+        → (steps : List (Step D)) → IsHistory seen moment may_leave files job images steps → Holds seen moment may_leave files job steps
+    holds images each [] is = record {
+      honest = λ i step at. absurd (no_step i step at);
+      kept = λ i j a b at. absurd (no_step i a at);
+      output = λ i step at. absurd (no_step i step at);
+      all = λ i step at. absurd (no_step i step at);
+    }
+    holds images each (step ∷ later) is = record {
+      honest = honest;
+      kept = kept;
+      output = appended;
+      all = whole;
+    }
+      where
+        keeps : StaysHonest files job step.status moment may_leave step.old step.new
+        keeps = stays images each step is.0
+
+        rest : Holds seen moment may_leave files job later
+        rest = holds (Left seen moment may_leave step.end step.new) (left-honest step keeps is.0.ends) later is.1
+
+        honest : (i : ℕ) (s : Step D) → slice_get (step ∷ later) i ≡ Some s
+            → (t : ℕ) (image : List ℕ) → moment s.old ≤ t → t ≤ moment s.new → may_leave s.new t image → IsHonest files job image
+        honest zero s at = subst (λ (s : Step D). (t : ℕ) (image : List ℕ) → moment s.old ≤ t → t ≤ moment s.new → may_leave s.new t image → IsHonest files job image)
+            (first_step step s later at) keeps.honest
+        honest (suc i) s at = rest.honest i s (next_step step s later i at)
+
+        appended : (i : ℕ) (s : Step D) → slice_get (step ∷ later) i ≡ Some s → s.status ≡ 0 → s.told_new ≡ more s.told_old (output job.plan files)
+        appended zero s at = subst (λ (s : Step D). s.status ≡ 0 → s.told_new ≡ more s.told_old (output job.plan files)) (first_step step s later at)
+            (appends images each step is.0)
+        appended (suc i) s at = rest.output i s (next_step step s later i at)
+
+        whole : (i : ℕ) (s : Step D) → slice_get (step ∷ later) i ≡ Some s → s.status ≡ 0
+            → (image : List ℕ) → may_leave s.new (moment s.new) image → kept_for files job image ≡ epochs_for job
+        whole zero s at = subst (λ (s : Step D). s.status ≡ 0 → (image : List ℕ) → may_leave s.new (moment s.new) image → kept_for files job image ≡ epochs_for job)
+            (first_step step s later at) keeps.all
+        whole (suc i) s at = rest.all i s (next_step step s later i at)
+
+        Kept : Step D → Step D → ℕ → ℕ → ℕ → ℕ → Type 0
+        Kept a b i j t t' =
+            (n : ℕ) → moment a.old ≤ t → t ≤ moment a.new → moment b.old ≤ t' → t' ≤ moment b.new → IsLater seen moment may_leave i a t j t'
+            → AtLeast (kept_for files job) (may_leave a.new t) n → AtLeast (kept_for files job) (may_leave b.new t') n
+
+        within : (t t' : ℕ) → Kept step step 0 0 t t'
+        within t t' n low high low' high' (inl no) all = absurd (omega (arith, no.0))
+        within t t' n low high low' high' (inr up) all = keeps.never_falls t t' n low up.1 high' all
+
+        across : (j : ℕ) (b : Step D) → slice_get later j ≡ Some b → (t t' : ℕ) → Kept step b 0 (suc j) t t'
+        across j b at t t' n low high low' high' (inl up) all =
+            later-kept (Left seen moment may_leave step.end step.new) (left-honest step keeps is.0.ends) later is.1 n
+            (left-kept step keeps is.0.ends t n low up.1 all) j b at t' low' high'
+        across j b at t t' n low high low' high' (inr no) all = absurd (omega (arith, no.0))
+
+        kept : (i j : ℕ) (a b : Step D) → slice_get (step ∷ later) i ≡ Some a → slice_get (step ∷ later) j ≡ Some b → (t t' : ℕ) → Kept a b i j t t'
+        kept zero zero a b at at' t t' = subst (λ (s : Step D). Kept s b 0 0 t t') (first_step step a later at)
+            (subst (λ (s : Step D). Kept step s 0 0 t t') (first_step step b later at') (within t t'))
+        kept zero (suc j) a b at at' t t' = subst (λ (s : Step D). Kept s b 0 (suc j) t t') (first_step step a later at)
+            (across j b (next_step step b later j at') t t')
+        kept (suc i) zero a b at at' t t' = λ n low high low' high' is. absurd (nothing_later is)
+          where
+            nothing_later : IsLater seen moment may_leave (suc i) a t 0 t' → ⊥
+            nothing_later (inl no) = omega (arith, no.0)
+            nothing_later (inr no) = omega (arith, no.0)
+        kept (suc i) (suc j) a b at at' t t' = λ n low high low' high' is.
+            rest.kept i j a b (next_step step a later i at) (next_step step b later j at') t t' n low high low' high' (shifted is)
+          where
+            shifted : IsLater seen moment may_leave (suc i) a t (suc j) t' → IsLater seen moment may_leave i a t j t'
+            shifted (inl up) = inl (omega (arith, up.0), up.1)
+            shifted (inr up) = inr (omega (arith, up.0), up.1)

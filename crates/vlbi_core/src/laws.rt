@@ -1,0 +1,23 @@
+//! What follows from the contract of `run` for calls one after another. The functions do nothing: a call brings its law.
+ghost use Rattle.vlbi_core.specs.Histories.{HoldsOver, AlikeByJob};
+
+use dev_traits::Disk;
+use run_ready::laws::one_outcome;
+
+/// Calls of `run` for one job, on a disk that tells its content, as often as one likes, each of which ends in its answer or in a crash at
+/// any of its moments: where the first begins on a journal each image of which is blank or honest, each image of each moment of each call
+/// is honest; what every image of a moment keeps, every image of every later moment keeps; and a call with status 0 has appended exactly
+/// the record file of the direct sums.
+pub fn one_after_another<D: Disk>()
+    ensures { HoldsOver D.seen D.moment D.may_leave }
+{
+    one_outcome();
+}
+
+/// What is honest for a call of `run`, what is kept and what the records are does not depend on the workers, the piece or the order of the
+/// options.
+pub fn alike_by_job()
+    ensures { AlikeByJob }
+{
+    one_outcome();
+}

@@ -16,3 +16,4 @@ pub mod ToldLemmas
 pub mod RowBodies
 pub mod ReadCells
 pub mod BodyLemmas
+pub mod AnswerLemmas

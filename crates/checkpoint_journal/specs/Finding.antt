@@ -30,6 +30,12 @@ HasPlace head sizes Blank = Unit {0}
 HasPlace head sizes (Ours kept gate) = IsRow head sizes kept gate
 HasPlace head sizes (Other d) = Unit {0}
 
+-- the gate behind the row stands below 2^63
+abbrev pub HasShortGate : Finding → Type 0
+HasShortGate Blank = Unit {0}
+HasShortGate (Ours kept gate) = gate < 2 ^ 63
+HasShortGate (Other d) = Unit {0}
+
 -- the first n bytes of the identity stand behind the head gate
 pub record SameTo (id image : List ℕ) (n : ℕ) : Type 0 where
   pub within : n ≤ length id

@@ -1,6 +1,6 @@
 -- What the bytes of a journal's file say: a head gate and the identity of a job, then a gate before each body and one
 -- behind the last. A gate is a byte, and open where it is 1.
-use Rattle.std.specs.Prelude.{◌≡◌, ℕ, ◌+◌, ◌*◌, ◌==◌, nat_le, ◌||◌, not, Bool, false, if◌then◌else◌, List, [], ◌∷◌, length, take, drop, map, slice_index, slice_get, Option, Some, None, IsSome, option_map, option_and_then, unwrap_or}
+use Rattle.std.specs.Prelude.{ℕ, ◌+◌, ◌*◌, ◌==◌, nat_le, ◌||◌, not, Bool, if◌then◌else◌, List, [], ◌∷◌, length, take, drop, map, slice_index, slice_get, Option, Some, None, option_map, option_and_then, unwrap_or}
 use Rattle.std.specs.List.{sum_by}
 use Rattle.piece_plan.specs.declared.epoch.EpochPlan.{EpochPlan}
 use Rattle.piece_plan.specs.Epochs.{JobSizes, epochs_of, cell_count}
@@ -34,11 +34,6 @@ reading id sizes image =
 -- the number of epochs that an image keeps, none where it has no reading
 abbrev pub kept_in : List ℕ → List ℕ → List ℕ → ℕ
 kept_in id sizes image = length (unwrap_or (reading id sizes image) [])
-
--- an image of this job's form: it is not blank, and it has a reading
-pub record IsOfForm (id sizes image : List ℕ) : Type 0 where
-  pub begun : is_blank image ≡ false
-  pub reads : IsSome (reading id sizes image)
 
 -- the bodies of a job's epochs have three numbers of eight bytes for each cell
 abbrev pub body_sizes : JobSizes → List ℕ

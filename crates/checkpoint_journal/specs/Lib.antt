@@ -6,3 +6,4 @@ pub mod Runs
 pub mod Standing
 pub mod Finding
 pub mod Faults
+pub mod Answers

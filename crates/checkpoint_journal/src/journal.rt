@@ -7,12 +7,13 @@ ghost use Rattle.checkpoint_journal.specs.Runs.{Looks, Changes, Spares, StepTold
 ghost use Rattle.checkpoint_journal.specs.Image.{reading, body_sizes, cells_of_epoch};
 ghost use Rattle.checkpoint_journal.specs.Cells.{body_text};
 ghost use Rattle.dev_traits.specs.Moments.{IsDurable};
-ghost use Rattle.checkpoint_journal.specs.Finding.{ReadsMany, HasPlace, Opens};
+ghost use Rattle.checkpoint_journal.specs.Finding.{ReadsMany, HasPlace, HasShortGate, Opens};
+ghost use Rattle.checkpoint_journal.specs.Answers.{journal_of};
 ghost use Rattle.checkpoint_journal.specs.Faults.{CountsFault, IsRefused, IsUnread};
 ghost use Rattle.checkpoint_journal.specs.Standing.{JournalState, journal_state, Stands, StandsOn};
 
 use crate::body::{gate_of, read_body};
-use crate::finding::Finding;
+use crate::finding::{Finding, kept_of};
 use crate::reader::find;
 use crate::writer::{begin, keep};
 use crate::{AppendFault, Identity, OpenFault, ReadFault};
@@ -69,12 +70,8 @@ impl Journal {
         ensures fault { IfErr result (CountsFault (D.faults disk.old) (D.faults disk.new)) }
     {
         let mut buffer = make_buffer(alloc)?;
-        match open(disk, id, plan, &mut buffer) {
-            Ok(Finding::Blank) => Ok(opened(id, 0, 1 + id.bytes().len() as u64, buffer)),
-            Ok(Finding::Ours(kept, gate)) => Ok(opened(id, kept, gate, buffer)),
-            Ok(Finding::Other(d)) => Err(OpenFault::Other(d)),
-            Err(Failed) => Err(OpenFault::Disk),
-        }
+        let found = open(disk, id, plan, &mut buffer);
+        journal_of(id, found, buffer)
     }
 
     /// The number of kept epochs.
@@ -188,12 +185,8 @@ impl Journal {
         ensures fault { IfErr result (CountsFault (D.faults disk.old) (D.faults disk.new)) }
     {
         let mut buffer = make_buffer(alloc)?;
-        match find(disk, id, plan, &mut buffer) {
-            Ok(Finding::Blank) => Ok(0),
-            Ok(Finding::Ours(kept, _)) => Ok(kept),
-            Ok(Finding::Other(d)) => Err(OpenFault::Other(d)),
-            Err(Failed) => Err(OpenFault::Disk),
-        }
+        let found = find(disk, id, plan, &mut buffer);
+        kept_of(found)
     }
 }
 
@@ -224,6 +217,25 @@ fn open<D: Disk>(
         }
         Finding::Ours(kept, gate) => Ok(Finding::Ours(kept, gate)),
         Finding::Other(d) => Ok(Finding::Other(d)),
+    }
+}
+
+// What an opening answers for what it found. It takes no memory, so none can be wanting.
+fn journal_of(
+    id: &Identity,
+    found: Result<Finding, Failed>,
+    buffer: Vec<u8>,
+) -> Result<Journal, OpenFault>
+    requires short { length id.now < 2 ^ 62 }
+    requires buffer { length buffer.items ≡ 960000 }
+    requires gate { IfOk found HasShortGate }
+    ensures { result ≡ journal_of id.now found }
+{
+    match found {
+        Ok(Finding::Blank) => Ok(opened(id, 0, 1 + id.bytes().len() as u64, buffer)),
+        Ok(Finding::Ours(kept, gate)) => Ok(opened(id, kept, gate, buffer)),
+        Ok(Finding::Other(d)) => Err(OpenFault::Other(d)),
+        Err(Failed) => Err(OpenFault::Disk),
     }
 }
 

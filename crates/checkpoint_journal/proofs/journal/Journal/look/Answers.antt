@@ -1,16 +1,18 @@
-use Rattle.std.proofs.Common.{◌≡◌, true, [], refl, subst}
-use Rattle.dev_traits.specs.Told.{WhereTold}
-use Rattle.dev_traits.proofs.ToldLemmas.{WhereTold-weaker}
-use Rattle.checkpoint_journal.specs.declared.finding.Finding.{Finding}
-use Rattle.checkpoint_journal.specs.Image.{is_blank, body_sizes}
-use Rattle.checkpoint_journal.specs.Finding.{Finds, ReadsMany}
-use Rattle.checkpoint_journal.proofs.FindLemmas.{reading-blank}
+use Rattle.checkpoint_journal.specs.Image.{body_sizes}
+use Rattle.checkpoint_journal.proofs.AnswerLemmas.{kept_of-reads, kept_of-within, kept_of-refused, kept_of-no_fault, kept_of-fault}
 use Rattle.checkpoint_journal.proofs.journal.Journal.look.Goals as goal
 
-pub returns-in-Ok-Blank-clause-kept : goal.returns-in-Ok-Blank-clause-kept
-returns-in-Ok-Blank-clause-kept g c =
-    let id = c.args.id.now in
-    let sizes = body_sizes c.args.plan.now in
-    let seen = g.D.Disk.seen c.args.disk.now in
-    let finds = subst (λ (f : Finding). WhereTold seen (λ image. Finds id sizes image f)) c.in-Ok-Blank.field-0-is c.in-Ok-Blank.ensures.finds in
-    WhereTold-weaker seen (λ image. is_blank image ≡ true) (ReadsMany id sizes 0) (λ image blank. ([], reading-blank id sizes image blank, refl)) finds
+pub returns-clause-kept : goal.returns-clause-kept
+returns-clause-kept g c = rw c.kept_of.ensures (kept_of-reads c.args.id.now (body_sizes c.args.plan.now) (g.D.Disk.seen c.args.disk.now) c.find-found.result c.find-found.ensures.finds)
+
+pub returns-clause-within : goal.returns-clause-within
+returns-clause-within g c = rw c.kept_of.ensures (kept_of-within _ _ c.find-found.result c.find-found.ensures.place)
+
+pub returns-clause-refused : goal.returns-clause-refused
+returns-clause-refused g c = rw c.kept_of.ensures (kept_of-refused c.args.id.now (body_sizes c.args.plan.now) (g.D.Disk.seen c.args.disk.now) c.find-found.result c.find-found.ensures.finds)
+
+pub returns-clause-no_fault : goal.returns-clause-no_fault
+returns-clause-no_fault g c = rw c.kept_of.ensures (kept_of-no_fault _ _ c.find-found.result c.find-found.ensures.counts)
+
+pub returns-clause-fault : goal.returns-clause-fault
+returns-clause-fault g c = rw c.kept_of.ensures (kept_of-fault _ _ c.find-found.result c.find-found.ensures.counts)

@@ -1,11 +1,15 @@
-# make demo    build the proved program and correlate the recordings of demo/ by its two jobs
+# make         build the proved program, bin/vlbi: it proves the program and all crates below it, side by side where they can be
+# make demo    correlate the recordings of demo/ by its two jobs, unproved: the same source with checks at run time, in some two minutes
+# make example the same by the proved program
 # make test    prove everything, try the edits that must fail, run the tests and the programs
 # make fringe  simulate two stations, correlate them, draw the fringe in fringe/ and compare it with theory
 # make install PREFIX=/usr/local DESTDIR=    install the program, its manual pages, the Python tools and modules, and the documents
 # make deb     make a Debian package of what is installed, bin/vlbi_VERSION_ARCH.deb
 #
-# With CPU=x86-64-v3 the program that is installed or packed is built for processors with AVX2, from the same proved source.
+# With CPU=x86-64-v3 the program that is installed or packed is built for processors with AVX2, from the same proved source. With JOBS=N
+# N crates are proved at a time, in place of as many as processors and memory allow.
 
+JOBS =
 PREFIX = /usr/local
 DESTDIR =
 CPU =
@@ -22,17 +26,28 @@ TO = $(DESTDIR)$(PREFIX)
 LIB = lib/$(if $(filter /usr/local,$(PREFIX)),$(shell $(PYTHON) -c 'import sys; print("python%d.%d" % sys.version_info[:2])'),python3)/dist-packages
 PACKAGE = bin/vlbi_$(VERSION)_$(ARCH).deb
 
-.PHONY: demo test fringe install deb
+.PHONY: program demo example test fringe install deb
 
-demo: bin/vlbi
+program: bin/vlbi
+
+demo:
+	@demo/unproved
+	$(SHOW)
+
+example: bin/vlbi
 	@cd demo && ../bin/vlbi journal plain --job job.txt > records.vis
+	@cd demo && ../bin/vlbi journal plain --job sky.txt --vex sky.vex > sky.vis
+	$(SHOW)
+
+# The bytes of the first record file, its cells, and the cells of one channel of the second.
+define SHOW
 	@echo "records.vis, $$(stat -c %s demo/records.vis) bytes:"
 	@od -A d -t x1 -v demo/records.vis
 	@echo "its cells, re im count:"
 	@od -A n -t d8 -v -w24 -j 104 -N 48 demo/records.vis | tr -s ' '
-	@cd demo && ../bin/vlbi journal plain --job sky.txt --vex sky.vex > sky.vis
 	@echo "sky.vis, $$(stat -c %s demo/sky.vis) bytes; the cells of channel CH01 by rising lag from -8, re im count:"
 	@od -A n -t d8 -v -w24 -j 129 -N 384 demo/sky.vis | tr -s ' '
+endef
 
 test:
 	bash .ci/run
@@ -70,9 +85,10 @@ bin/vlbi: $(PROGRAM)
 	@mkdir -p bin
 	@cp $(PROGRAM) bin/vlbi
 
-# `rt run` proves what has changed, builds the program and runs it once, here with no command.
+# `rt run` builds the program of the crates that are proved by then, and runs it once, here with no command.
 $(PROGRAM): $(SOURCES)
 	@rm -f $(PROGRAM)
+	@.ci/prove vlbi_main $(JOBS)
 	@cd crates/vlbi_main && rt run -- journal > build.log 2>&1; test -x out/vlbi_main || { cat build.log; exit 1; }
 	@rm -f crates/vlbi_main/build.log
 

@@ -41,7 +41,7 @@ few-slots seed seconds few =
     (recording-short seed seconds 2 few (omega arith)) (recording-short seed seconds 3 few (omega arith))
 
 not-many : (files : Files) (stations : List StationPlan) → slot_total files stations ≤ 67108864 → too_many_slots files stations ≡ None
-not-many files stations few = rw (le-ltb (slot_total files stations) 67108864 few) refl
+not-many files stations few = rw (le-ltb 67108864 (slot_total files stations) few) refl
 
 -- a slot of each agrees, where it has slots
 module _ (seed seconds : ℕ) (few : seconds ≤ 60) where

@@ -26,7 +26,8 @@ use Rattle.run_summary.specs.Summaries.{check_text}
 use Rattle.vis_records.specs.Content.{Content}
 use Rattle.vis_records.specs.Dumped.{dump_text}
 use Rattle.run_dump.specs.Shown.{RecordsOf, Shows, IsOfFilesOrOutput as ShowsStage}
-use Rattle.vlbi_core.specs.Sample.{SampleOf, sample_text}
+use Rattle.sample_job.specs.Sample.{SampleOf}
+use Rattle.vlbi_core.specs.Sample.{sample_text}
 use Rattle.vlbi_core.specs.Calls.{Call, Task, OfJob, OfRecords, PlanFor, JobFor, TaskFor, is_run, uses_journal}
 use Rattle.vlbi_core.specs.Texts.{IsText, IsPart}
 use Rattle.vlbi_core.specs.Faults.{written_with}

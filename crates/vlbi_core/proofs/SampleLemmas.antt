@@ -1,6 +1,6 @@
 -- What a call over devices in memory leaves.
 use Rattle.std.specs.Prelude.{IfErr, codes}
-use Rattle.std.proofs.Common.{◌≡◌, ◌∙◌, inl, inr, ℕ, ◌^◌, ◌<◌, true, List, [], length, Option, Some, None, Result, Ok, Err, refl, sym, ap, subst}
+use Rattle.std.proofs.Common.{◌≡◌, ◌∙◌, arith, inl, inr, ℕ, ◌^◌, ◌<◌, true, List, [], length, Option, Some, None, Result, Ok, Err, refl, sym, ap, subst}
 use Rattle.dev_traits.specs.Told.{more, PrefixMore}
 use Rattle.sink_text.specs.Appends.{Appends}
 use Rattle.corr_model.specs.Files.{Files}
@@ -19,17 +19,18 @@ use Rattle.run_notes.specs.declared.refusal.Due.TheVariants.{Words, Vex, Schedul
 use Rattle.run_notes.specs.declared.refusal.Refusal.{Refusal}
 use Rattle.run_notes.specs.declared.refusal.Refusal.TheVariants.{Memory, Due as DueRefusal, Read, Journal, Write}
 use Rattle.run_notes.specs.Answers.{Answer, words_answer}
-use Rattle.run_notes.specs.Refusals.{Outcomes, IsCause, MatchRead}
-use Rattle.run_notes.specs.Counted.{CountsReads}
+use Rattle.run_notes.specs.Refusals.{Outcomes}
+use Rattle.run_notes.specs.Counted.{CountsReads, CountsReadsBeside}
 use Rattle.run_ready.specs.Steps.{answered}
 use Rattle.run_ready.specs.Recordings.{recordings_answer}
 use Rattle.run_ready.specs.Outcome.{PlanOf}
 use Rattle.mem_devices.specs.MemShelfState.{bytes_under}
 use Rattle.vlbi_core.specs.Calls.{Call, Task, OfJob, OfRecords, TaskFor, identity_for, sizes_for, is_run}
 use Rattle.vlbi_core.specs.Restart.{IsHonest}
-use Rattle.vlbi_core.specs.Sample.{SampleOf, IsSampled, sample_files, sample_shelf, sample_order, content_for, sample_text}
+use Rattle.sample_job.specs.Sample.{sample_files, sample_shelf, sample_order, SampleOf}
+use Rattle.vlbi_core.specs.Sample.{IsSampled, content_for, sample_text}
 use Rattle.vlbi_core.specs.Faults.{written_with}
-use Rattle.vlbi_core.specs.Steps.{OutcomeFrom, IsBehindWords, IsOfFilesOrOutput, IsCauseOf, IsDone, Does, IsInMemory, IsOtherCause, IsPlanned, Tells, in_memory}
+use Rattle.vlbi_core.specs.Steps.{OutcomeFrom, IsBehindWords, IsOfFilesOrOutput, IsCauseOf, IsDone, Does, IsOfSample, IsOfMemory, IsOtherCause, IsPlanned, Tells}
 use Rattle.vlbi_core.proofs.RecordFileLemmas.{output-IsRecordFile}
 use Rattle.vlbi_core.proofs.TopLemmas.{OneOutcome}
 
@@ -83,67 +84,36 @@ not-other outcomes files before d blank cause =
     let gone : Some [] ≡ None = sym (blank-reads (identity_for files cause.call) (sizes_for cause.call)) ∙ there.unread in
     cc
 
--- the cause of a refusal over devices in memory
+-- What refuses an order that no answer refuses, over a blank journal and a shelf whose count stays: want of memory, or a fault of the
+-- journal or the output.
 module _ (files : Files) (job : List ℕ) (vex : Option (List ℕ)) (workers piece : ℕ) (images : List ℕ → Type 0) (before after old new : Option (List ℕ)) where
-  pub memory-cause : (r : Refusal) → before ≡ Some [] → IsBehindWords r → IsCauseOf r (OutcomeFrom (Ok (Run job vex workers piece)) files) files images before after old new
-      → IsCause (in_memory r) (PlanOf files (Run job vex workers piece))
-  memory-cause Memory blank behind cause = tt
-  memory-cause (DueRefusal (Words fault)) blank behind cause = absurd behind
-  memory-cause (DueRefusal (Vex fault)) blank behind cause = refusal-of files (Run job vex workers piece) _ cause
-  memory-cause (DueRefusal (Schedule fault)) blank behind cause = refusal-of files (Run job vex workers piece) _ cause
-  memory-cause (DueRefusal (Job fault)) blank behind cause = refusal-of files (Run job vex workers piece) _ cause
-  memory-cause (DueRefusal (Join fault name)) blank behind cause = refusal-of files (Run job vex workers piece) _ cause
-  memory-cause (DueRefusal (Limit quantity value)) blank behind cause = refusal-of files (Run job vex workers piece) _ cause
-  memory-cause (DueRefusal (NoFile name)) blank behind cause = refusal-of files (Run job vex workers piece) _ cause
-  memory-cause (DueRefusal (Recording key field)) blank behind cause = refusal-of files (Run job vex workers piece) _ cause
-  memory-cause (DueRefusal (Records fault)) blank behind cause = refusal-of files (Run job vex workers piece) _ cause
-  memory-cause (DueRefusal (Other d)) blank behind cause = absurd (not-other (OutcomeFrom (Ok (Run job vex workers piece)) files) files before d blank cause)
-  memory-cause Read blank behind cause = tt
-  memory-cause (Journal kept) blank behind cause = tt
-  memory-cause Write blank behind cause = tt
-
-  pub memory-stage : (r : Refusal) → before ≡ Some [] → IsBehindWords r → IsCauseOf r (OutcomeFrom (Ok (Run job vex workers piece)) files) files images before after old new
-      → IsInMemory (in_memory r)
-  memory-stage Memory blank behind cause = tt
-  memory-stage (DueRefusal (Words fault)) blank behind cause = absurd behind
-  memory-stage (DueRefusal (Vex fault)) blank behind cause = tt
-  memory-stage (DueRefusal (Schedule fault)) blank behind cause = tt
-  memory-stage (DueRefusal (Job fault)) blank behind cause = tt
-  memory-stage (DueRefusal (Join fault name)) blank behind cause = tt
-  memory-stage (DueRefusal (Limit quantity value)) blank behind cause = tt
-  memory-stage (DueRefusal (NoFile name)) blank behind cause = tt
-  memory-stage (DueRefusal (Recording key field)) blank behind cause = tt
-  memory-stage (DueRefusal (Records fault)) blank behind cause = tt
-  memory-stage (DueRefusal (Other d)) blank behind cause = absurd (not-other (OutcomeFrom (Ok (Run job vex workers piece)) files) files before d blank cause)
-  memory-stage Read blank behind cause = tt
-  memory-stage (Journal kept) blank behind cause = tt
-  memory-stage Write blank behind cause = tt
+  of-memory : (r : Refusal) → before ≡ Some [] → ((answer : Answer) → PlanOf files (Run job vex workers piece) (Err answer) → ⊥) → IsBehindWords r
+      → CountsReadsBeside {T = Unit {0}} 0 0 (Err r) → IsCauseOf r (OutcomeFrom (Ok (Run job vex workers piece)) files) files images before after old new → IsOfMemory r
+  of-memory Memory blank none behind reads cause = tt
+  of-memory (DueRefusal (Words fault)) blank none behind reads cause = absurd behind
+  of-memory (DueRefusal (Vex fault)) blank none behind reads cause = absurd (none _ (refusal-of files (Run job vex workers piece) _ cause))
+  of-memory (DueRefusal (Schedule fault)) blank none behind reads cause = absurd (none _ (refusal-of files (Run job vex workers piece) _ cause))
+  of-memory (DueRefusal (Job fault)) blank none behind reads cause = absurd (none _ (refusal-of files (Run job vex workers piece) _ cause))
+  of-memory (DueRefusal (Join fault name)) blank none behind reads cause = absurd (none _ (refusal-of files (Run job vex workers piece) _ cause))
+  of-memory (DueRefusal (Limit quantity value)) blank none behind reads cause = absurd (none _ (refusal-of files (Run job vex workers piece) _ cause))
+  of-memory (DueRefusal (NoFile name)) blank none behind reads cause = absurd (none _ (refusal-of files (Run job vex workers piece) _ cause))
+  of-memory (DueRefusal (Recording key field)) blank none behind reads cause = absurd (none _ (refusal-of files (Run job vex workers piece) _ cause))
+  of-memory (DueRefusal (Records fault)) blank none behind reads cause = absurd (none _ (refusal-of files (Run job vex workers piece) _ cause))
+  of-memory (DueRefusal (Other d)) blank none behind reads cause = absurd (not-other (OutcomeFrom (Ok (Run job vex workers piece)) files) files before d blank cause)
+  of-memory Read blank none behind reads cause = absurd (omega (arith, reads))
+  of-memory (Journal kept) blank none behind reads cause = tt
+  of-memory Write blank none behind reads cause = tt
 
 -- ---- the totals of a sample
 
--- a verdict on the files of a sample is a verdict of the call, and so is want of memory
-pub sample-refused : (outcomes : Outcomes Plan) (text : Plan → List ℕ) (old : Option (List ℕ)) (r : Refusal) → IsInMemory r → IsCause r outcomes → Tells outcomes text old old (Err r)
-sample-refused outcomes text old Memory stage cause = record { done = tt; cause = tt; part = inl refl }
-sample-refused outcomes text old (DueRefusal due) stage cause = record { done = tt; cause = cause; part = refl }
-sample-refused outcomes text old Read stage cause = absurd stage
-sample-refused outcomes text old (Journal kept) stage cause = absurd stage
-sample-refused outcomes text old Write stage cause = absurd stage
-
-pub sample-stage : (r : Refusal) → IsInMemory r → IsOfFilesOrOutput r
-sample-stage Memory stage = tt
-sample-stage (DueRefusal (Words fault)) stage = absurd stage
-sample-stage (DueRefusal (Vex fault)) stage = tt
-sample-stage (DueRefusal (Schedule fault)) stage = tt
-sample-stage (DueRefusal (Job fault)) stage = tt
-sample-stage (DueRefusal (Join fault name)) stage = tt
-sample-stage (DueRefusal (Limit quantity value)) stage = tt
-sample-stage (DueRefusal (NoFile name)) stage = tt
-sample-stage (DueRefusal (Recording key field)) stage = tt
-sample-stage (DueRefusal (Records fault)) stage = tt
-sample-stage (DueRefusal (Other d)) stage = absurd stage
-sample-stage Read stage = absurd stage
-sample-stage (Journal kept) stage = absurd stage
-sample-stage Write stage = absurd stage
+-- what the totals are refused for, in the words of a command that leaves the journal alone
+pub of-files : (result : Result (Unit {0}) Refusal) → IfErr result IsOfSample → IfErr result IsOfFilesOrOutput
+of-files (Ok x) stage = tt
+of-files (Err Memory) stage = tt
+of-files (Err (DueRefusal due)) stage = absurd stage
+of-files (Err Read) stage = absurd stage
+of-files (Err (Journal kept)) stage = absurd stage
+of-files (Err Write) stage = tt
 
 -- the totals of the content that was read are those of the plan's record file
 pub sample-totals : {E : Type 0} (seed seconds workers piece : ℕ) (bytes : List ℕ) (content : Content) (old new : Option (List ℕ)) (before now : ℕ) (r : Result (Unit {0}) E)
@@ -174,20 +144,13 @@ sample-totals {E} seed seconds workers piece bytes content old new before now r 
     }
 
 -- the totals of a sample's call are of no shelf
-pub reads-same : (n : ℕ) (result : Result (Unit {0}) Refusal) → IfErr result (λ r. MatchRead r ⊥ (Unit {0})) → CountsReads n n result
-reads-same n (Ok x) unread = refl
-reads-same n (Err Memory) unread = refl
-reads-same n (Err (DueRefusal due)) unread = refl
-reads-same n (Err Read) unread = absurd unread
-reads-same n (Err (Journal kept)) unread = refl
-reads-same n (Err Write) unread = refl
-
-pub sample-unread : (r : Refusal) → IsInMemory r → MatchRead r ⊥ (Unit {0})
-sample-unread Memory stage = tt
-sample-unread (DueRefusal due) stage = tt
-sample-unread Read stage = absurd stage
-sample-unread (Journal kept) stage = tt
-sample-unread Write stage = tt
+pub reads-same : (n : ℕ) (result : Result (Unit {0}) Refusal) → IfErr result IsOfSample → CountsReads n n result
+reads-same n (Ok x) stage = refl
+reads-same n (Err Memory) stage = refl
+reads-same n (Err (DueRefusal due)) stage = absurd stage
+reads-same n (Err Read) stage = absurd stage
+reads-same n (Err (Journal kept)) stage = absurd stage
+reads-same n (Err Write) stage = refl
 
 -- what was appended in memory is the record file of a plan of the sample
 pub sampled : {D : Type 0} (seen : D → Option (List ℕ)) (moment : D → ℕ) (may_leave : D → ℕ → List ℕ → Type 0) (law : OneOutcome) (seed seconds workers piece : ℕ)
@@ -234,12 +197,8 @@ module _ {D : Type 0} (seen : D → Option (List ℕ)) (moment : D → ℕ) (may
       subst (λ (fs : List (List ℕ × List ℕ)). IsCauseOf r (OutcomeFrom (Ok (sample_order workers piece)) (bytes_under fs)) (bytes_under fs) (may_leave after (moment after)) (seen before) (seen after) old new) same_files
       (subst (λ (o : Order). IsCauseOf r (OutcomeFrom (Ok o) (bytes_under files)) (bytes_under files) (may_leave after (moment after)) (seen before) (seen after) old new) same_order does.cause)
 
-  pub refused-cause : (old new : Option (List ℕ)) (r : Refusal) → IsBehindWords r → Does (Ok order) (bytes_under files) seen moment may_leave before after old new (Err r)
-      → IsCause (in_memory r) (SampleOf seed seconds workers piece)
-  refused-cause old new r behind does =
-      memory-cause (sample_shelf seed seconds) (codes "job") None workers piece (may_leave after (moment after)) (seen before) (seen after) old new r blank behind (own-cause old new r does)
-
-  pub refused-stage : (old new : Option (List ℕ)) (r : Refusal) → IsBehindWords r → Does (Ok order) (bytes_under files) seen moment may_leave before after old new (Err r)
-      → IsInMemory (in_memory r)
-  refused-stage old new r behind does =
-      memory-stage (sample_shelf seed seconds) (codes "job") None workers piece (may_leave after (moment after)) (seen before) (seen after) old new r blank behind (own-cause old new r does)
+  pub refused-memory : (old new : Option (List ℕ)) (r : Refusal) → ((answer : Answer) → SampleOf seed seconds workers piece (Err answer) → ⊥) → IsBehindWords r
+      → CountsReadsBeside {T = Unit {0}} 0 0 (Err r) → Does (Ok order) (bytes_under files) seen moment may_leave before after old new (Err r) → IsOfMemory r
+  refused-memory old new r none behind reads does =
+      of-memory (sample_shelf seed seconds) (codes "job") None workers piece (may_leave after (moment after)) (seen before) (seen after) old new r blank none behind reads
+      (own-cause old new r does)

@@ -29,7 +29,7 @@ use Rattle.run_ready.specs.Outcome.{Wrong, PlanBy}
 use Rattle.run_journal.specs.Extended.{AreFrom, Extends}
 use Rattle.vis_records.specs.Content.{Content}
 use Rattle.run_dump.specs.Shown.{RecordsOf}
-use Rattle.vlbi_core.specs.Sample.{sample_shelf, sample_order}
+use Rattle.sample_job.specs.Sample.{sample_shelf, sample_order}
 use Rattle.vlbi_core.specs.Calls.{Call, Task, OfJob, OfRecords, PlanFor, JobFor, ShowFor, TaskFor, identity_for, sizes_for, bodies_for, kept_for, is_run}
 use Rattle.vlbi_core.specs.Texts.{IsSums, epochs_for}
 use Rattle.vlbi_core.specs.Run.{IsVerdictStatus, IsDueStatus, IsStatus, IsUsable, IsForeign, IsVerdict, IsAppended, IsWordsLine, IsLineOf, IsNoted}

@@ -17,7 +17,7 @@ use Rattle.run_ready.specs.Steps.{Is, Then, answered}
 use Rattle.run_ready.specs.Outcome.{SurveyOf, PlanOf}
 use Rattle.run_ready.specs.Identities.{identity_under}
 use Rattle.run_dump.specs.Shown.{RecordsOf}
-use Rattle.vlbi_core.specs.Sample.{SampleOf}
+use Rattle.sample_job.specs.Sample.{SampleOf}
 
 -- the words as texts
 abbrev pub texts_of : List (String Global) → List (List ℕ)

@@ -93,12 +93,6 @@ abbrev pub IsBehindWords : Refusal → Type 0
 IsBehindWords (DueRefusal (Words fault)) = ⊥
 IsBehindWords _ = ⊤
 
--- what `gen` is refused for, which has its own job and recordings: want of memory, and a fault of the output
-abbrev pub IsOfSample : Refusal → Type 0
-IsOfSample Memory = ⊤
-IsOfSample Write = ⊤
-IsOfSample _ = ⊥
-
 -- no number of epochs is named
 abbrev pub IsUnnumbered : Refusal → Type 0
 IsUnnumbered (Journal (Some kept)) = ⊥
@@ -137,20 +131,18 @@ IsOfFilesOrOutput (DueRefusal (Other d)) = ⊥
 IsOfFilesOrOutput (Journal kept) = ⊥
 IsOfFilesOrOutput _ = ⊤
 
--- what a call over devices in memory may be refused for: want of memory, and a verdict on its files
-abbrev pub IsInMemory : Refusal → Type 0
-IsInMemory Memory = ⊤
-IsInMemory (DueRefusal (Words fault)) = ⊥
-IsInMemory (DueRefusal (Other d)) = ⊥
-IsInMemory (DueRefusal due) = ⊤
-IsInMemory Read = ⊥
-IsInMemory (Journal kept) = ⊥
-IsInMemory Write = ⊥
+-- What a call over devices in memory may be refused for, where no verdict is due and no read fails: want of memory, and a fault of
+-- its journal or its output.
+abbrev pub IsOfMemory : Refusal → Type 0
+IsOfMemory (DueRefusal due) = ⊥
+IsOfMemory Read = ⊥
+IsOfMemory _ = ⊤
 
--- the refusal of such a call: the devices fail for want of memory alone
-abbrev pub in_memory : Refusal → Refusal
-in_memory (DueRefusal due) = DueRefusal due
-in_memory _ = Memory
+-- what the totals of a sample may be refused for: want of memory, and a fault of the output
+abbrev pub IsOfSample : Refusal → Type 0
+IsOfSample Memory = ⊤
+IsOfSample Write = ⊤
+IsOfSample _ = ⊥
 
 -- a plan in its ranges, where a call comes to one
 pub record IsPlanned (outcomes : Outcomes Plan) : Type 0 where

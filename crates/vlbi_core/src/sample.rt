@@ -1,31 +1,33 @@
 //! The job of a generated sample, correlated over devices in memory.
-ghost use Rattle.std.specs.Prelude.{◌≡◌, ◌≤◌, ⊤, IfOk, IfErr};
+ghost use Rattle.std.specs.Prelude.{◌≡◌, ◌≤◌, IfOk, IfErr};
 ghost use Rattle.mem_devices.specs.MemShelfState.{files_of};
 ghost use Rattle.sample_gen.specs.Frames.{recording_of};
 ghost use Rattle.run_words.specs.Orders.{AreTexts};
-ghost use Rattle.run_notes.specs.Refusals.{IsCause, MatchRead};
 ghost use Rattle.run_notes.specs.Counted.{CountsWrites};
 ghost use Rattle.vis_records.specs.Content.{Content, IsRecordFile};
-ghost use Rattle.vlbi_core.specs.Sample.{SampleOf, IsSampled, sample_files, sample_order, sample_text};
+ghost use Rattle.sample_job.specs.Sample.{SampleOf, sample_files, sample_order};
+ghost use Rattle.vlbi_core.specs.Sample.{IsSampled, sample_text};
 ghost use Rattle.vlbi_core.specs.Faults.{written_with};
-ghost use Rattle.vlbi_core.specs.Steps.{IsWork, IsSample, IsInMemory, IsOfFilesOrOutput, Tells, in_memory};
+ghost use Rattle.vlbi_core.specs.Steps.{IsWork, IsSample, IsOfMemory, IsOfSample, Tells};
 
 use crate::correlation::correlate_job;
+use crate::sure_shelf::SureShelf;
 use dev_traits::{Gate, Sink};
 use gen_summary::write_totals;
-use mem_devices::{MemDisk, MemShelf, MemSink};
+use mem_devices::{MemDisk, MemSink};
 use num_time::Name;
 use run_notes::Refusal;
 use run_ready::laws::one_outcome;
 use run_words::Order;
 use sample_gen::{generate, job_text};
+use sample_job::comes_to_a_plan;
 use std::alloc::{AllocError, Global};
 use std::thread::Threads;
 use vis_records::laws::one_content;
 use vis_records::{SinkFault, Vis, VisKind, read_all};
 
 /// Correlates the job of a generated sample over devices in memory, as a call of `run` does, and appends the totals of its
-/// record file.
+/// record file. The job comes to a plan: no verdict is due, and no read of a recording fails.
 pub fn total_sample<R: Threads + Sync, S: Sink, G: Gate + Sync>(
     rt: &R,
     alloc: Global,
@@ -39,8 +41,7 @@ pub fn total_sample<R: Threads + Sync, S: Sink, G: Gate + Sync>(
     requires sample { IsSample seconds }
     requires work { IsWork workers piece }
     ensures tells { Tells (SampleOf seed seconds workers piece) (sample_text seed seconds) (S.told out.old) (S.told out.new) result }
-    ensures stage { IfErr result IsOfFilesOrOutput }
-    ensures unread { IfErr result (λ r. MatchRead r ⊥ ⊤) }
+    ensures stage { IfErr result IsOfSample }
     ensures writes { CountsWrites (S.faults out.old) (S.faults out.new) result }
 {
     one_content();
@@ -68,16 +69,15 @@ fn sample_records<R: Threads + Sync, G: Gate + Sync>(
     workers: u32,
     piece: u64,
     gate: &G,
-) -> Result<Vec<u8>, Refusal>
+) -> Result<Vec<u8>, AllocError>
     requires sample { IsSample seconds }
     requires work { IsWork workers piece }
-    ensures records { IfOk result (λ bytes. IsSampled seed seconds workers piece bytes.items) }
-    ensures cause { IfErr result (λ r. IsCause r (SampleOf seed seconds workers piece)) }
-    ensures stage { IfErr result IsInMemory }
+    ensures { IfOk result (λ bytes. IsSampled seed seconds workers piece bytes.items) }
 {
     one_outcome();
+    comes_to_a_plan();
     let order = sample_order(alloc, workers, piece)?;
-    let mut shelf = MemShelf::new(sample_files(alloc, seed, seconds)?, Vec::new(alloc));
+    let mut shelf = SureShelf::new(alloc, sample_files(alloc, seed, seconds)?);
     let mut journal = MemDisk::new(alloc, Vec::new(alloc), Vec::new(alloc), None)?;
     let mut out = MemSink::new(alloc, usize::MAX, Vec::new(alloc));
     match correlate_job(
@@ -91,18 +91,21 @@ fn sample_records<R: Threads + Sync, G: Gate + Sync>(
         &mut out,
         gate,
     ) {
-        Ok(()) => Ok(out.bytes().to_vec(alloc)?),
+        Ok(()) => out.bytes().to_vec(alloc),
         Err(refusal) => Err(in_memory(refusal)),
     }
 }
 
-// A refusal over devices in memory, which fail for want of memory alone.
-fn in_memory(refusal: Refusal) -> Refusal
-    ensures { result ≡ in_memory refusal }
+// The want of memory that a refusal over devices in memory is.
+fn in_memory(refusal: Refusal) -> AllocError
+    requires { IsOfMemory refusal }
 {
     match refusal {
-        Refusal::Due(due) => Refusal::Due(due),
-        _ => Refusal::Memory,
+        Refusal::Memory => AllocError,
+        Refusal::Journal(_) => AllocError,
+        Refusal::Write => AllocError,
+        Refusal::Due(_) => unreachable!(),
+        Refusal::Read => unreachable!(),
     }
 }
 

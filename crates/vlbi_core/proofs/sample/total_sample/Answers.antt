@@ -3,7 +3,8 @@ use Rattle.run_notes.specs.declared.refusal.Refusal.{Refusal}
 use Rattle.sink_text.specs.Appends.{Appends}
 use Rattle.gen_summary.specs.Totals.{totals_text}
 use Rattle.vis_records.specs.Content.{IsRecordFile}
-use Rattle.vlbi_core.specs.Sample.{SampleOf, sample_shelf, content_for, sample_text}
+use Rattle.sample_job.specs.Sample.{SampleOf, sample_shelf}
+use Rattle.vlbi_core.specs.Sample.{content_for, sample_text}
 use Rattle.vlbi_core.specs.Steps.{Tells}
 use Rattle.vlbi_core.proofs.RecordFileLemmas.{output-IsRecordFile}
 use Rattle.vlbi_core.proofs.SampleLemmas.{sample-totals}

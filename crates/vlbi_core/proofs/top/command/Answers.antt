@@ -4,7 +4,7 @@ use Rattle.vis_writer.proofs.WritesLemmas.{where_then, where_always}
 use Rattle.vlbi_core.specs.Restart.{IsStatusOf, IsGenOf}
 use Rattle.vlbi_core.specs.Steps.{IsCheckOrder, IsPlainOrder, IsRunOrder, Does}
 use Rattle.vlbi_core.proofs.CommandLemmas.{reads-beside, run-not-alone, does-check, does-plain, does-dump, does-gen}
-use Rattle.vlbi_core.proofs.SampleLemmas.{reads-same}
+use Rattle.vlbi_core.proofs.SampleLemmas.{of-files, reads-same}
 use Rattle.vlbi_core.proofs.top.command.Goals as goal
 
 pub returns-in-Check-clause-does : goal.returns-in-Check-clause-does
@@ -36,7 +36,7 @@ returns-in-Gen-clause-does g c =
     (λ files. subst (λ (o : Order). Does (Ok o) files g.D.Disk.seen g.D.Disk.moment g.D.Disk.may_leave c.args.journal.now c.args.journal.now
     (g.S.Sink.told c.args.out.now) (g.S.Sink.told c.total_sample.new.out) c.total_sample.result) (sym c.in-Gen.is)
     (does-gen g.D.Disk.seen g.D.Disk.moment g.D.Disk.may_leave files _ _ _ _ c.args.journal.now (g.S.Sink.told c.args.out.now) (g.S.Sink.told c.total_sample.new.out) c.total_sample.result
-    c.total_sample.ensures.stage c.total_sample.ensures.tells))
+    (of-files c.total_sample.result c.total_sample.ensures.stage) c.total_sample.ensures.tells))
 
 pub returns-in-Plain-clause-reads : goal.returns-in-Plain-clause-reads
 returns-in-Plain-clause-reads g c = reads-beside _ _ c.plain_job.result c.plain_job.ensures.reads
@@ -51,13 +51,13 @@ pub returns-in-Dump-clause-reads : goal.returns-in-Dump-clause-reads
 returns-in-Dump-clause-reads g c = reads-beside _ _ c.show_records.result c.show_records.ensures.reads
 
 pub returns-in-Gen-clause-reads : goal.returns-in-Gen-clause-reads
-returns-in-Gen-clause-reads g c = reads-beside _ _ c.total_sample.result (reads-same _ c.total_sample.result c.total_sample.ensures.unread)
+returns-in-Gen-clause-reads g c = reads-beside _ _ c.total_sample.result (reads-same _ c.total_sample.result c.total_sample.ensures.stage)
 
 pub returns-in-Run-clause-alone : goal.returns-in-Run-clause-alone
 returns-in-Run-clause-alone g c = λ alone. absurd (run-not-alone c.args.order.now (subst IsRunOrder (sym c.in-Run.is) tt) alone)
 
 pub returns-in-Gen-clause-alone : goal.returns-in-Gen-clause-alone
-returns-in-Gen-clause-alone g c = λ alone. reads-same _ c.total_sample.result c.total_sample.ensures.unread
+returns-in-Gen-clause-alone g c = λ alone. reads-same _ c.total_sample.result c.total_sample.ensures.stage
 
 pub returns-in-Run-clause-unnumbered : goal.returns-in-Run-clause-unnumbered
 returns-in-Run-clause-unnumbered g c = λ is. absurd (subst (λ (o : Order). IsStatusOf (Ok o)) c.in-Run.is is)

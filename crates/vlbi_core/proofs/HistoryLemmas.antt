@@ -56,6 +56,15 @@ plan-at files (Gen seed seconds workers piece) call there run =
 plan-by : (files : Files) (words : List (List ℕ)) (call : Call) → IsRunBy files words call → PlanOf files call.order (Ok call.plan)
 plan-by files words call by = plan-at files by.outcome.0 call by.outcome.2 by.run
 
+-- the names of a job's text and of its schedule
+abbrev job_in : Option (List ℕ × Option (List ℕ)) → List ℕ
+job_in None = []
+job_in (Some names) = names.0
+
+abbrev vex_in : Option (List ℕ × Option (List ℕ)) → Option (List ℕ)
+vex_in None = None
+vex_in (Some names) = names.1
+
 alike-parts : (files : Files) (job : List ℕ) (vex : Option (List ℕ)) (workers piece others other : ℕ) (plan : Plan)
     → AreAlike files (call_of (Run job vex workers piece) plan) (call_of (Run job vex others other) plan)
 alike-parts files job vex workers piece others other plan = record {
@@ -68,9 +77,9 @@ pub alike : OneOutcome → (files : Files) (first second : List (List ℕ)) (a b
 alike law files first second a b one two same =
     let p = parts a.order one.run in
     let q = parts b.order two.run in
-    let names : Some (p.job, p.vex) ≡ Some (q.job, q.vex) = sym (ap job_names p.is) ∙ same ∙ ap job_names q.is in
-    let jobs : p.job ≡ q.job = cc in
-    let schedules : p.vex ≡ q.vex = cc in
+    let names : job_names (Run p.job p.vex p.workers p.piece) ≡ job_names (Run q.job q.vex q.workers q.piece) = sym (ap job_names p.is) ∙ same ∙ ap job_names q.is in
+    let jobs : p.job ≡ q.job = ap job_in names in
+    let schedules : p.vex ≡ q.vex = ap vex_in names in
     let orders : b.order ≡ Run p.job p.vex q.workers q.piece =
     q.is ∙ ap (λ (job : List ℕ). Run job q.vex q.workers q.piece) (sym jobs) ∙ ap (λ (vex : Option (List ℕ)). Run p.job vex q.workers q.piece) (sym schedules) in
     let here : PlanOf files (Run p.job p.vex p.workers p.piece) (Ok a.plan) =
@@ -129,12 +138,12 @@ module _ {D : Type 0} (seen : D → Option (List ℕ)) (moment : D → ℕ) (may
 
   stop-high : (end : End) (old new : D) → IsEnd seen moment may_leave end old new → stop seen moment may_leave end new ≤ moment new
   stop-high Answered old new is = omega arith
-  stop-high (Crashed t left) old new is = is.1
+  stop-high (Crashed t left) old new is = is.1.0
 
   left-there : (end : End) (old new : D) → IsEnd seen moment may_leave end old new
       → (image : List ℕ) → Left seen moment may_leave end new image → may_leave new (stop seen moment may_leave end new) image
   left-there Answered old new is image now = now
-  left-there (Crashed t left) old new is image same = subst (λ (v : List ℕ). may_leave new t v) (sym same) is.2
+  left-there (Crashed t left) old new is image same = subst (λ (v : List ℕ). may_leave new t v) (sym same) is.1.1
 
   -- ---- histories
 
@@ -198,27 +207,17 @@ module _ {D : Type 0} (seen : D → Option (List ℕ)) (moment : D → ℕ) (may
         later-kept (Left seen moment may_leave step.end step.new) (left-honest step keeps ends) later is.1 n
         (left-kept step keeps ends (moment step.old) n (omega arith) (stop-low step.end step.old step.new keeps.later ends) begun) j b (next_step step b later j at) t low high
 
-    pub holds : (images : List ℕ → Type 0) → ((image : List ℕ) → images image → (is_blank image ≡ true) ⊎ IsHonest files job image)
-        → (steps : List (Step D)) → IsHistory seen moment may_leave files job images steps → Holds seen moment may_leave files job steps
-    holds images each [] is = record {
-      honest = λ i step at. absurd (no_step i step at);
-      kept = λ i j a b at. absurd (no_step i a at);
-      output = λ i step at. absurd (no_step i step at);
-      all = λ i step at. absurd (no_step i step at);
-    }
-    holds images each (step ∷ later) is = record {
+    more-holds : (images : List ℕ → Type 0) → ((image : List ℕ) → images image → (is_blank image ≡ true) ⊎ IsHonest files job image)
+        → (step : Step D) (later : List (Step D)) → IsHistory seen moment may_leave files job images (step ∷ later)
+        → StaysHonest files job step.status moment may_leave step.old step.new → Holds seen moment may_leave files job later
+        → Holds seen moment may_leave files job (step ∷ later)
+    more-holds images each step later is keeps rest = record {
       honest = honest;
       kept = kept;
       output = appended;
       all = whole;
     }
       where
-        keeps : StaysHonest files job step.status moment may_leave step.old step.new
-        keeps = stays images each step is.0
-
-        rest : Holds seen moment may_leave files job later
-        rest = holds (Left seen moment may_leave step.end step.new) (left-honest step keeps is.0.ends) later is.1
-
         honest : (i : ℕ) (s : Step D) → slice_get (step ∷ later) i ≡ Some s
             → (t : ℕ) (image : List ℕ) → moment s.old ≤ t → t ≤ moment s.new → may_leave s.new t image → IsHonest files job image
         honest zero s at = subst (λ (s : Step D). (t : ℕ) (image : List ℕ) → moment s.old ≤ t → t ≤ moment s.new → may_leave s.new t image → IsHonest files job image)
@@ -242,14 +241,14 @@ module _ {D : Type 0} (seen : D → Option (List ℕ)) (moment : D → ℕ) (may
             → AtLeast (kept_for files job) (may_leave a.new t) n → AtLeast (kept_for files job) (may_leave b.new t') n
 
         within : (t t' : ℕ) → Kept step step 0 0 t t'
-        within t t' n low high low' high' (inl no) all = absurd (omega (arith, no.0))
+        within t t' n low high low' high' (inl less) all = absurd (omega (arith, less.0))
         within t t' n low high low' high' (inr up) all = keeps.never_falls t t' n low up.1 high' all
 
         across : (j : ℕ) (b : Step D) → slice_get later j ≡ Some b → (t t' : ℕ) → Kept step b 0 (suc j) t t'
         across j b at t t' n low high low' high' (inl up) all =
             later-kept (Left seen moment may_leave step.end step.new) (left-honest step keeps is.0.ends) later is.1 n
             (left-kept step keeps is.0.ends t n low up.1 all) j b at t' low' high'
-        across j b at t t' n low high low' high' (inr no) all = absurd (omega (arith, no.0))
+        across j b at t t' n low high low' high' (inr same) all = absurd (omega (arith, same.0))
 
         kept : (i j : ℕ) (a b : Step D) → slice_get (step ∷ later) i ≡ Some a → slice_get (step ∷ later) j ≡ Some b → (t t' : ℕ) → Kept a b i j t t'
         kept zero zero a b at at' t t' = subst (λ (s : Step D). Kept s b 0 0 t t') (first_step step a later at)
@@ -259,11 +258,23 @@ module _ {D : Type 0} (seen : D → Option (List ℕ)) (moment : D → ℕ) (may
         kept (suc i) zero a b at at' t t' = λ n low high low' high' is. absurd (nothing_later is)
           where
             nothing_later : IsLater seen moment may_leave (suc i) a t 0 t' → ⊥
-            nothing_later (inl no) = omega (arith, no.0)
-            nothing_later (inr no) = omega (arith, no.0)
+            nothing_later (inl less) = omega (arith, less.0)
+            nothing_later (inr same) = omega (arith, same.0)
         kept (suc i) (suc j) a b at at' t t' = λ n low high low' high' is.
             rest.kept i j a b (next_step step a later i at) (next_step step b later j at') t t' n low high low' high' (shifted is)
           where
             shifted : IsLater seen moment may_leave (suc i) a t (suc j) t' → IsLater seen moment may_leave i a t j t'
             shifted (inl up) = inl (omega (arith, up.0), up.1)
             shifted (inr up) = inr (omega (arith, up.0), up.1)
+
+    pub holds : (images : List ℕ → Type 0) → ((image : List ℕ) → images image → (is_blank image ≡ true) ⊎ IsHonest files job image)
+        → (steps : List (Step D)) → IsHistory seen moment may_leave files job images steps → Holds seen moment may_leave files job steps
+    holds images each [] is = record {
+      honest = λ i step at. absurd (no_step i step at);
+      kept = λ i j a b at. absurd (no_step i a at);
+      output = λ i step at. absurd (no_step i step at);
+      all = λ i step at. absurd (no_step i step at);
+    }
+    holds images each (step ∷ later) is =
+        let keeps = stays images each step is.0 in
+        more-holds images each step later is keeps (holds (Left seen moment may_leave step.end step.new) (left-honest step keeps is.0.ends) later is.1)

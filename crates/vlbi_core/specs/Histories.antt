@@ -92,8 +92,8 @@ module _ {D : Type 0} (seen : D → Option (List ℕ)) (moment : D → ℕ) (may
   abbrev pub HoldsOver : Type 0
   HoldsOver =
       (files : Files) (words : List (List ℕ)) (job : Call) → IsRunBy files words job
-      → (images : List ℕ → Type 0) → ((image : List ℕ) → images image → (is_blank image ≡ true) ⊎ IsHonest files job image)
-      → (steps : List (Step D)) → IsHistory files job images steps → Holds files job steps
+      → (first : Step D) → ((image : List ℕ) → may_leave first.old (moment first.old) image → (is_blank image ≡ true) ⊎ IsHonest files job image)
+      → (later : List (Step D)) → IsHistory files job (may_leave first.old (moment first.old)) (first ∷ later) → Holds files job (first ∷ later)
 
 -- Honesty, what is kept and the records do not depend on the workers, the piece or the order of the options.
 pub record AreAlike (files : Files) (a b : Call) : Type 0 where

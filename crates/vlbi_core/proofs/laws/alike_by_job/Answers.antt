@@ -1,5 +1,5 @@
 use Rattle.vlbi_core.proofs.HistoryLemmas.{alike}
 use Rattle.vlbi_core.proofs.laws.alike_by_job.Goals as goal
 
-pub returns-clause : goal.returns-clause
-returns-clause c = λ files first second a b one two same. alike c.one_outcome.ensures files first second a b one two same
+pub returns : goal.returns
+returns c = λ files first second a b one two same. alike c.one_outcome.ensures files first second a b one two same

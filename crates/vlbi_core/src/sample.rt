@@ -91,7 +91,7 @@ fn sample_records<R: Threads + Sync, G: Gate + Sync>(
         &mut out,
         gate,
     ) {
-        Ok(()) => out.bytes().to_vec(alloc),
+        Ok(()) => Ok(out.bytes().to_vec(alloc)?),
         Err(refusal) => Err(in_memory(refusal)),
     }
 }

@@ -12,14 +12,14 @@ use Rattle.vlbi_core.proofs.sample.total_sample.Goals as goal
 
 pub read_back-requires : goal.read_back-requires
 read_back-requires g c =
-    let s = c.in_ok-records.ensures.records in (
+    let s = c.in_ok-records.ensures in (
       content_for s.plan (sample_shelf c.args.seed c.args.seconds),
       rw (c.deref.ensures.value, s.records) (output-IsRecordFile s.plan (sample_shelf c.args.seed c.args.seconds) s.ranges s.few),
     )
 
 pub returns-clause-tells : goal.returns-clause-tells
 returns-clause-tells g c =
-    let s = c.in_ok-records.ensures.records in
+    let s = c.in_ok-records.ensures in
     let many : c.len.result ≡ length c.in_ok-records.records.items = search rules in
     subst (λ (q : Result (Unit {0}) Refusal). Tells (SampleOf c.args.seed c.args.seconds c.args.workers c.args.piece) (sample_text c.args.seed c.args.seconds)
     (g.S.Sink.told c.args.out.now) (g.S.Sink.told c.write_totals.new.out) q) (sym c.answer.ensures)

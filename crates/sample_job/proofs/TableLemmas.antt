@@ -24,6 +24,11 @@ one-of P a (suc n) k all from to = ⊎_elim
     (λ (here : k ≤ a). let same : a ≡ k = omega arith in subst P same all.0)
     (cases_lt a k)
 
+-- one fact and those behind it
+infixr 5 ◌&◌
+◌&◌ : {P Q : Type 0} → P → Q → P × Q
+p & q = (p, q)
+
 -- what the text of so many seconds shows, and that its sizes are within their limits
 abbrev IsSeen : ℕ → Type 0
 IsSeen seconds = seen_of seconds ≡ wanted_of seconds
@@ -34,12 +39,12 @@ IsWithin seconds = limit (job_with (160000 * seconds)) (scans_of (job_with (1600
 all-seen : AreAll IsSeen 1 60
 unfolding job_of digits decimal_of is_number scaled moved_digits
 all-seen =
-    (refl, (refl, (refl, (refl, (refl, (refl, (refl, (refl, (refl, (refl, 
-    (refl, (refl, (refl, (refl, (refl, (refl, (refl, (refl, (refl, (refl, 
-    (refl, (refl, (refl, (refl, (refl, (refl, (refl, (refl, (refl, (refl, 
-    (refl, (refl, (refl, (refl, (refl, (refl, (refl, (refl, (refl, (refl, 
-    (refl, (refl, (refl, (refl, (refl, (refl, (refl, (refl, (refl, (refl, 
-    (refl, (refl, (refl, (refl, (refl, (refl, (refl, (refl, (refl, (refl, tt))))))))))))))))))))))))))))))))))))))))))))))))))))))))))))
+    refl & refl & refl & refl & refl & refl & refl & refl & refl & refl &
+    refl & refl & refl & refl & refl & refl & refl & refl & refl & refl &
+    refl & refl & refl & refl & refl & refl & refl & refl & refl & refl &
+    refl & refl & refl & refl & refl & refl & refl & refl & refl & refl &
+    refl & refl & refl & refl & refl & refl & refl & refl & refl & refl &
+    refl & refl & refl & refl & refl & refl & refl & refl & refl & refl & tt
 
 pub seen : (seconds : ℕ) → 1 ≤ seconds → seconds ≤ 60 → IsSeen seconds
 seen seconds some few = one-of IsSeen 1 60 seconds all-seen some (omega arith)
@@ -47,13 +52,12 @@ seen seconds some few = one-of IsSeen 1 60 seconds all-seen some (omega arith)
 all-within : AreAll IsWithin 1 60
 unfolding limit measures rate_of taken stands_in channels_of baselines_in samples_of end_sample
 all-within =
-    (refl, (refl, (refl, (refl, (refl, (refl, (refl, (refl, (refl, (refl, 
-    (refl, (refl, (refl, (refl, (refl, (refl, (refl, (refl, (refl, (refl, 
-    (refl, (refl, (refl, (refl, (refl, (refl, (refl, (refl, (refl, (refl, 
-    (refl, (refl, (refl, (refl, (refl, (refl, (refl, (refl, (refl, (refl, 
-    (refl, (refl, (refl, (refl, (refl, (refl, (refl, (refl, (refl, (refl, 
-    (refl, (refl, (refl, (refl, (refl, (refl, (refl, (refl, (refl, (refl, tt))))))))))))))))))))))))))))))))))))))))))))))))))))))))))))
+    refl & refl & refl & refl & refl & refl & refl & refl & refl & refl &
+    refl & refl & refl & refl & refl & refl & refl & refl & refl & refl &
+    refl & refl & refl & refl & refl & refl & refl & refl & refl & refl &
+    refl & refl & refl & refl & refl & refl & refl & refl & refl & refl &
+    refl & refl & refl & refl & refl & refl & refl & refl & refl & refl &
+    refl & refl & refl & refl & refl & refl & refl & refl & refl & refl & tt
 
 pub within : (seconds : ℕ) → 1 ≤ seconds → seconds ≤ 60 → IsWithin seconds
 within seconds some few = one-of IsWithin 1 60 seconds all-within some (omega arith)
-

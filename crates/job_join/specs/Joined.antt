@@ -1,6 +1,6 @@
 -- The plan of a job and a schedule, or why they do not go together.
 use Rattle.read_steps.specs.Steps as steps
-use Rattle.std.specs.Prelude.{◌≡◌, ◌⊎◌, ℕ, ◌/◌, nat_lt, unsigned_abs, List, [], ◌∷◌, length, map, filter, bytes_eq, Option, None, Some, option_map, unwrap_or, Result, Ok, Err}
+use Rattle.std.specs.Prelude.{ℕ, ◌/◌, nat_lt, unsigned_abs, List, [], ◌∷◌, length, map, filter, bytes_eq, Option, None, Some, option_map, unwrap_or, Result, Ok, Err}
 use Rattle.std.specs.List.{position}
 use Rattle.vdif_frame.specs.Shape.{samples_per_frame}
 use Rattle.named_list.specs.Named.{named}

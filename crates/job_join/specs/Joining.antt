@@ -1,6 +1,7 @@
 -- A job and the scans of a schedule, as the program joins them.
-use Rattle.std.specs.Prelude.{◌≡◌, ℕ, List, [], ◌∷◌, map, max, fold, Option, option_map}
-use Rattle.named_list.specs.Named.{names}
+use Rattle.std.specs.Prelude.{◌≡◌, ℕ, List, [], ◌∷◌, map, max, fold, bytes_eq, is_some, Option, option_map}
+use Rattle.std.specs.List.{list_any}
+use Rattle.named_list.specs.Named.{named, names}
 use Rattle.vex_schedule.specs.declared.scan.Scan.{Scan}
 use Rattle.job_text.specs.Job.{JobFields}
 use Rattle.job_text.specs.Ranges.{IsJob}
@@ -17,16 +18,19 @@ use Rattle.job_join.specs.Differing.{rate_differs, channel_differs, product_diff
 use Rattle.job_join.specs.Joined.{first_there}
 use Rattle.job_join.specs.declared.stands.Here.{Here}
 use Rattle.job_join.specs.Spans.{end_sample}
-use Rattle.job_join.specs.Places.{visit_in, visit_of}
+use Rattle.job_join.specs.Places.{visit_in, visit_of, has_key}
 
 -- the scans
 abbrev pub scans_of : Joining → List Scan
 scans_of j = map (λ (p : Place). p.scan.now) j.places.items
 
--- the job is in its ranges, each scan is held with the job's stations in it, and the channels and the rate are the job's
+-- the job is in its ranges, each scan is held with the job's stations in it, the names are those of the scans, the keys those of
+-- the stations of the scans that are taken, and the channels and the rate are the job's
 pub record IsJoining (j : Joining) : Type 0 where
   pub job : IsJob j.job.now
   pub visits : map visit_of j.places.items ≡ map (visit_in j.job.now) (scans_of j)
+  pub scan_names : (q : List ℕ) → is_some (named j.scan_names q) ≡ list_any (λ (scan : Scan). bytes_eq scan.name q) (scans_of j)
+  pub station_keys : (q : List ℕ) → is_some (named j.station_keys q) ≡ list_any (λ (p : Place). has_key q (visit_of p)) j.places.items
   pub channels : names j.channels ≡ channels_of j.job.now
   pub rate : j.rate ≡ rate_of j.job.now (scans_of j)
 

@@ -1,12 +1,11 @@
 -- The quantities of a job, as the program measures them.
-use Rattle.std.specs.Prelude.{ℕ, ◌*◌, ◌^◌, ◌==◌, ◌+◌, Bool, if◌then◌else◌, List, [], ◌∷◌, length, map, filter, filter_map, slice_get, fold, Option}
+use Rattle.std.specs.Prelude.{ℕ, ◌*◌, ◌^◌, ◌==◌, ◌+◌, Bool, if◌then◌else◌, List, [], ◌∷◌, length, map, filter_map, slice_get, fold, Option}
 use Rattle.std.specs.Int.{div_ceil}
 use Rattle.vex_schedule.specs.declared.scan.Scan.{Scan}
 use Rattle.job_plan.specs.declared.plan.BaselinePlan.{BaselinePlan}
 use Rattle.job_text.specs.Job.{JobFields}
 use Rattle.job_join.specs.declared.fault.Quantity.{Quantity}
 use Rattle.job_join.specs.declared.places.Place.{Place}
-use Rattle.job_join.specs.declared.joining.Joining.{Joining}
 use Rattle.job_join.specs.declared.fault.Quantity.TheVariants.{Stations, Products, Channels, Samples, Seconds, Cells, Load, Epochs}
 use Rattle.job_join.specs.Channels.{channels_of}
 use Rattle.job_join.specs.Spans.{samples_of}
@@ -40,10 +39,6 @@ size_measures job rate scans =
     ∷ measure Load 268435456 (length job.stations * length (channels_of job) * job.epoch ∷ [])
     ∷ measure Epochs (2 ^ 32) (fold ◌+◌ 0 (map (scan_epochs job rate) scans) ∷ [])
     ∷ []
-
--- the scans that are taken, as they are held
-abbrev pub places_taken : Joining → List Place
-places_taken j = filter (λ (p : Place). p.taken) j.places.items
 
 -- the whole seconds that hold a scan
 abbrev pub held_seconds : ℕ → Place → ℕ

@@ -1,4 +1,5 @@
 //! Why a job and a schedule do not go together.
+use std::alloc::AllocError;
 use thiserror::Error;
 
 /// A quantity that has a greatest value.
@@ -103,5 +104,16 @@ impl JoinFault {
             JoinFault::Limit(_, _) => "Limit",
             JoinFault::Memory => "Memory",
         }
+    }
+}
+
+impl From<AllocError> for JoinFault {
+    ghost use Rattle.std.specs.Prelude.{◌≡◌};
+    ghost use Rattle.job_join.specs.declared.fault.JoinFault.TheVariants.{Memory};
+
+    ghost from_gives = { λ _ fault. fault ≡ Memory };
+
+    fn from(_: AllocError) -> Self {
+        JoinFault::Memory
     }
 }

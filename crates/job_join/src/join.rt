@@ -9,13 +9,13 @@ use crate::joining::Joining;
 use crate::lists::{product_plans, station_plans};
 use crate::parts::{epoch, integration, knot, lags};
 use crate::plans::{channel_names, channel_numbers};
-use crate::refusal::refusal;
+use crate::refusal::go_together;
 use crate::scans::scan_plans;
 use item_list::ItemList;
 use job_plan::{Plan, Plan0};
 use job_text::Job;
 use std::alloc::{AllocError, Global};
-use vex_schedule::{Scan, ScanList};
+use vex_schedule::ScanList;
 
 // The samples in a second.
 fn rate_in(j: &Joining) -> u32
@@ -50,18 +50,6 @@ fn plan_of(alloc: Global, j: &Joining) -> Result<Plan0, AllocError>
     Ok(Plan0::new(plan))
 }
 
-// The plan of a job and the scans of a schedule, or the first cause for which they do not go together.
-fn answer(alloc: Global, job: &Job, scans: &[Scan]) -> Result<Result<Plan0, JoinFault>, AllocError>
-    requires { AreScans scans.now }
-    ensures { IfOk result (λ r. r ≡ joined job.now scans.now) }
-{
-    let j = Joining::new(alloc, job, scans)?;
-    match refusal(alloc, &j, scans)? {
-        Some(fault) => Ok(Err(fault)),
-        None => Ok(Ok(plan_of(alloc, &j)?)),
-    }
-}
-
 /// The plan of a job and a schedule. Where they do not go together, the first of these causes: a take that names no
 /// scan (its place among the takes); a station in no scan that is taken (its place in the job); a scan in which a
 /// station's sample rate, a channel's band at two stations, or the bands of a product's two channels differ (its place
@@ -71,8 +59,7 @@ fn answer(alloc: Global, job: &Job, scans: &[Scan]) -> Result<Result<Plan0, Join
 pub fn join_job(alloc: Global, job: &Job, schedule: &ScanList) -> Result<Plan0, JoinFault>
     ensures { Gives result (joined job.now schedule.now.scans) }
 {
-    match answer(alloc, job, schedule.scans.items()) {
-        Ok(answer) => answer,
-        Err(_) => Err(JoinFault::Memory),
-    }
+    let j = Joining::new(alloc, job, schedule.scans.items())?;
+    go_together(&j)?;
+    Ok(plan_of(alloc, &j)?)
 }

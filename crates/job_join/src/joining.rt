@@ -8,21 +8,24 @@ ghost use Rattle.job_join.specs.Differing.{rate_differs, channel_differs, produc
 use crate::channels::{channel_differs, channels_of, product_differs};
 use crate::fault::JoinFault;
 use crate::frames::frame_rate;
-use crate::parts::{products, stations};
-use crate::places::{Place, places_of, unknown_station};
+use crate::names::scan_names;
+use crate::parts::{products, stations, takes};
+use crate::places::{Place, keys_of, places_of, unknown_station};
 use crate::rates::{rate_differs, rate_of};
-use crate::takes::unknown_scan;
+use crate::takes::unknown_take;
 use job_text::Job;
 use named_list::Named;
 use std::alloc::{AllocError, Global};
 use vex_schedule::Scan;
 
-/// A job, the scans of a schedule with the job's stations in them, the channels of the job's products in the order of
-/// their first use, and the job's sample rate.
+/// A job, the scans of a schedule with the job's stations in them, the names of these scans, the keys of the stations of those
+/// that are taken, the channels of the job's products in the order of their first use, and the job's sample rate.
 #[derive(Drop)]
 pub(crate) struct Joining<'a> {
     pub job: &'a Job,
     pub places: Vec<Place<'a>>,
+    pub scan_names: Named<()>,
+    pub station_keys: Named<()>,
     pub channels: Named<()>,
     pub rate: u32,
 }
@@ -38,24 +41,39 @@ impl<'a> Joining<'a> {
         ensures scans { IfOk result (λ j. scans_of j ≡ scans.now) }
     {
         let places = places_of(alloc, job, scans)?;
+        let scan_names = scan_names(alloc, scans)?;
+        let station_keys = keys_of(alloc, &places)?;
         let channels = channels_of(alloc, products(job))?;
         let rate = rate_of(&places);
         Ok(Joining {
             job,
             places,
+            scan_names,
+            station_keys,
             channels,
             rate,
         })
     }
 
-    // Where a station is in no scan that is taken.
-    fn unknown_station(&self, alloc: Global) -> Result<Option<JoinFault>, AllocError>
+    // Where a `take` line names no scan.
+    fn unknown_take(&self) -> Option<JoinFault>
         requires { IsJoining self.now }
-        ensures { IfOk result (λ r. r ≡ option_map JoinFault.UnknownStation (unknown_station self.now.job.now (scans_of self.now))) }
+        ensures { result ≡ option_map JoinFault.UnknownScan (unknown_scan self.now.job.now (scans_of self.now)) }
     {
-        match unknown_station(alloc, stations(self.job), &self.places)? {
-            None => Ok(None),
-            Some(i) => Ok(Some(JoinFault::UnknownStation(i))),
+        match unknown_take(takes(self.job), &self.scan_names) {
+            None => None,
+            Some(i) => Some(JoinFault::UnknownScan(i)),
+        }
+    }
+
+    // Where a station is in no scan that is taken.
+    fn unknown_station(&self) -> Option<JoinFault>
+        requires { IsJoining self.now }
+        ensures { result ≡ option_map JoinFault.UnknownStation (unknown_station self.now.job.now (scans_of self.now)) }
+    {
+        match unknown_station(stations(self.job), &self.station_keys) {
+            None => None,
+            Some(i) => Some(JoinFault::UnknownStation(i)),
         }
     }
 
@@ -105,22 +123,17 @@ impl<'a> Joining<'a> {
     }
 
     /// The first cause among those that ask for no delay and for no size.
-    pub(crate) fn early(
-        &self,
-        alloc: Global,
-        scans: &[Scan],
-    ) -> Result<Option<JoinFault>, AllocError>
-        requires joining { IsJoining self.now }
-        requires scans { scans_of self.now ≡ scans.now }
-        ensures { IfOk result (λ r. r ≡ early_of self.now.job.now (scans_of self.now)) }
+    pub(crate) fn early(&self) -> Option<JoinFault>
+        requires { IsJoining self.now }
+        ensures { result ≡ early_of self.now.job.now (scans_of self.now) }
     {
-        let take = unknown_take(alloc, self.job, scans)?;
-        let station = self.unknown_station(alloc)?;
+        let take = self.unknown_take();
+        let station = self.unknown_station();
         let rate = self.rate_differs();
         let channel = self.channel_differs();
         let product = self.product_differs();
         let frame = self.frame_rate();
-        Ok(first_of(take, station, rate, channel, product, frame))
+        first_of(take, station, rate, channel, product, frame)
     }
 }
 
@@ -136,14 +149,4 @@ fn first_of(
     ensures { result ≡ first_there (take ∷ station ∷ rate ∷ channel ∷ product ∷ frame ∷ []) }
 {
     take.or(station).or(rate).or(channel).or(product).or(frame)
-}
-
-// Where a `take` line names no scan.
-fn unknown_take(alloc: Global, job: &Job, scans: &[Scan]) -> Result<Option<JoinFault>, AllocError>
-    ensures { IfOk result (λ r. r ≡ option_map JoinFault.UnknownScan (unknown_scan job.now scans.now)) }
-{
-    match unknown_scan(alloc, job, scans)? {
-        None => Ok(None),
-        Some(i) => Ok(Some(JoinFault::UnknownScan(i))),
-    }
 }

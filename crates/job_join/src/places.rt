@@ -72,8 +72,8 @@ fn keep_place(alloc: Global, set: &mut Named<()>, place: &Place) -> Result<(), A
     Ok(())
 }
 
-// The keys of the stations of all scans that are taken.
-fn keys_of(alloc: Global, places: &[Place]) -> Result<Named<()>, AllocError>
+/// The keys of the stations of all scans that are taken.
+pub(crate) fn keys_of(alloc: Global, places: &[Place]) -> Result<Named<()>, AllocError>
     ensures { IfOk result (λ set. (q : List ℕ) → is_some (named set q) ≡ list_any (λ (p : Place). has_key q (visit_of p)) places.now) }
 {
     let mut set = Named::new(alloc);
@@ -83,20 +83,18 @@ fn keys_of(alloc: Global, places: &[Place]) -> Result<Named<()>, AllocError>
     Ok(set)
 }
 
-/// The first station that is in no scan that is taken.
-pub(crate) fn unknown_station(
-    alloc: Global,
-    stations: &[Station],
-    places: &[Place],
-) -> Result<Option<usize>, AllocError>
-    ensures { IfOk result (λ r. r ≡ position (λ (s : StationFields). not (list_any (λ (p : Place). has_key s.key (visit_of p)) places.now)) stations.now) }
+// Whether a station's key is not among these.
+fn is_unknown(station: &Station, keys: &Named<()>) -> bool
+    ensures { result ≡ not (is_some (named keys.now station.now.key)) }
 {
-    let known = keys_of(alloc, places)?;
-    for i in 0..stations.len() {
-        let station = &stations[i];
-        if !known.has(station.key.bytes()) {
-            return Ok(Some(i));
-        }
-    }
-    Ok(None)
+    !keys.has(station.key.bytes())
+}
+
+/// The first station whose key is not among these.
+pub(crate) fn unknown_station(stations: &[Station], keys: &Named<()>) -> Option<usize>
+    ensures { result ≡ position (λ (s : StationFields). not (is_some (named keys.now s.key))) stations.now }
+{
+    stations
+        .iter()
+        .position(|station| is_unknown(station, keys))
 }

@@ -1,5 +1,5 @@
 //! Why a job and a schedule do not go together.
-ghost use Rattle.std.specs.Prelude.{◌≡◌, ◌<◌, IfOk};
+ghost use Rattle.std.specs.Prelude.{◌≡◌, ◌<◌, None, Some, IfErr, OnOk};
 ghost use Rattle.vex_schedule.specs.Sound.{AreScans};
 ghost use Rattle.job_join.specs.Joined.{refusal_of};
 ghost use Rattle.job_join.specs.Joining.{scans_of, IsJoining, late_of};
@@ -8,8 +8,6 @@ use crate::fault::JoinFault;
 use crate::joining::Joining;
 use crate::limits::limit;
 use crate::modelled::{no_clock, no_model};
-use std::alloc::{AllocError, Global};
-use vex_schedule::Scan;
 
 // The first cause among those that ask for delays and for sizes.
 fn late(j: &Joining) -> Option<JoinFault>
@@ -30,20 +28,28 @@ fn late(j: &Joining) -> Option<JoinFault>
     }
 }
 
-/// The first cause for which a job and the scans of a schedule do not go together.
-pub(crate) fn refusal(
-    alloc: Global,
-    j: &Joining,
-    scans: &[Scan],
-) -> Result<Option<JoinFault>, AllocError>
+// The first cause for which a job and the scans of a schedule do not go together.
+fn refusal(j: &Joining) -> Option<JoinFault>
     requires joining { IsJoining j.now }
-    requires held { scans_of j.now ≡ scans.now }
     requires scans { AreScans (scans_of j.now) }
-    ensures { IfOk result (λ r. r ≡ refusal_of j.now.job.now (scans_of j.now)) }
+    ensures { result ≡ refusal_of j.now.job.now (scans_of j.now) }
 {
-    let early = j.early(alloc, scans)?;
+    let early = j.early();
     if early.is_some() {
-        return Ok(early);
+        return early;
     }
-    Ok(late(j))
+    late(j)
+}
+
+/// Whether a job and the scans of a schedule go together, or the first cause for which they do not. It takes no memory.
+pub(crate) fn go_together(j: &Joining) -> Result<(), JoinFault>
+    requires joining { IsJoining j.now }
+    requires scans { AreScans (scans_of j.now) }
+    ensures accepted { OnOk result (refusal_of j.now.job.now (scans_of j.now) ≡ None) }
+    ensures refused { IfErr result (λ fault. refusal_of j.now.job.now (scans_of j.now) ≡ Some fault) }
+{
+    match refusal(j) {
+        None => Ok(()),
+        Some(fault) => Err(fault),
+    }
 }

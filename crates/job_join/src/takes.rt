@@ -1,33 +1,23 @@
 //! The scans that a job takes.
-ghost use Rattle.std.specs.Prelude.{◌≡◌, IfOk};
-ghost use Rattle.named_list.specs.Named.{names};
-ghost use Rattle.job_join.specs.Standing.{is_taken, unknown_scan};
+ghost use Rattle.std.specs.Prelude.{◌≡◌, not, is_some};
+ghost use Rattle.std.specs.List.{position};
+ghost use Rattle.named_list.specs.Named.{named, names};
+ghost use Rattle.job_join.specs.Standing.{is_taken};
 
-use crate::names::scan_names;
-use crate::parts::takes;
-use job_text::Job;
 use named_list::Named;
-use std::alloc::{AllocError, Global};
 use vex_schedule::Scan;
 
-/// The first take that names no scan.
-#[tactic(auto, unfolding(crate::specs::Standing::unknown_scan))]
-pub(crate) fn unknown_scan(
-    alloc: Global,
-    job: &Job,
-    scans: &[Scan],
-) -> Result<Option<usize>, AllocError>
-    ensures { IfOk result (λ r. r ≡ unknown_scan job.now scans.now) }
+/// The first take that is not among these names.
+pub(crate) fn unknown_take(takes: &Named<()>, scans: &Named<()>) -> Option<usize>
+    ensures { result ≡ position (λ name. not (is_some (named scans.now name))) (names takes.now) }
 {
-    let known = scan_names(alloc, scans)?;
-    let takes = takes(job);
     for i in 0..takes.len() {
         let (name, _) = takes.at(i);
-        if !known.has(name) {
-            return Ok(Some(i));
+        if !scans.has(name) {
+            return Some(i);
         }
     }
-    Ok(None)
+    None
 }
 
 /// Whether a scan is taken.

@@ -40,12 +40,6 @@ IsCause {A} Read outcomes = ⊤
 IsCause {A} (Journal kept) outcomes = (x : A) × outcomes (Ok x)
 IsCause {A} Write outcomes = (x : A) × outcomes (Ok x)
 
--- what may come before the output
-abbrev pub IsBeforeOutput : Refusal → Type 0
-IsBeforeOutput Write = ⊥
-IsBeforeOutput (Journal kept) = ⊥
-IsBeforeOutput _ = ⊤
-
 -- want of memory, or the fault of a device
 abbrev pub IsNoVerdict : Refusal → Type 0
 IsNoVerdict (DueRefusal due) = ⊥

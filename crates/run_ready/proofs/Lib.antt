@@ -11,3 +11,4 @@ pub mod LawLemmas
 pub mod IdentityLemmas
 pub mod LaterLemmas
 pub mod EpochLemmas
+pub mod RefusedLemmas

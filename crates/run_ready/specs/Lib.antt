@@ -3,6 +3,7 @@ pub mod Due
 pub mod Recordings
 pub mod Sizes
 pub mod Outcome
+pub mod Refused
 pub mod Stage
 pub mod Identities
 pub mod Props

@@ -58,6 +58,19 @@ key_name job number = option_map_or (λ (s : StationFields). s.key) (slice_get j
 abbrev pub scan_name : List Scan → ℕ → List ℕ
 scan_name scans number = option_map_or (λ (s : Scan). s.name) (slice_get scans number) []
 
+-- the name that a cause speaks of, empty where it speaks of a quantity
+abbrev pub cause_name : JobFields → List Scan → JoinFault → List ℕ
+cause_name job scans (UnknownScan number) = take_name job number
+cause_name job scans (UnknownStation number) = key_name job number
+cause_name job scans (RateDiffers number) = scan_name scans number
+cause_name job scans (ChannelDiffers number) = scan_name scans number
+cause_name job scans (ProductDiffers number) = scan_name scans number
+cause_name job scans (FrameRate number) = key_name job number
+cause_name job scans (NoModel number) = key_name job number
+cause_name job scans (NoClock number) = key_name job number
+cause_name job scans (Limit quantity value) = []
+cause_name job scans Memory = []
+
 -- the answer of a cause for which a job and a schedule do not go together
 abbrev pub cause_answer : JobFields → List Scan → JoinFault → Answer
 cause_answer job scans (UnknownScan number) = join_answer (UnknownScan number) (take_name job number)

@@ -11,10 +11,11 @@ ghost use Rattle.run_ready.specs.Sizes.{IsSizedBy, AreShelved};
 ghost use Rattle.run_ready.specs.Stage.{IsOfFiles};
 
 use crate::recordings::{StationFiles, add};
+use crate::refusals::recording_refusal;
 use dev_traits::Shelf;
-use frame_index::{Index, IndexFault};
+use frame_index::Index;
 use job_plan::StationPlan;
-use run_notes::{Due, Refusal};
+use run_notes::Refusal;
 use station_stream::Recording;
 use std::alloc::Global;
 
@@ -37,15 +38,10 @@ fn index_of<F: Shelf>(
     ensures counts { CountsReads (F.faults shelf.old) (F.faults shelf.new) result }
 {
     let StationFiles { files, slots: _ } = sized;
+    let key = station.key.copy(alloc)?;
     match Index::build(alloc, shelf, files.items(), &station.shape) {
         Ok(index) => Ok(Recording { files, index }),
-        Err(IndexFault::Read) => Err(Refusal::Read),
-        Err(IndexFault::NoFrameAgrees(field)) => {
-            let key = station.key.copy(alloc)?;
-            Err(Refusal::Due(Due::Recording(key, field)))
-        }
-        Err(IndexFault::TooManySlots) => unreachable!(),
-        Err(IndexFault::Memory) => Err(Refusal::Memory),
+        Err(fault) => Err(recording_refusal(fault, key)),
     }
 }
 

@@ -13,6 +13,7 @@ pub mod laws;
 mod order;
 mod ready;
 mod recordings;
+mod refusals;
 mod scans;
 mod surveys;
 mod texts;

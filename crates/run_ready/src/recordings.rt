@@ -10,6 +10,7 @@ ghost use Rattle.run_ready.specs.Recordings.{files_answer};
 ghost use Rattle.run_ready.specs.Sizes.{no_file, no_file_of, no_file_for, HasFiles, IsSizedBy, AreShelved, slots_together};
 ghost use Rattle.run_ready.specs.Stage.{IsOfFiles};
 
+use crate::refusals::within;
 use crate::texts::file_size;
 use dev_traits::Shelf;
 use frame_index::FileRef;
@@ -17,7 +18,7 @@ use item_list::ItemList;
 use job_join::Quantity;
 use job_plan::StationPlan;
 use num_time::Name;
-use run_notes::{Due, Refusal};
+use run_notes::Refusal;
 use std::alloc::{AllocError, Global};
 use vdif_frame::Shape;
 
@@ -177,8 +178,6 @@ pub fn files_of<F: Shelf>(
 {
     let sized = all_files(alloc, shelf, stations)?;
     let slots = slots_together(&sized);
-    if slots > MOST_SLOTS {
-        return Err(Refusal::Due(Due::Limit(Quantity::Slots, slots)));
-    }
+    within(Quantity::Slots, MOST_SLOTS, slots)?;
     Ok(sized)
 }

@@ -1,5 +1,5 @@
 //! The schedule and the job of an order, and the plan that comes of both.
-ghost use Rattle.std.specs.Prelude.{◌≡◌, ◌≢◌, ◌≤◌, ◌<◌, ◌^◌, length, IsTrue, IsSome, IfOk, IfErr, OnOk, Ok, Some};
+ghost use Rattle.std.specs.Prelude.{◌≡◌, ◌≤◌, ◌<◌, ◌^◌, length, IsTrue, IsSome, IfOk, IfErr, Ok, Some};
 ghost use Rattle.std.specs.List.{All};
 ghost use Rattle.std.specs.Str.{IsUtf8};
 ghost use Rattle.dev_traits.specs.Told.{WhereTold};
@@ -8,61 +8,28 @@ ghost use Rattle.job_epochs.specs.Sizes.{sizes_of};
 ghost use Rattle.job_text.specs.Answer.{job_in};
 ghost use Rattle.job_join.specs.Joined.{joined};
 ghost use Rattle.run_notes.specs.Answers.{job_answer};
-ghost use Rattle.run_notes.specs.Refusals.{IsCause, due_answer};
+ghost use Rattle.run_notes.specs.Refusals.{IsCause};
 ghost use Rattle.run_notes.specs.Counted.{CountsReads};
 ghost use Rattle.run_ready.specs.Steps.{Is, answered};
-ghost use Rattle.run_ready.specs.Outcome.{take_name, key_name, scan_name, cause_answer, ScansOf, ScheduleOf, JobOf};
+ghost use Rattle.run_ready.specs.Outcome.{take_name, key_name, scan_name, cause_name, cause_answer, ScansOf, ScheduleOf, JobOf};
 ghost use Rattle.run_ready.specs.Sizes.{HasFewFiles};
 ghost use Rattle.run_ready.specs.Stage.{IsOfFiles, IsOfTexts};
 
+use crate::refusals::{job_refusal, join_refusal, schedule_refusal, vex_refusal};
 use crate::texts::load_text;
 use dev_traits::Shelf;
 use job_join::{JoinFault, Quantity, join_job};
 use job_plan::Plan0;
-use job_text::{Job, JobFault, JobKind, read_job};
+use job_text::{Job, read_job};
 use num_time::Name;
-use run_notes::{Due, Refusal};
-use std::alloc::{AllocError, Global};
-use vex_reader::{VexFault, VexKind};
-use vex_schedule::{ScanList, SchedFault, SchedKind, schedule};
+use run_notes::Refusal;
+use std::alloc::Global;
+use vex_schedule::{ScanList, schedule};
 
 // The greatest lengths of a schedule and of a job's text, in bytes.
 const MOST_SCHEDULE_BYTES: u64 = 8_388_608;
 
 const MOST_JOB_BYTES: u64 = 4_194_304;
-
-// The refusal of a text that is no VEX file.
-fn vex_refusal(fault: VexFault) -> Refusal
-    ensures memory { fault.kind ≡ VexKind.Memory → result ≡ Refusal.Memory }
-    ensures due { fault.kind ≢ VexKind.Memory → result ≡ Refusal.Due (Due.Vex fault) }
-{
-    match fault.kind {
-        VexKind::Memory => Refusal::Memory,
-        _ => Refusal::Due(Due::Vex(fault)),
-    }
-}
-
-// The refusal of a VEX file without a schedule.
-fn schedule_refusal(fault: SchedFault) -> Refusal
-    ensures memory { fault.kind ≡ SchedKind.Memory → result ≡ Refusal.Memory }
-    ensures due { fault.kind ≢ SchedKind.Memory → result ≡ Refusal.Due (Due.Schedule fault) }
-{
-    match fault.kind {
-        SchedKind::Memory => Refusal::Memory,
-        _ => Refusal::Due(Due::Schedule(fault)),
-    }
-}
-
-// The refusal of a text without a job.
-fn job_refusal(fault: JobFault) -> Refusal
-    ensures memory { fault.kind ≡ JobKind.Memory → result ≡ Refusal.Memory }
-    ensures due { fault.kind ≢ JobKind.Memory → result ≡ Refusal.Due (Due.Job fault) }
-{
-    match fault.kind {
-        JobKind::Memory => Refusal::Memory,
-        _ => Refusal::Due(Due::Job(fault)),
-    }
-}
 
 // The scans of a schedule's text.
 fn scans_of(alloc: Global, text: &[u8]) -> Result<ScanList, Refusal>
@@ -154,54 +121,52 @@ pub fn load_job<F: Shelf>(
 }
 
 // The name of a take of a job.
-fn take_name(alloc: Global, job: &Job, number: usize) -> Result<Name, AllocError>
-    ensures { IfOk result (λ name. name ≡ take_name job.now number) }
+fn take_name(job: &Job, number: usize) -> &[u8]
+    ensures { result.now ≡ take_name job.now number }
 {
     if number < job.takes.len() {
         let (name, _) = job.takes.at(number);
-        Name::new(alloc, name)
+        name
     } else {
-        Name::new(alloc, &[])
+        &[]
     }
 }
 
 // The key of a station of a job.
-fn key_name(alloc: Global, job: &Job, number: usize) -> Result<Name, AllocError>
-    ensures { IfOk result (λ name. name ≡ key_name job.now number) }
+fn key_name(job: &Job, number: usize) -> &[u8]
+    ensures { result.now ≡ key_name job.now number }
 {
     match job.stations.items().get(number) {
-        Some(station) => station.key.copy(alloc),
-        None => Name::new(alloc, &[]),
+        Some(station) => station.key.bytes(),
+        None => &[],
     }
 }
 
 // The name of a scan of a schedule.
-fn scan_name(alloc: Global, list: &ScanList, number: usize) -> Result<Name, AllocError>
-    ensures { IfOk result (λ name. name ≡ scan_name list.now.scans number) }
+fn scan_name(list: &ScanList, number: usize) -> &[u8]
+    ensures { result.now ≡ scan_name list.now.scans number }
 {
     match list.scans.items().get(number) {
-        Some(scan) => scan.name.copy(alloc),
-        None => Name::new(alloc, &[]),
+        Some(scan) => scan.name.bytes(),
+        None => &[],
     }
 }
 
-// The verdict of a cause for which a job and a schedule do not go together.
-fn join_due(alloc: Global, job: &Job, list: &ScanList, fault: JoinFault) -> Result<Due, AllocError>
-    ensures due { IfOk result (λ due. due_answer due ≡ cause_answer job.now list.now.scans fault) }
-    ensures memory { OnOk result (fault ≢ JoinFault.Memory) }
-    ensures stage { IfOk result (λ due. IsOfTexts (Refusal.Due due)) }
+// The name of the take, the station or the scan that a cause speaks of, empty where it speaks of none.
+fn cause_name<'a>(job: &'a Job, list: &'a ScanList, fault: JoinFault) -> &'a [u8]
+    ensures { result.now ≡ cause_name job.now list.now.scans fault }
 {
     match fault {
-        JoinFault::UnknownScan(n) => Ok(Due::Join(fault, take_name(alloc, job, n)?)),
-        JoinFault::UnknownStation(n) => Ok(Due::Join(fault, key_name(alloc, job, n)?)),
-        JoinFault::RateDiffers(n) => Ok(Due::Join(fault, scan_name(alloc, list, n)?)),
-        JoinFault::ChannelDiffers(n) => Ok(Due::Join(fault, scan_name(alloc, list, n)?)),
-        JoinFault::ProductDiffers(n) => Ok(Due::Join(fault, scan_name(alloc, list, n)?)),
-        JoinFault::FrameRate(n) => Ok(Due::Join(fault, key_name(alloc, job, n)?)),
-        JoinFault::NoModel(n) => Ok(Due::Join(fault, key_name(alloc, job, n)?)),
-        JoinFault::NoClock(n) => Ok(Due::Join(fault, key_name(alloc, job, n)?)),
-        JoinFault::Limit(quantity, value) => Ok(Due::Limit(quantity, value)),
-        JoinFault::Memory => Err(AllocError),
+        JoinFault::UnknownScan(n) => take_name(job, n),
+        JoinFault::UnknownStation(n) => key_name(job, n),
+        JoinFault::RateDiffers(n) => scan_name(list, n),
+        JoinFault::ChannelDiffers(n) => scan_name(list, n),
+        JoinFault::ProductDiffers(n) => scan_name(list, n),
+        JoinFault::FrameRate(n) => key_name(job, n),
+        JoinFault::NoModel(n) => key_name(job, n),
+        JoinFault::NoClock(n) => key_name(job, n),
+        JoinFault::Limit(_, _) => &[],
+        JoinFault::Memory => &[],
     }
 }
 
@@ -221,6 +186,9 @@ pub fn plan_of(alloc: Global, job: &Job, list: &ScanList) -> Result<Plan0, Refus
             let _ranges = plan.plan();
             Ok(plan)
         }
-        Err(fault) => Err(Refusal::Due(join_due(alloc, job, list, fault)?)),
+        Err(fault) => {
+            let name = Name::new(alloc, cause_name(job, list, fault))?;
+            Err(join_refusal(fault, name))
+        }
     }
 }

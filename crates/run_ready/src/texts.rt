@@ -12,10 +12,11 @@ ghost use Rattle.run_ready.specs.Sizes.{no_file, ReadsOn};
 ghost use Rattle.run_ready.specs.Outcome.{text_under};
 ghost use Rattle.run_ready.specs.Stage.{IsOfFiles};
 
+use crate::refusals::{there, within};
 use dev_traits::{Failed, Shelf};
 use job_join::Quantity;
 use num_time::Name;
-use run_notes::{Due, Refusal};
+use run_notes::Refusal;
 use std::alloc::Global;
 
 // A name, as the text that it is.
@@ -35,11 +36,12 @@ pub fn file_size<F: Shelf>(alloc: Global, shelf: &mut F, name: &Name) -> Result<
     ensures stage { IfErr result IsOfFiles }
     ensures counts { CountsReads (F.faults shelf.old) (F.faults shelf.new) result }
 {
-    match shelf.size(text_of(name)) {
-        Ok(Some(size)) => Ok(size),
-        Ok(None) => Err(Refusal::Due(Due::NoFile(name.copy(alloc)?))),
-        Err(_) => Err(Refusal::Read),
-    }
+    let named = name.copy(alloc)?;
+    let Ok(size) = shelf.size(text_of(name)) else {
+        return Err(Refusal::Read);
+    };
+    let length = there(size, named)?;
+    Ok(length)
 }
 
 /// The bytes of a file, of which no more than `most` are read. Its size is looked at before it is read; those bytes that the
@@ -61,9 +63,7 @@ pub fn load_text<F: Shelf>(
     ensures counts { CountsReads (F.faults shelf.old) (F.faults shelf.new) result }
 {
     let size = file_size(alloc, shelf, name)?;
-    if size > most {
-        return Err(Refusal::Due(Due::Limit(quantity, u128::from(size))));
-    }
+    within(quantity, u128::from(most), u128::from(size))?;
     read_whole(alloc, shelf, name, size)
 }
 

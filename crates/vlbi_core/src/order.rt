@@ -2,6 +2,7 @@
 ghost use Rattle.std.specs.Prelude.{◌≡◌, Ok, IfOk, IfErr};
 ghost use Rattle.run_words.specs.Orders.{AreTexts};
 ghost use Rattle.vlbi_core.specs.Calls.{texts_of, order_in};
+ghost use Rattle.vlbi_core.specs.Faults.{words_refusal};
 ghost use Rattle.vlbi_core.specs.Steps.{IsNumbered, IsOfWords};
 
 use run_notes::{Due, Refusal};
@@ -17,7 +18,16 @@ pub fn read_order(alloc: Global, words: &[String]) -> Result<Order, Refusal>
 {
     match read_words(alloc, words) {
         Ok(order) => Ok(order),
-        Err(WordsFault::Memory) => Err(Refusal::Memory),
-        Err(fault) => Err(Refusal::Due(Due::Words(fault))),
+        Err(fault) => Err(words_refusal(fault)),
+    }
+}
+
+// The refusal of words that give no order.
+fn words_refusal(fault: WordsFault) -> Refusal
+    ensures { result ≡ words_refusal fault }
+{
+    match fault {
+        WordsFault::Memory => Refusal::Memory,
+        _ => Refusal::Due(Due::Words(fault)),
     }
 }

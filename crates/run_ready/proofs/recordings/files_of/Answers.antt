@@ -26,22 +26,24 @@ slots_together-slots-requires-clause-bounds g c =
     subst (All (λ (z : StationFiles). z.slots < 2 ^ 96)) (sym c.deref.ensures.value)
     (bound-sized c.args.stations.now c.in_ok-sized.sized.items c.in_ok-sized.ensures.sized)
 
-pub returns-then-slots-gt-MOST_SLOTS-clause-due : goal.returns-then-slots-gt-MOST_SLOTS-clause-due
-returns-then-slots-gt-MOST_SLOTS-clause-due g c =
-    WhereTold-both (g.F.Shelf.told c.args.shelf.now) _ _ _
+pub returns-in_err-within-clause-due : goal.returns-in_err-within-clause-due
+returns-in_err-within-clause-due g c =
+    let p = err_from_is_err_and c.from_residual-in_err-within.result c.from_residual-in_err-within.ensures.1 in
+    rw (p.1, p.2, c.in_err-within.ensures.past.1)
+    (WhereTold-both (g.F.Shelf.told c.args.shelf.now) _ _ _
     (λ files are none. files_answer-slots files c.args.stations.now c.in_ok-sized.sized.items c.slots_together-slots.result
-    c.in_ok-sized.ensures.sized are (c.slots_together-slots.ensures ∙ ap slots_together c.deref.ensures.value) none c.if-slots-gt-MOST_SLOTS.true)
-    c.in_ok-sized.ensures.shelved c.in_ok-sized.ensures.there
+    c.in_ok-sized.ensures.sized are (c.slots_together-slots.ensures ∙ ap slots_together c.deref.ensures.value) none c.in_err-within.ensures.past.0)
+    c.in_ok-sized.ensures.shelved c.in_ok-sized.ensures.there)
 
 pub returns-clause-slots : goal.returns-clause-slots
 returns-clause-slots g c =
     let few : slots_together c.in_ok-sized.sized.items ≤ 2 ^ 26 =
-    omega (arith, c.slots_together-slots.ensures ∙ ap slots_together c.deref.ensures.value, c.if-slots-gt-MOST_SLOTS.false) in
+    omega (arith, c.slots_together-slots.ensures ∙ ap slots_together c.deref.ensures.value, c.in_ok-within.ensures.within) in
     few-together c.in_ok-sized.sized.items few
 
 pub returns-clause-accepted : goal.returns-clause-accepted
 returns-clause-accepted g c =
     WhereTold-both (g.F.Shelf.told c.args.shelf.now) _ _ _
     (λ files are none. files_answer-none files c.args.stations.now c.in_ok-sized.sized.items c.slots_together-slots.result
-    c.in_ok-sized.ensures.sized are (c.slots_together-slots.ensures ∙ ap slots_together c.deref.ensures.value) none c.if-slots-gt-MOST_SLOTS.false)
+    c.in_ok-sized.ensures.sized are (c.slots_together-slots.ensures ∙ ap slots_together c.deref.ensures.value) none c.in_ok-within.ensures.within)
     c.in_ok-sized.ensures.shelved c.in_ok-sized.ensures.there

@@ -204,12 +204,13 @@ def values(job: Job, key: str, channel: str, scan: Scan, folder: str) -> tuple[C
 
 
 def sectors(delay: Integers, hertz: int, turn: int) -> Integers:
-    """16 * hertz * delay / turn, modulo 16, of each delay: the product modulo a turn by digits of eight bits, so that none is too large."""
-    assert turn < 2 ** 54
+    """16 * hertz * delay / turn, modulo 16, of each delay: the product modulo a turn digit by digit, so that nothing passes 63 bits."""
+    digit = min(62 - turn.bit_length(), 8)
+    assert digit >= 4
     left = delay % turn
     rest = numpy.zeros_like(delay)
-    for shift in range(48, -1, -8):
-        rest = (rest * 256 + hertz * (left >> shift & 255)) % turn
+    for place in reversed(range(0, turn.bit_length(), digit)):
+        rest = ((rest << digit) + hertz * (left >> place & ((1 << digit) - 1))) % turn
     return 16 * rest // turn
 
 

@@ -273,6 +273,29 @@ def test_one_bit(tmp_path: Path) -> None:
     check_fringes(Sky((Station("Ef"), Station("Wb", delay=(1e-4, 1.1e-6))), rate=400_000, seconds=2, bits=1, common=0.3), tmp_path)
 
 
+def test_what_the_rest_of_a_sample_costs(tmp_path: Path) -> None:
+    """The figures of docs/GUIDE.md: of theory, and in recordings in which the delays of two stations run through whole samples."""
+    assert [round(100 * theory.loss_of_rests(stations), 1) for stations in (1, 2)] == [12.7, 22.6]
+    assert [round(100 * theory.loss_of_rests(stations, 0.25), 1) for stations in (1, 2)] == [3.4, 6.5]
+    assert [round(100 * theory.loss_in_each(stations), 1) for stations in (1, 2)] == [3.4, 6.5]
+    assert [round(100 * (1 - abs(theory.coherence(rest))), 1) for rest in (0.1, 0.25, 0.5)] == [0.4, 2.6, 10.0]
+    stations = (Station("A"), Station("B", delay=(1e-5, 12.5e-6)), Station("C", delay=(2e-5, -8.75e-6)))
+    sky = Sky(stations, rate=400_000, seconds=2, common=0.4, frequency=400_000_000)
+    scan = correlated(sky, tmp_path, 2, 8000).scans[0]
+    for baseline, (a, b) in enumerate(scan.baselines):
+        whole = theory.rotated_amplitude(sky.common, numpy.zeros(1), sky.bits, both=a > 0)
+        runs = 2 if a > 0 else 1
+        assert 1 - standing(scan, 0, baseline) / whole == pytest.approx(theory.loss_of_rests(runs), abs=0.02)
+
+
+@pytest.mark.parametrize("sideband", ["U", "L"])
+def test_the_phase_of_a_rest(tmp_path: Path, sideband: str) -> None:
+    """A rest of a quarter of a sample at the second station turns the phase by 90 / 4 degrees, in either sideband."""
+    sky = Sky((Station("A"), Station("B", delay=(0.25 / 400_000, 1e-8))), rate=400_000, seconds=1, common=0.5, sideband=sideband)
+    cells = correlated(sky, tmp_path, 2, 100_000).scans[0].cells[:, 0, 0, 1]
+    assert numpy.angle((cells["re"] + 1j * cells["im"]).sum(), deg=True) == pytest.approx(22.5, abs=2)
+
+
 def test_what_is_missing_is_counted(tmp_path: Path) -> None:
     sky = Sky(SMALL.stations, rate=80_000, seconds=10, missing=0.3, invalid=0.2)
     scan = correlated(sky, tmp_path, 2, auto=True).scans[0]

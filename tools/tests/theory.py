@@ -67,6 +67,24 @@ def coherence(samples: ArrayLike) -> Complexes:
     return resemblance
 
 
+def loss_of_rests(stations: int, band: float = 0.5) -> float:
+    """The part of the amplitude that is lost where so many stations of a baseline, 1 or 2, have rests of a sample that run through -1/2 to 1/2.
+
+    band  the band's width in turns a sample: 1/2 where there are no more samples than it needs
+    """
+    turns = band * (NODES + 1) / 2
+    return float(1 - (numpy.sinc(turns) ** stations * WEIGHTS).sum() / 2)
+
+
+def loss_in_each(stations: int) -> float:
+    """The same where each rest is seen by itself, and the phase that it makes is turned back: by the mean of |coherence|."""
+    if stations == 1:
+        return float(1 - (abs(coherence((NODES + 1) / 4)) * WEIGHTS).sum() / 2)
+    # a difference of two rests lies between -1 and 1, and is the rarer the larger it is
+    places = (NODES + 1) / 2
+    return float(1 - (abs(coherence(places)) * (1 - places) * WEIGHTS).sum())
+
+
 def rotated_amplitude(common: float, residuals: Reals, bits: int, both: bool = False) -> float:
     """The amplitude at the lag nearest to a fringe that a job takes out, fast against its integrations.
 

@@ -32,12 +32,12 @@ def earth(late: float, phase: float) -> list[float]:
     return [late * w ** k / math.factorial(k) * math.cos(phase + k * math.pi / 2) for k in range(6)]
 
 
-@pytest.mark.parametrize("rate, knot", [(2_000_000, 16384), (4_000_000, 32768), (32_000_000, 32768), (128_000_000, 32768)])
+@pytest.mark.parametrize("rate, knot", [(1_000_000, 8192), (2_000_000, 16384), (4_000_000, 16384), (8_000_000, 32768), (128_000_000, 32768)])
 def test_a_real_delay_names_its_knot(rate: int, knot: int) -> None:
     """The 21 milliseconds of the earth's radius, at the worst of many phases, go into every job with the knot that is named."""
     delays = [earth(0.021, phase / 10) for phase in range(63)]
     found = jobs.largest_knot(delays, rate)
-    assert found is not None and found <= knot
+    assert found == knot
     assert jobs.knot_line(delays, rate) == f"knot {found}"
     for delay in delays:
         jobs.poly_line("Wb", 1262304000, delay, rate, found)

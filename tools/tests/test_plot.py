@@ -11,6 +11,7 @@ from pathlib import Path
 import numpy
 import pytest
 import record_files
+from matplotlib.figure import Figure
 
 from vlbi import fringe as fringes
 from vlbi import plot as drawing
@@ -118,7 +119,13 @@ def test_no_pairs(folder: Folder) -> None:
     assert folder.call(file.tobytes(), "sky.vis", "picture.png") == (0, ["picture.png"], "")
 
 
-def test_one_picture_of_many_fringes(folder: Folder) -> None:
+@pytest.fixture
+def empty_figures(monkeypatch: pytest.MonkeyPatch) -> None:
+    """Figures without anything in them, which take no time."""
+    monkeypatch.setattr(drawing, "figure_of", lambda *_: Figure())
+
+
+def test_one_picture_of_many_fringes(folder: Folder, empty_figures: None) -> None:
     """180 fringes, 10 baselines of 18 products: one picture, and a line that says how to get the others."""
     status, pictures, said = folder.call(fringe_file(2, products=18), "sky.vis", "picture.png")
     assert (status, pictures) == (0, ["picture.png"])
@@ -133,7 +140,7 @@ def test_pages_hold_ten_rows() -> None:
         assert {(pair.baseline, pair.product) for page in pages for pair in page} == {(pair.baseline, pair.product) for pair in pairs}
 
 
-def test_all_pages(folder: Folder, monkeypatch: pytest.MonkeyPatch) -> None:
+def test_all_pages(folder: Folder, monkeypatch: pytest.MonkeyPatch, empty_figures: None) -> None:
     monkeypatch.setattr(drawing, "ROWS", 1)
     file = fringe_file(1, BASELINES[:3])
     assert folder.call(file, "--pages", "sky.vis", "picture.pdf") == (0, ["picture.pdf"], "")
@@ -173,7 +180,7 @@ def test_what_is_wrong_is_one_line(folder: Folder, monkeypatch: pytest.MonkeyPat
 
 def test_a_picture_that_cannot_be_written(folder: Folder) -> None:
     os.symlink("/dev/full", folder.path / "full.png")
-    status, _, err = folder.call(FILE, "sky.vis", "full.png")
+    status, _, err = folder.call(FILE, "--baseline", "Ef-Wb", "sky.vis", "full.png")
     assert (status, err) == (1, "vlbi-plot: full.png: No space left on device\n")
 
 

@@ -278,7 +278,7 @@ def test_what_the_rest_of_a_sample_costs(tmp_path: Path) -> None:
     assert [round(100 * theory.loss_of_rests(stations), 1) for stations in (1, 2)] == [12.7, 22.6]
     assert [round(100 * theory.loss_of_rests(stations, 0.25), 1) for stations in (1, 2)] == [3.4, 6.5]
     assert [round(100 * theory.loss_in_each(stations), 1) for stations in (1, 2)] == [3.4, 6.5]
-    assert [round(100 * (1 - abs(theory.coherence(rest))), 1) for rest in (0.1, 0.25, 0.5)] == [0.4, 2.6, 10.0]
+    assert [round(100 * float(1 - abs(theory.coherence(rest))), 1) for rest in (0.1, 0.25, 0.5)] == [0.4, 2.6, 10.0]
     stations = (Station("A"), Station("B", delay=(1e-5, 12.5e-6)), Station("C", delay=(2e-5, -8.75e-6)))
     sky = Sky(stations, rate=400_000, seconds=2, common=0.4, frequency=400_000_000)
     scan = correlated(sky, tmp_path, 2, 8000).scans[0]

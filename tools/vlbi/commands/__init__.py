@@ -54,6 +54,7 @@ def told(name: str, work: Callable[[], int]) -> int:
     except OSError as error:
         words = f"{error.filename}: {error.strerror}" if error.filename else str(error.strerror or error)
     except KeyboardInterrupt:
-        words = "interrupted"
+        print(f"{name}: interrupted", file=sys.stderr)
+        return 130
     print(f"{name}: {words}", file=sys.stderr)
     return 1

@@ -181,7 +181,8 @@ def test_earth_orientation() -> None:
 
 
 @pytest.mark.parametrize("old, new, asked, said", [
-    (b"4900.43100170 km", b"4900 miles", lambda it: it.site("Ef"), f"sky.vex: def EFLSBERG of $SITE at byte {SKY.index(b'def EFLSBERG; site')}: no number in m, km: 4900 miles"),
+    (b"4900.43100170 km", b"4900 miles", lambda it: it.site("Ef"),
+     f"sky.vex: def EFLSBERG of $SITE at byte {SKY.index(b'def EFLSBERG; site')}: no number in m, km: 4900 miles"),
     (b"ref $SITE = EFLSBERG;", b"", lambda it: it.site("Ef"), "sky.vex: station Ef has no ref $SITE"),
     (b"ref $SITE = EFLSBERG;", b"", lambda it: it.site("On"), "sky.vex: no On in $STATION"),
     (b"ra = 03h", b"ra = 3 h", lambda it: it.sources, "no single word: 3 h19m48.1600960s"),

@@ -14,7 +14,7 @@ PREFIX = /usr/local
 DESTDIR =
 CPU =
 PYTHON = /usr/bin/python3
-VERSION := 0.1$(shell git rev-parse 2> /dev/null && echo .$$(git rev-list --count HEAD)+$$(git rev-parse --short HEAD))
+VERSION := $(shell sed -n 's/^__version__ = "\(.*\)"/\1/p' tools/vlbi/__init__.py)$(shell git rev-parse 2> /dev/null && echo .$$(git rev-list --count HEAD)+$$(git rev-parse --short HEAD))
 ARCH = $(shell dpkg --print-architecture)
 
 PROGRAM = crates/vlbi_main/out/vlbi_main
@@ -22,8 +22,9 @@ SOURCES = crates.txt $(shell find crates -path '*/out' -prune -o \( -name '*.rt'
 BUILT = bin/vlbi$(CPU:%=-%)
 
 TO = $(DESTDIR)$(PREFIX)
-# Debian's python3 looks for modules in one folder below /usr, and below /usr/local in one for each version.
+# Debian's python3 looks for packages in one folder below /usr, and below /usr/local in one for each version.
 LIB = lib/$(if $(filter /usr/local,$(PREFIX)),$(shell $(PYTHON) -c 'import sys; print("python%d.%d" % sys.version_info[:2])'),python3)/dist-packages
+COMMANDS = $(shell sed -n 's/^vlbi-\([a-z]*\) = .*/\1/p' tools/pyproject.toml)
 PACKAGE = bin/vlbi_$(VERSION)_$(ARCH).deb
 
 .PHONY: program demo example test fringe install deb
@@ -55,28 +56,36 @@ test:
 fringe: bin/vlbi
 	@$(PYTHON) tools/tests/fringe.py bin/vlbi fringe
 
-# The tools are kept in one folder, where they find each other; the commands and Python's folder of modules have links to them.
+# A command finds the package by its own place, so that any prefix will do; Python is told by PYTHONPATH where it does not look there.
 install: $(BUILT)
-	@install -d $(TO)/bin $(TO)/share/vlbi $(TO)/$(LIB) $(TO)/share/man/man1 $(TO)/share/doc/vlbi/docs/pictures $(TO)/share/doc/vlbi/demo
+	@install -d $(TO)/bin $(TO)/$(LIB)/vlbi/commands $(TO)/share/man/man1 $(TO)/share/doc/vlbi/docs/pictures $(TO)/share/doc/vlbi/demo
 	@install -m 755 $(BUILT) $(TO)/bin/vlbi
-	@install -m 644 tools/vlbi_*.py $(TO)/share/vlbi
-	@chmod 755 $(TO)/share/vlbi/vlbi_plot.py $(TO)/share/vlbi/vlbi_simulate.py
-	@ln -sf ../share/vlbi/vlbi_plot.py $(TO)/bin/vlbi-plot
-	@ln -sf ../share/vlbi/vlbi_simulate.py $(TO)/bin/vlbi-simulate
-	@for file in tools/vlbi_*.py; do ln -sf ../../../share/vlbi/$${file##*/} $(TO)/$(LIB); done
-	@for page in man/*.1; do gzip -9nc $$page > $(TO)/share/man/man1/$${page##*/}.gz; done
+	@install -m 644 tools/vlbi/*.py tools/vlbi/py.typed $(TO)/$(LIB)/vlbi
+	@install -m 644 tools/vlbi/commands/*.py $(TO)/$(LIB)/vlbi/commands
+	@sed -i 's/^__version__ = .*/__version__ = "$(VERSION)"/' $(TO)/$(LIB)/vlbi/__init__.py
+	@for name in $(COMMANDS); do rm -f $(TO)/bin/vlbi-$$name; \
+	    sed "s|@PYTHON@|$(PYTHON)|; s|@LIB@|$(LIB)|; s|@NAME@|$$name|" packaging/command > $(TO)/bin/vlbi-$$name; chmod 755 $(TO)/bin/vlbi-$$name; done
+	@for page in man/*.1; do sed 's|/usr/share/doc/vlbi|$(PREFIX)/share/doc/vlbi|' $$page | gzip -9n > $(TO)/share/man/man1/$${page##*/}.gz; done
 	@install -m 644 README.md $(TO)/share/doc/vlbi
 	@install -m 644 docs/*.md $(TO)/share/doc/vlbi/docs
 	@install -m 644 docs/pictures/* $(TO)/share/doc/vlbi/docs/pictures
 	@install -m 644 demo/*.vdif demo/*.txt demo/*.vex $(TO)/share/doc/vlbi/demo
 	@echo "installed in $(TO)"
+	@$(PYTHON) -c 'import sys; sys.exit("$(abspath $(PREFIX))/$(LIB)" not in sys.path)' || \
+	    echo "for Python to find the package vlbi: export PYTHONPATH=$(abspath $(PREFIX))/$(LIB)"
 
 deb: $(BUILT)
 	@rm -rf bin/deb bin/vlbi_*.deb
 	@$(MAKE) -s install PREFIX=/usr DESTDIR=bin/deb > /dev/null
+	@strip --strip-unneeded --remove-section=.comment --remove-section=.note bin/deb/usr/bin/vlbi
+	@install -m 644 packaging/copyright bin/deb/usr/share/doc/vlbi
+	@sed -e 's/@VERSION@/$(VERSION)/' -e "s/@DATE@/$$(git log -1 --format=%cD 2> /dev/null || date -R)/" packaging/changelog | \
+	    gzip -9n > bin/deb/usr/share/doc/vlbi/changelog.gz
 	@install -d bin/deb/DEBIAN
 	@sed -e 's/@VERSION@/$(VERSION)/; s/@ARCH@/$(ARCH)/' -e "s/@SIZE@/$$(du -sk bin/deb/usr | cut -f 1)/" \
 	    -e "s/@LIBC@/$$(grep -ao 'GLIBC_[0-9.]*' $(BUILT) | sed 's/GLIBC_//' | sort -V | tail -1)/" packaging/control > bin/deb/DEBIAN/control
+	@(cd bin/deb && find usr -type f -exec md5sum {} +) > bin/deb/DEBIAN/md5sums
+	@chmod -R u=rwX,go=rX bin/deb
 	@dpkg-deb --root-owner-group --build bin/deb $(PACKAGE) > /dev/null
 	@rm -r bin/deb
 	@echo $(PACKAGE)

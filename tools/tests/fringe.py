@@ -6,48 +6,51 @@
 FOLDER gets the recordings, the records sky.vis and blind.vis, and the pictures sky.png and blind.png. The exit status is 1 where a
 number is not what theory says.
 """
+from __future__ import annotations
+
 import os
 import subprocess
 import sys
 
 import numpy
 
-HERE = os.path.dirname(os.path.abspath(__file__))
-sys.path.insert(0, os.path.dirname(HERE))
+if __name__ == "__main__":
+    sys.path.insert(0, os.path.dirname(os.path.dirname(os.path.abspath(__file__))))
+
 import theory
-import vlbi_fringe
-import vlbi_plot
-import vlbi_records
-import vlbi_simulate
 
-STATIONS = (vlbi_simulate.Station("Ef"), vlbi_simulate.Station("Wb", delay=(4.95e-6, 1e-8), clock=(2.5e-6,)))
+from vlbi import fringe as fringes
+from vlbi import records, simulate
+from vlbi.commands import plot
+
+STATIONS = (simulate.Station("Ef"), simulate.Station("Wb", delay=(4.95e-6, 1e-8), clock=(2.5e-6,)))
 
 
-def correlate(program, folder, job, records):
+def correlate(program: str, folder: str, job: str, out_name: str) -> records.Records:
     """Runs a job of a folder by `run` with four workers; what it prints goes into a file there."""
     journal = os.path.join(folder, f"{job}.journal")
     if os.path.exists(journal):
         os.remove(journal)
     words = [program, f"{job}.journal", "run", "--job", f"{job}.txt", "--vex", "sky.vex", "--workers", "4", "--piece", "65536"]
-    with open(os.path.join(folder, records), "wb") as out:
+    with open(os.path.join(folder, out_name), "wb") as out:
         subprocess.run(words, cwd=folder, stdout=out, check=True)
-    return vlbi_records.read(os.path.join(folder, records))
+    return records.read(os.path.join(folder, out_name))
 
 
 class Comparison:
     """Numbers found and due, a line each; `failed` once one is further off than it may be."""
 
-    def __init__(self):
+    def __init__(self) -> None:
         self.failed = False
         print(f"{'':34} {'theory':>10} {'found':>10} {'may differ by':>14}")
 
-    def line(self, what, due, found, most):
+    def line(self, what: str, due: float, found: float, most: float) -> None:
         wrong = not abs(found - due) <= most
         self.failed = self.failed or wrong
         print(f"{what:34} {due:10.4f} {found:10.4f} {most:14.4f}{'  WRONG' * wrong}")
 
 
-def compare(sky, records, blind):
+def compare(sky: simulate.Sky, found: records.Records, blind: records.Records) -> bool:
     """Compares the fringes of both jobs with theory; whether all is as due."""
     lead = STATIONS[1].lead(numpy.linspace(0, sky.seconds, 201)) * sky.rate
     residuals = lead - numpy.floor(lead + 0.5)
@@ -57,15 +60,15 @@ def compare(sky, records, blind):
     middle = sky.frequency + sky.rate / 4
     said = Comparison()
 
-    fringe = vlbi_fringe.of(records.scans[0], 0, 0)
+    fringe = fringes.of(found.scans[0], 0, 0)
     said.line("with delays: lag (samples)", 0, fringe.lag, 0.5)
     said.line("with delays: rate (Hz)", 0, fringe.rate, bin_width)
     due = theory.rotated_amplitude(sky.common, residuals, sky.bits)
     said.line("with delays: amplitude", due, fringe.amplitude, 0.05 * due)
-    phases = numpy.angle(records.scans[0].means(0, 0)[:, fringe.nearest], deg=True)
-    said.line("with delays: furthest phase (deg)", 0, numpy.abs(phases).max(), 25)
+    phases = numpy.angle(found.scans[0].means(0, 0)[:, fringe.nearest], deg=True)
+    said.line("with delays: furthest phase (deg)", 0, float(numpy.abs(phases).max()), 25)
 
-    fringe = vlbi_fringe.of(blind.scans[0], 0, 0)
+    fringe = fringes.of(blind.scans[0], 0, 0)
     said.line("without: lag (samples)", lead.mean(), fringe.lag, 0.5)
     # both values are real, so a fringe turns one way as much as the other
     said.line("without: rate, either way (Hz)", middle * slope, abs(fringe.rate), bin_width)
@@ -74,15 +77,15 @@ def compare(sky, records, blind):
     return not said.failed
 
 
-def main(program, folder, seconds="10"):
+def main(program: str, folder: str, seconds: str = "10") -> int:
     program = os.path.abspath(program)
-    sky = vlbi_simulate.Sky(STATIONS, seconds=int(seconds))
-    vlbi_simulate.simulate(sky, folder)
-    records = correlate(program, folder, "job", "sky.vis")
+    sky = simulate.Sky(STATIONS, seconds=int(seconds))
+    simulate.simulate(sky, folder)
+    found = correlate(program, folder, "job", "sky.vis")
     blind = correlate(program, folder, "blind", "blind.vis")
     for name in ("sky", "blind"):
-        vlbi_plot.main([os.path.join(folder, f"{name}.vis"), os.path.join(folder, f"{name}.png")])
-    return 0 if compare(sky, records, blind) else 1
+        plot.main([os.path.join(folder, f"{name}.vis"), os.path.join(folder, f"{name}.png")])
+    return 0 if compare(sky, found, blind) else 1
 
 
 if __name__ == "__main__":

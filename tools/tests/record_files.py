@@ -1,17 +1,20 @@
 """Record files of random content, made field by field, and changed."""
+from __future__ import annotations
+
 import random
 import struct
+from collections.abc import Iterator
 
 
-def name(text):
+def name(text: bytes) -> bytes:
     return struct.pack("<H", len(text)) + text
 
 
-def random_name(draw):
+def random_name(draw: random.Random) -> bytes:
     return bytes(draw.choice(b"ABCXYZabc0189_\xc3\xa9\xff") for _ in range(draw.randint(1, 6)))
 
 
-def random_file(draw):
+def random_file(draw: random.Random) -> tuple[bytes, bytes]:
     """A record file of few cells, by this random.Random: its bytes, and the lines that `dump` prints of it."""
     lags = 2 * draw.randint(1, 4)
     integration = draw.randint(1, 50)
@@ -25,7 +28,9 @@ def random_file(draw):
     lines += [b"product %d %s %s" % (number, x, y) for number, (x, y) in enumerate(products)]
     scans = draw.randint(0, 3)
     head.append(struct.pack("<I", scans))
-    body, cells, records = [], [], 0
+    body: list[bytes] = []
+    cells: list[bytes] = []
+    records = 0
     for scan in range(scans):
         scan_name, start, samples = random_name(draw), draw.randint(0, 2 ** 32 - 1), draw.choice((0, draw.randint(1, 150)))
         all_pairs = [(a, b) for a in range(len(keys)) for b in range(a, len(keys))]
@@ -48,7 +53,7 @@ def random_file(draw):
     return b"".join(head + body + [end]), b"".join(line + b"\n" for line in lines + cells)
 
 
-def changed(draw, file):
+def changed(draw: random.Random, file: bytes) -> bytes:
     """The file with a byte changed, its end cut off, or bytes behind it."""
     kind = draw.randrange(4)
     if kind == 0:
@@ -59,6 +64,6 @@ def changed(draw, file):
     return file[:at] + bytes([draw.choice((0, 1, 2, 255, draw.randrange(256)))]) + file[at + 1:]
 
 
-def cases(seed, count):
+def cases(seed: str, count: int) -> Iterator[random.Random]:
     """So many random.Random, each for a case of its own."""
     return (random.Random(f"{seed} {number}") for number in range(count))

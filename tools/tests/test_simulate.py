@@ -1,197 +1,314 @@
-"""`vlbi_simulate`: what it writes is what it says, and the program finds the fringes in it that theory asks for."""
+"""`vlbi.simulate` and `vlbi-simulate`: what is written is what was asked, and the fringes in it are those that theory asks for.
+
+The fringes are found by the program where VLBI names one, and else by the correlator in numpy beside this file.
+"""
+from __future__ import annotations
+
 import dataclasses
-import os
-import struct
-import sys
-import tempfile
-import unittest
+from pathlib import Path
 
-import numpy
-
-HERE = os.path.dirname(os.path.abspath(__file__))
-sys.path.insert(0, os.path.dirname(HERE))
+import correlator
 import fringe
+import numpy
 import program
+import pytest
 import theory
-import vlbi_fringe
-import vlbi_job
-import vlbi_records
-import vlbi_simulate
+from numpy.typing import NDArray
 
-SMALL = vlbi_simulate.Sky((vlbi_simulate.Station("A"), vlbi_simulate.Station("B")), rate=80_000, seconds=2)
+from vlbi import fringe as fringes
+from vlbi import job, records, vex
+from vlbi.commands import simulate as command
+from vlbi.simulate import BLOCK, THRESHOLD, CommonNoise, Sky, SkyFault, Station, codes_of, packed, simulate, wave_at
+
+SMALL = Sky((Station("A"), Station("B")), rate=80_000, seconds=2)
+ROOT = Path(__file__).resolve().parents[2]
 
 
-def frames_of(path, size):
-    """The headers of a recording's frames, uint32 (frames, 4), and their data, uint8 (frames, bytes)."""
+def frames_of(path: Path, size: int) -> tuple[NDArray[numpy.uint32], NDArray[numpy.uint8]]:
+    """The headers of a recording's frames, (frames, 4), and their data, (frames, bytes)."""
     frames = numpy.fromfile(path, numpy.uint8).reshape(-1, size)
-    return frames[:, :16].copy().view("<u4"), frames[:, 32:]
+    return frames[:, :16].copy().view(numpy.dtype("<u4")), frames[:, 32:]
 
 
-class Samples(unittest.TestCase):
-    def test_the_threshold_is_the_best(self):
-        self.assertAlmostEqual(vlbi_simulate.THRESHOLD, theory.best_threshold(), places=3)
+# Samples
 
-    def test_codes(self):
-        voltage = numpy.array([-1.0, -0.99, -0.01, 0.0, 0.99, 1.0])
-        self.assertEqual(vlbi_simulate.codes_of(voltage, 2).tolist(), [0, 1, 1, 2, 2, 3])
-        self.assertEqual(vlbi_simulate.codes_of(voltage, 1).tolist(), [0, 0, 0, 1, 1, 1])
-
-    def test_the_lowest_bits_come_first(self):
-        self.assertEqual(vlbi_simulate.packed(numpy.array([0, 1, 2, 3, 3, 0, 0, 0], numpy.uint8), 2).tolist(), [0xE4, 0x03])
-        self.assertEqual(vlbi_simulate.packed(numpy.array([0, 1, 0, 1, 0, 1, 0, 1], numpy.uint8), 1).tolist(), [0xAA])
-
-    def test_common_noise(self):
-        noise = vlbi_simulate.CommonNoise(3, 0)
-        places = numpy.arange(-1000, 3 * vlbi_simulate.BLOCK, dtype=numpy.float64)
-        at = noise.at(places)
-        self.assertAlmostEqual((abs(at) ** 2).mean(), 1, delta=0.02)
-        for later in (0.3, 1.0, 2.5):
-            found = (noise.at(places + later) * at.conj()).mean()
-            self.assertAlmostEqual(abs(found - theory.coherence(later)), 0, delta=0.02)
-
-    def test_a_wave_comes_late(self):
-        station = vlbi_simulate.Station("A", delay=(0.02, 1e-6, 1e-9), clock=(-3e-6, 1e-10))
-        recorded = numpy.array([0.0, 1e6, 2e7])
-        wave, lead = vlbi_simulate.wave_at(SMALL, station, recorded)
-        numpy.testing.assert_allclose(wave + SMALL.rate * station.lead(wave / SMALL.rate), recorded, rtol=0, atol=1e-6)
-        numpy.testing.assert_allclose(lead, station.lead(wave / SMALL.rate), rtol=0, atol=1e-13)
+def test_the_threshold_is_the_best() -> None:
+    assert THRESHOLD == pytest.approx(theory.best_threshold(), abs=5e-4)
 
 
-class Recordings(unittest.TestCase):
-    def simulated(self, **changes):
-        folder = tempfile.TemporaryDirectory()
-        self.addCleanup(folder.cleanup)
-        sky = dataclasses.replace(SMALL, **changes)
-        vlbi_simulate.simulate(sky, folder.name)
-        return sky, folder.name
-
-    def test_frames(self):
-        second = vlbi_job.second_of("2013y200d01h02m03s")
-        sky, folder = self.simulated(start=second, channels=2)
-        headers, data = frames_of(f"{folder}/B.vdif", sky.frame_bytes)
-        a_second = sky.rate // sky.frame_samples
-        self.assertEqual(len(headers), 2 * a_second)
-        july = vlbi_job.second_of("2013y182d00h00m00s")
-        self.assertEqual(headers[:, 0].tolist(), [second - july] * a_second + [second - july + 1] * a_second)
-        self.assertEqual(headers[:, 1].tolist(), [27 << 24 | number for number in range(a_second)] * 2)
-        self.assertEqual(set(headers[:, 2]), {1 << 24 | sky.frame_bytes // 8})
-        self.assertEqual(set(headers[:, 3]), {1 << 26 | 2})
-        self.assertEqual(data.shape[1] * 8, sky.frame_samples * 2 * 2)
-        levels = numpy.bincount((data[..., None] >> numpy.array([0, 2, 4, 6], numpy.uint8) & 3).ravel(), minlength=4) / (2 * 2 * 80_000)
-        outer = (1 - theory.normal_between(vlbi_simulate.THRESHOLD)) / 2
-        numpy.testing.assert_allclose(levels, [outer, 0.5 - outer, 0.5 - outer, outer], atol=0.01)
-
-    def test_threads_apart(self):
-        sky, folder = self.simulated(channels=3, apart=True, bits=1)
-        headers, _ = frames_of(f"{folder}/A.vdif", sky.frame_bytes)
-        self.assertEqual((headers[:, 3] >> 16 & 1023).tolist(), [0, 1, 2] * (len(headers) // 3))
-        self.assertEqual(set(headers[:, 2] >> 24), {0})
-
-    def test_missing_and_invalid(self):
-        sky, folder = self.simulated(seconds=20, missing=0.2, invalid=0.1)
-        headers, _ = frames_of(f"{folder}/A.vdif", sky.frame_bytes)
-        due = sky.seconds * sky.rate // sky.frame_samples
-        self.assertAlmostEqual(len(headers) / due, 0.8, delta=0.15)
-        self.assertAlmostEqual((headers[:, 0] >> 31).mean(), 0.1, delta=0.08)
-
-    def test_same_seed_same_bytes(self):
-        read = []
-        for seed in (1, 1, 2):
-            _, folder = self.simulated(seed=seed)
-            with open(f"{folder}/A.vdif", "rb") as file:
-                read.append(file.read())
-        self.assertEqual(read[0], read[1])
-        self.assertNotEqual(read[0], read[2])
-
-    def test_words_of_the_command(self):
-        self.assertEqual(vlbi_simulate.station_of("Wb,delay=4.5:0.25,clock=-2"), vlbi_simulate.Station("Wb", (4.5e-6, 0.25e-6), (-2e-6,)))
-        for words in ("Wb,late=2", "Wb,delay=x", "Wb,clock=1:2:3"):
-            with self.assertRaises(Exception):
-                vlbi_simulate.station_of(words)
-
-    def test_no_frame_fits(self):
-        for changes in ({"rate": 1_000_003}, {"channels": 3}, {"channels": 128}):
-            with self.assertRaises(ValueError):
-                dataclasses.replace(SMALL, **changes).frame_samples
-        for changes in ({"stations": ()}, {"seconds": 0}, {"common": 1.5}, {"missing": -0.1}):
-            with self.assertRaises(ValueError):
-                dataclasses.replace(SMALL, **changes)
-        # 64 channels of two bits are two words
-        self.assertEqual(dataclasses.replace(SMALL, channels=64).frame_samples, 500)
+def test_codes() -> None:
+    voltage = numpy.array([-1.0, -0.99, -0.01, 0.0, 0.99, 1.0])
+    assert codes_of(voltage, 2).tolist() == [0, 1, 1, 2, 2, 3]
+    assert codes_of(voltage, 1).tolist() == [0, 0, 0, 1, 1, 1]
 
 
-def standing(scan, product, baseline):
+def test_the_lowest_bits_come_first() -> None:
+    assert packed(numpy.array([0, 1, 2, 3, 3, 0, 0, 0], numpy.uint8), 2).tolist() == [0xE4, 0x03]
+    assert packed(numpy.array([0, 1, 0, 1, 0, 1, 0, 1], numpy.uint8), 1).tolist() == [0xAA]
+
+
+def test_common_noise() -> None:
+    noise = CommonNoise(3, 0)
+    places = numpy.arange(-1000, 2 * BLOCK, dtype=numpy.float64)
+    at = noise.at(places)
+    assert (abs(at) ** 2).mean() == pytest.approx(1, abs=0.02)
+    for later in (0.3, 1.0, 2.5):
+        found = (noise.at(places + later) * at.conj()).mean()
+        assert abs(found - theory.coherence(later)) < 0.02
+
+
+def test_a_wave_comes_late() -> None:
+    station = Station("A", delay=(0.02, 1e-6, 1e-9), clock=(-3e-6, 1e-10))
+    recorded = numpy.array([0.0, 1e6, 2e7])
+    wave, lead = wave_at(SMALL, station, recorded)
+    numpy.testing.assert_allclose(wave + SMALL.rate * station.lead(wave / SMALL.rate), recorded, rtol=0, atol=1e-6)
+    numpy.testing.assert_allclose(lead, station.lead(wave / SMALL.rate), rtol=0, atol=1e-13)
+    numpy.testing.assert_allclose(station.lead(numpy.array([2.0])), 0.02 + 2e-6 + 4e-9 - 3e-6 + 2e-10, rtol=0, atol=1e-17)
+
+
+# Recordings, schedules, jobs
+
+def simulated(folder: Path, **changes: object) -> Sky:
+    sky = dataclasses.replace(SMALL, **changes)
+    simulate(sky, str(folder))
+    return sky
+
+
+def test_frames(tmp_path: Path) -> None:
+    second = job.second_of("2013y200d01h02m03s")
+    sky = simulated(tmp_path, start=second, channels=2)
+    headers, data = frames_of(tmp_path / "B.vdif", sky.frame_bytes)
+    a_second = sky.rate // sky.frame_samples
+    assert len(headers) == 2 * a_second
+    july = job.second_of("2013y182d00h00m00s")
+    assert headers[:, 0].tolist() == [second - july] * a_second + [second - july + 1] * a_second
+    assert headers[:, 1].tolist() == [27 << 24 | number for number in range(a_second)] * 2
+    assert set(headers[:, 2]) == {1 << 24 | sky.frame_bytes // 8}
+    assert set(headers[:, 3]) == {1 << 26 | 2}
+    assert data.shape[1] * 8 == sky.frame_samples * 2 * 2
+    levels = numpy.bincount((data[..., None] >> numpy.array([0, 2, 4, 6], numpy.uint8) & 3).ravel(), minlength=4) / (2 * 2 * 80_000)
+    outer = (1 - theory.normal_between(THRESHOLD)) / 2
+    numpy.testing.assert_allclose(levels, [outer, 0.5 - outer, 0.5 - outer, outer], atol=0.01)
+
+
+def test_threads_apart(tmp_path: Path) -> None:
+    sky = simulated(tmp_path, channels=3, apart=True, bits=1)
+    headers, _ = frames_of(tmp_path / "A.vdif", sky.frame_bytes)
+    assert (headers[:, 3] >> 16 & 1023).tolist() == [0, 1, 2] * (len(headers) // 3)
+    assert set(headers[:, 2] >> 24) == {0}
+
+
+def test_missing_and_invalid(tmp_path: Path) -> None:
+    sky = simulated(tmp_path, seconds=20, missing=0.2, invalid=0.1)
+    headers, _ = frames_of(tmp_path / "A.vdif", sky.frame_bytes)
+    due = sky.seconds * sky.rate // sky.frame_samples
+    assert len(headers) / due == pytest.approx(0.8, abs=0.15)
+    assert (headers[:, 0] >> 31).mean() == pytest.approx(0.1, abs=0.08)
+
+
+def test_same_seed_same_bytes(tmp_path: Path) -> None:
+    read = []
+    for seed in (1, 1, 2):
+        simulated(tmp_path, seed=seed)
+        read.append((tmp_path / "A.vdif").read_bytes())
+    assert read[0] == read[1] != read[2]
+
+
+def test_a_sideband_for_each_channel(tmp_path: Path) -> None:
+    """Bands of 40 kHz side by side from 1 MHz on, as the reader of schedules and `check` of the edges see them."""
+    sky = simulated(tmp_path, channels=4, sideband="ULLU", frequency=1_000_000)
+    (only,) = vex.read(str(tmp_path / "sky.vex")).scans
+    assert [(one.name, one.hertz, one.side, one.bandwidth) for one in only.passes[0].setup.channels] == [
+        ("CH01", 1_000_000, "U", 40_000), ("CH02", 1_080_000, "L", 40_000), ("CH03", 1_120_000, "L", 40_000), ("CH04", 1_120_000, "U", 40_000),
+    ]
+    assert dataclasses.replace(sky, sideband="L").frequencies == (1_000_000, 1_040_000, 1_080_000, 1_120_000)
+    assert dataclasses.replace(sky, sideband="U").frequencies == (1_000_000, 1_040_000, 1_080_000, 1_120_000)
+    assert dataclasses.replace(sky, sideband="LUUL").frequencies == (1_000_000, 1_000_000, 1_040_000, 1_120_000)
+
+
+@pytest.mark.parametrize("changes, said", [
+    ({"rate": 1_000_003}, "no frame goes evenly into a second of 1000003 samples"),
+    ({"channels": 3}, "3 channels cannot stand in one frame"),
+    ({"channels": 65}, "at most 32 stations and 64 channels"),
+    ({"stations": ()}, "there are no stations"),
+    ({"seconds": 0}, "there are no stations, samples, seconds or channels"),
+    ({"stations": (Station("A"), Station("B"), Station("A"))}, "two stations have the key A"),
+    ({"stations": (Station("A b"),)}, "a station's key is made of letters, digits"),
+    ({"stations": (Station("../A"),)}, "a station's key is made of letters, digits"),
+    ({"stations": (Station(""),)}, "a station's key is made of letters, digits"),
+    ({"stations": tuple(Station(f"S{number}") for number in range(33))}, "at most 32 stations"),
+    ({"bits": 3}, "1 or 2 bits"),
+    ({"common": 1.5}, "a part lies between 0 and 1"),
+    ({"missing": -0.1}, "a part lies between 0 and 1"),
+    ({"sideband": "UL"}, "one for all channels or one for each of 1: UL"),
+    ({"sideband": "X"}, "sidebands are U or L"),
+    ({"frequency": 2 ** 40}, "a sky frequency past its range"),
+    ({"start": 0}, "no VDIF reference epoch in the year 1970"),
+    ({"stations": (Station("A", delay=(0.0, 0.0, 1e9)),)}, "no job can hold these delays"),
+])
+def test_what_cannot_be_simulated(tmp_path: Path, changes: dict[str, object], said: str) -> None:
+    """Nothing is written then."""
+    with pytest.raises(SkyFault, match=said):
+        simulated(tmp_path / "sky", **changes)
+    assert not (tmp_path / "sky").exists()
+
+
+def test_jobs_that_the_program_takes(tmp_path: Path) -> None:
+    for lags, integration in ((3, 100), (0, 100), (1026, 100), (2, 0), (2, 2 ** 36 + 1)):
+        with pytest.raises(SkyFault):
+            simulate(SMALL, str(tmp_path / "sky"), lags, integration)
+    # 64 channels of two bits are two words
+    many = dataclasses.replace(SMALL, channels=64, stations=tuple(Station(f"S{number}") for number in range(32)), rate=64_000_000)
+    assert many.frame_samples == 500
+    from vlbi.simulate import job_text
+
+    epoch = int(job.job_lines(job_text(many, 2, 8_000_000).encode())["epoch"][0][0])
+    assert 32 * 64 * epoch <= 2 ** 28 and epoch > 100_000
+
+
+# The command
+
+def test_words_of_the_command() -> None:
+    assert command.station_of("Wb,delay=4.5:0.25,clock=-2") == ("Wb", (4.5e-6, 0.25e-6), (-2e-6,))
+    for words in ("Wb,late=2", "Wb,delay=x", "Wb,clock=1:2:3", "Wb,delay=1,delay=2"):
+        with pytest.raises(Exception):
+            command.station_of(words)
+
+
+def test_the_command(tmp_path: Path, capsys: pytest.CaptureFixture[str]) -> None:
+    folder = str(tmp_path / "sky")
+    small = ["--rate", "80000", "--seconds", "1", folder]
+    assert command.main([*small, "--channels", "2", "--sideband", "UL"]) == 0
+    assert capsys.readouterr() == ("".join(f"{folder}/{name}\n" for name in ("sky.vex", "job.txt", "blind.txt", "Ef.vdif", "Wb.vdif")), "")
+    assert "L : 0.040000 MHz : &CH02" in (tmp_path / "sky" / "sky.vex").read_text()
+    for words, said in (
+        (["--station", "A", "--station", "A"], "vlbi-simulate: two stations have the key A\n"),
+        (["--start", "noon"], "vlbi-simulate: --start: no time: noon\n"),
+        (["--lags", "3"], "vlbi-simulate: the number of lags is even, 2 to 1024: 3\n"),
+    ):
+        assert command.main([*small, *words]) == 1
+        assert capsys.readouterr() == ("", said)
+    (tmp_path / "file").write_text("")
+    assert command.main([*small[:-1], str(tmp_path / "file" / "x")]) == 1
+    assert capsys.readouterr().err == f"vlbi-simulate: {tmp_path}/file/x: Not a directory\n"
+
+
+def test_progress(capsys: pytest.CaptureFixture[str], monkeypatch: pytest.MonkeyPatch, tmp_path: Path) -> None:
+    """A line each time that so many seconds have gone by; in a terminal one line that changes."""
+    monkeypatch.setattr(command, "EVERY", 0.0)
+    assert command.main(["--rate", "80000", "--seconds", "2", str(tmp_path)]) == 0
+    lines = capsys.readouterr().err.splitlines()
+    assert len(lines) == 3 and lines[0] == "vlbi-simulate: 0.8 of 2 seconds are made" and lines[-1] == "vlbi-simulate: 2.0 of 2 seconds are made"
+    assert command.main(["--quiet", "--rate", "80000", "--seconds", "2", str(tmp_path)]) == 0
+    assert capsys.readouterr().err == ""
+    shown = command.Progress(2)
+    shown.shown, shown.last = True, float("-inf")
+    shown.say(1.0)
+    shown.say(2.0)
+    assert capsys.readouterr().err == "\rvlbi-simulate: 1.0 of 2 seconds are made\rvlbi-simulate: 2.0 of 2 seconds are made\n"
+
+
+# Fringes
+
+@pytest.mark.parametrize("name, schedule", [("two_integrations", False), ("clock", False), ("growing", False), ("three_stations", True)])
+def test_the_other_correlator_is_right(tmp_path: Path, name: str, schedule: bool) -> None:
+    """It makes the bytes of the record files that are stored of the program."""
+    for folder in (ROOT / "demo", ROOT / ".ci" / "runs"):
+        for path in folder.iterdir():
+            (tmp_path / path.name).write_bytes(path.read_bytes())
+    found = correlator.correlate(str(tmp_path), f"{name}.txt", f"{name}.vex" if schedule else None)
+    assert found == (ROOT / ".ci" / "runs" / f"{name}.vis").read_bytes()
+
+
+def correlated(sky: Sky, folder: Path, lags: int = 32, integration: int | None = None, auto: bool = False) -> records.Records:
+    """The records of a simulated sky: by `run`, when `plain` agrees, or where there is no program by the other correlator."""
+    simulate(sky, str(folder), lags, integration or sky.rate // 4, auto=auto)
+    if not program.PROGRAM:
+        return records.from_bytes(correlator.correlate(str(folder), "job.txt", "sky.vex"))
+    found = fringe.correlate(program.PROGRAM, str(folder), "job", "sky.vis")
+    by_run = (folder / "sky.vis").read_bytes()
+    assert program.call("journal", "plain", "--job", "job.txt", "--vex", "sky.vex", folder=folder) == (0, by_run, b"")
+    return found
+
+
+def standing(scan: records.Scan, product: int, baseline: int) -> float:
     """The amplitude of the mean over a scan at lag 0, not turned back."""
     cells = scan.cells[:, product, baseline, scan.head.lags // 2]
-    return abs((cells["re"] + 1j * cells["im"]).sum()) / cells["count"].sum()
+    return float(abs((cells["re"] + 1j * cells["im"]).sum()) / cells["count"].sum())
 
 
-class Fringes(unittest.TestCase):
-    """Fringes that the program finds in what is simulated."""
+def rests(station: Station, sky: Sky) -> NDArray[numpy.float64]:
+    """What whole samples leave over of a station's delay and clock, at places all over the scan."""
+    lead = station.lead(numpy.linspace(0, sky.seconds, 401)) * sky.rate
+    left: NDArray[numpy.float64] = lead - numpy.floor(lead + 0.5)
+    return left
 
-    def found(self, sky, lags=32, auto=False):
-        """The records of a simulated sky by `run`, when `plain` and `check` agree."""
-        program.needs(self, "run")
-        folder = tempfile.TemporaryDirectory()
-        self.addCleanup(folder.cleanup)
-        vlbi_simulate.simulate(sky, folder.name, lags, sky.rate // 4, auto=auto)
-        records = fringe.correlate(program.PROGRAM, folder.name, "job", "sky.vis")
-        with open(f"{folder.name}/sky.vis", "rb") as file:
-            by_run = file.read()
-        self.assertEqual(program.call("journal", "plain", "--job", "job.txt", "--vex", "sky.vex", folder=folder.name), (0, by_run, b""))
-        return records, folder.name
 
-    def check_fringes(self, sky, lags=32):
-        """Each fringe between two stations stands at lag and rate 0 with the amplitude of theory."""
-        records, _ = self.found(sky, lags)
-        scan = records.scans[0]
-        for baseline, (a, b) in enumerate(scan.baselines):
-            residuals = []
-            for station in (sky.stations[a], sky.stations[b]):
-                lead = station.lead(numpy.linspace(0, sky.seconds, 401)) * sky.rate
-                residuals.append(lead - numpy.floor(lead + 0.5))
-            due = theory.rotated_amplitude(sky.common, residuals[1] - residuals[0], sky.bits, both=a > 0)
-            for product in range(sky.channels):
-                seen = vlbi_fringe.of(scan, product, baseline)
-                with self.subTest(baseline=scan.baseline_keys[baseline], product=product):
-                    self.assertAlmostEqual(seen.lag, 0, delta=0.5)
-                    self.assertAlmostEqual(seen.rate, 0, delta=1 / sky.seconds)
-                    self.assertAlmostEqual(standing(scan, product, baseline) / due, 1, delta=0.05)
-                    self.assertGreater(seen.snr, 20)
+def check_fringes(sky: Sky, folder: Path) -> None:
+    """Each fringe between two stations stands at lag and rate 0 with the amplitude of theory."""
+    scan = correlated(sky, folder).scans[0]
+    for baseline, (a, b) in enumerate(scan.baselines):
+        due = theory.rotated_amplitude(sky.common, rests(sky.stations[b], sky) - rests(sky.stations[a], sky), sky.bits, both=a > 0)
+        for product in range(sky.channels):
+            seen = fringes.of(scan, product, baseline)
+            assert abs(seen.lag) < 0.5 and abs(seen.rate) < 1 / sky.seconds and seen.snr > 20
+            assert standing(scan, product, baseline) == pytest.approx(due, rel=0.05)
 
-    def test_three_stations_in_the_lower_sideband(self):
-        stations = (
-            vlbi_simulate.Station("Ef"),
-            vlbi_simulate.Station("Wb", delay=(3.1e-3, 0.9e-6, -2e-9), clock=(12.5e-6, 1e-9)),
-            vlbi_simulate.Station("Mc", delay=(-1.7e-3, -0.5e-6), clock=(-4e-6,)),
-        )
-        self.check_fringes(vlbi_simulate.Sky(stations, rate=400_000, seconds=2, channels=2, sideband="L", common=0.4, frequency=5_000_000_000))
 
-    def test_threads_apart_with_frames_missing(self):
-        stations = (vlbi_simulate.Station("Ef"), vlbi_simulate.Station("Wb", delay=(1e-4, 1.1e-6), clock=(1e-6,)))
-        self.check_fringes(vlbi_simulate.Sky(stations, rate=400_000, seconds=2, channels=3, apart=True, common=0.3, missing=0.1, invalid=0.1))
+def test_three_stations_in_both_sidebands(tmp_path: Path) -> None:
+    stations = (
+        Station("Ef"),
+        Station("Wb", delay=(3.1e-3, 0.9e-6, -2e-9), clock=(12.5e-6, 1e-9)),
+        Station("Mc", delay=(-1.7e-3, -0.5e-6), clock=(-4e-6,)),
+    )
+    check_fringes(Sky(stations, rate=400_000, seconds=2, channels=2, sideband="LU", common=0.4, frequency=5_000_000_000), tmp_path)
 
-    def test_one_bit(self):
-        stations = (vlbi_simulate.Station("Ef"), vlbi_simulate.Station("Wb", delay=(1e-4, 1.1e-6)))
-        self.check_fringes(vlbi_simulate.Sky(stations, rate=400_000, seconds=2, bits=1, common=0.3))
 
-    def test_what_is_missing_is_counted(self):
-        sky = vlbi_simulate.Sky(SMALL.stations, rate=80_000, seconds=10, missing=0.3, invalid=0.2)
-        records, folder = self.found(sky, 2, auto=True)
-        counts = {}
-        for station in ("A", "B"):
-            headers, _ = frames_of(f"{folder}/{station}.vdif", sky.frame_bytes)
-            counts[station] = len(headers), int((headers[:, 0] >> 31).sum())
+def test_threads_apart_with_frames_missing(tmp_path: Path) -> None:
+    stations = (Station("Ef"), Station("Wb", delay=(1e-4, 1.1e-6), clock=(1e-6,)))
+    check_fringes(Sky(stations, rate=400_000, seconds=2, channels=3, apart=True, common=0.3, missing=0.1, invalid=0.1), tmp_path)
+
+
+def test_one_bit(tmp_path: Path) -> None:
+    check_fringes(Sky((Station("Ef"), Station("Wb", delay=(1e-4, 1.1e-6))), rate=400_000, seconds=2, bits=1, common=0.3), tmp_path)
+
+
+def test_what_the_rest_of_a_sample_costs(tmp_path: Path) -> None:
+    """The figures of docs/GUIDE.md: of theory, and in recordings in which the delays of two stations run through whole samples."""
+    assert [round(100 * theory.loss_of_rests(stations), 1) for stations in (1, 2)] == [12.7, 22.6]
+    assert [round(100 * theory.loss_of_rests(stations, 0.25), 1) for stations in (1, 2)] == [3.4, 6.5]
+    assert [round(100 * theory.loss_in_each(stations), 1) for stations in (1, 2)] == [3.4, 6.5]
+    assert [round(100 * float(1 - abs(theory.coherence(rest))), 1) for rest in (0.1, 0.25, 0.5)] == [0.4, 2.6, 10.0]
+    stations = (Station("A"), Station("B", delay=(1e-5, 12.5e-6)), Station("C", delay=(2e-5, -8.75e-6)))
+    sky = Sky(stations, rate=400_000, seconds=2, common=0.4, frequency=400_000_000)
+    scan = correlated(sky, tmp_path, 2, 8000).scans[0]
+    for baseline, (a, b) in enumerate(scan.baselines):
+        whole = theory.rotated_amplitude(sky.common, numpy.zeros(1), sky.bits, both=a > 0)
+        runs = 2 if a > 0 else 1
+        assert 1 - standing(scan, 0, baseline) / whole == pytest.approx(theory.loss_of_rests(runs), abs=0.02)
+
+
+@pytest.mark.parametrize("sideband", ["U", "L"])
+def test_the_phase_of_a_rest(tmp_path: Path, sideband: str) -> None:
+    """A rest of a quarter of a sample at the second station turns the phase by 90 / 4 degrees, in either sideband."""
+    sky = Sky((Station("A"), Station("B", delay=(0.25 / 400_000, 1e-8))), rate=400_000, seconds=1, common=0.5, sideband=sideband)
+    cells = correlated(sky, tmp_path, 2, 100_000).scans[0].cells[:, 0, 0, 1]
+    assert numpy.angle((cells["re"] + 1j * cells["im"]).sum(), deg=True) == pytest.approx(22.5, abs=2)
+
+
+def test_what_is_missing_is_counted(tmp_path: Path) -> None:
+    sky = Sky(SMALL.stations, rate=80_000, seconds=10, missing=0.3, invalid=0.2)
+    scan = correlated(sky, tmp_path, 2, auto=True).scans[0]
+    counts = {}
+    for station in ("A", "B"):
+        headers, _ = frames_of(tmp_path / f"{station}.vdif", sky.frame_bytes)
+        counts[station] = len(headers), int((headers[:, 0] >> 31).sum())
+    if program.PROGRAM:
         lines = [f"station {key} slots {slots} doubled 0 invalid {invalid} foreign 0 late 0\n" for key, (slots, invalid) in counts.items()]
         said = "scans 1\nepochs 40\n" + "".join(lines)
-        self.assertEqual(program.call("journal", "check", "--job", "job.txt", "--vex", "sky.vex", folder=folder), (0, said.encode(), b""))
-        scan = records.scans[0]
-        for station, key in enumerate(("A", "B")):
-            slots, invalid = counts[key]
-            paired = scan.cells[:, 0, scan.baselines.index((station, station)), 1]["count"].sum()
-            self.assertEqual(int(paired), (slots - invalid) * sky.frame_samples)
-            self.assertAlmostEqual(vlbi_fringe.power(scan, station, "CH01"), theory.level_power(vlbi_simulate.THRESHOLD), delta=0.05)
-
-
-if __name__ == "__main__":
-    unittest.main()
+        assert program.call("journal", "check", "--job", "job.txt", "--vex", "sky.vex", folder=tmp_path) == (0, said.encode(), b"")
+    for number, key in enumerate(("A", "B")):
+        slots, invalid = counts[key]
+        paired = scan.cells[:, 0, scan.baselines.index((number, number)), 1]["count"].sum()
+        assert int(paired) == (slots - invalid) * sky.frame_samples
+        assert fringes.power(scan, number, "CH01") == pytest.approx(float(theory.level_power(THRESHOLD)), abs=0.05)

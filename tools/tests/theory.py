@@ -4,70 +4,95 @@ A station's samples are a voltage of power 1 in one of 2 or 4 levels; a value is
 phase; a cell is the mean of a value times the other one's conjugate. Of two voltages with the correlation r, the mean product of the
 levels is the integral from 0 to r of the density of both voltages at each two thresholds, times the steps of the levels there (Price).
 """
-import numpy
+from __future__ import annotations
 
-NODES, WEIGHTS = numpy.polynomial.legendre.leggauss(24)
+import numpy
+from numpy.typing import ArrayLike, NDArray
+
+Reals = NDArray[numpy.float64]
+Complexes = NDArray[numpy.complex128]
+
+NODES, WEIGHTS = numpy.polynomial.legendre.leggauss(24)  # type: ignore[no-untyped-call]
 PHASES = (numpy.arange(720) + 0.5) / 720
 
 
-def thresholds(bits, two_bits=0.9957):
+def thresholds(bits: int, two_bits: float = 0.9957) -> tuple[float, ...]:
     """The thresholds of a quantiser in standard deviations: each step of its levels is 2."""
     return (0.0,) if bits == 1 else (-two_bits, 0.0, two_bits)
 
 
-def level_product(r, bits):
+def level_product(r: ArrayLike, bits: int) -> Reals:
     """The mean product of the levels of two voltages of power 1 with the correlation r, an array of float64 in -1 to 1."""
-    r = numpy.asarray(r, numpy.float64)
-    rho = r[..., None] * (NODES + 1) / 2
+    all_r = numpy.asarray(r, numpy.float64)
+    rho = all_r[..., None] * (NODES + 1) / 2
     density = numpy.zeros(rho.shape)
     for s in thresholds(bits):
         for t in thresholds(bits):
             density += numpy.exp(-(s * s - 2 * rho * s * t + t * t) / (2 * (1 - rho ** 2))) / (2 * numpy.pi * numpy.sqrt(1 - rho ** 2))
-    return (density * WEIGHTS).sum(axis=-1) * r / 2 * 4
+    product: Reals = (density * WEIGHTS).sum(axis=-1) * all_r / 2 * 4
+    return product
 
 
-def level_power(two_bits):
+def level_power(two_bits: ArrayLike) -> Reals:
     """The mean square of two-bit levels: 1 between the outer thresholds, 9 past them."""
-    middle = numpy.vectorize(normal_between)(two_bits)
+    middle: Reals = numpy.vectorize(normal_between)(two_bits)
     return middle + 9 * (1 - middle)
 
 
-def normal_between(t):
+def normal_between(t: float) -> float:
     """The probability that a voltage of power 1 lies between -t and t."""
     places = t * (NODES + 1) / 2
     return float((numpy.exp(-places ** 2 / 2) * WEIGHTS).sum() * t / 2 * 2 / numpy.sqrt(2 * numpy.pi))
 
 
-def best_threshold():
+def best_threshold() -> float:
     """The threshold at which two voltages of little correlation have the greatest signal to noise in levels -3, -1, +1, +3."""
     places = numpy.linspace(0.8, 1.2, 4001)
     slope = 2 / numpy.sqrt(2 * numpy.pi) * (1 + 2 * numpy.exp(-places ** 2 / 2))
-    return places[(slope ** 2 / level_power(places)).argmax()]
+    return float(places[(slope ** 2 / level_power(places)).argmax()])
 
 
-def three_levels(turns):
+def three_levels(turns: ArrayLike) -> Complexes:
     """The three-level cosine and sine of a phase in turns, as cosine + i sine: 1, 0 or -1 by sixteenths of a turn."""
-    def cosine(sector):
-        return numpy.array([1, 1, 1, 0, 0, -1, -1, -1, -1, -1, -1, 0, 0, 1, 1, 1])[sector % 16]
+    cosine = numpy.array([1, 1, 1, 0, 0, -1, -1, -1, -1, -1, -1, 0, 0, 1, 1, 1])
+    sector = numpy.floor(numpy.asarray(turns) * 16).astype(numpy.int64)
+    both: Complexes = cosine[sector % 16] + 1j * cosine[(sector + 12) % 16]
+    return both
 
-    sector = numpy.floor(numpy.asarray(turns) * 16).astype(int)
-    return cosine(sector) + 1j * cosine(sector + 12)
 
-
-def coherence(samples):
+def coherence(samples: ArrayLike) -> Complexes:
     """How far band-limited noise resembles itself so many samples later: complex, of the band 0 to half the sample rate."""
-    samples = numpy.asarray(samples, numpy.float64)
-    return numpy.sinc(samples / 2) * numpy.exp(0.5j * numpy.pi * samples)
+    late = numpy.asarray(samples, numpy.float64)
+    resemblance: Complexes = numpy.sinc(late / 2) * numpy.exp(0.5j * numpy.pi * late)
+    return resemblance
 
 
-def rotated_amplitude(common, residuals, bits, both=False):
+def loss_of_rests(stations: int, band: float = 0.5) -> float:
+    """The part of the amplitude that is lost where so many stations of a baseline, 1 or 2, have rests of a sample that run through -1/2 to 1/2.
+
+    band  the band's width in turns a sample: 1/2 where there are no more samples than it needs
+    """
+    turns = band * (NODES + 1) / 2
+    return float(1 - (numpy.sinc(turns) ** stations * WEIGHTS).sum() / 2)
+
+
+def loss_in_each(stations: int) -> float:
+    """The same where each rest is seen by itself, and the phase that it makes is turned back: by the mean of |coherence|."""
+    if stations == 1:
+        return float(1 - (abs(coherence((NODES + 1) / 4)) * WEIGHTS).sum() / 2)
+    # a difference of two rests lies between -1 and 1, and is the rarer the larger it is
+    places = (NODES + 1) / 2
+    return float(1 - (abs(coherence(places)) * (1 - places) * WEIGHTS).sum())
+
+
+def rotated_amplitude(common: float, residuals: Reals, bits: int, both: bool = False) -> float:
     """The amplitude at the lag nearest to a fringe that a job takes out, fast against its integrations.
 
     common     the part of the power that the stations have in common
     residuals  delays in samples that whole samples leave over, each as often as any other
     both       whether both stations' values turn, at rates of their own; else the first one's stand
     """
-    total = 0
+    total = 0j
     for residual in residuals:
         seen = level_product(common * (coherence(residual) * numpy.exp(2j * numpy.pi * PHASES)).real, bits)
         if both:
@@ -76,16 +101,16 @@ def rotated_amplitude(common, residuals, bits, both=False):
         else:
             turned = numpy.conj(three_levels(-PHASES))
         total += (seen * numpy.conj(turned)).mean()
-    return abs(total) / len(residuals)
+    return float(abs(total)) / len(residuals)
 
 
-def blind_amplitude(common, residuals, bits, turns):
+def blind_amplitude(common: float, residuals: Reals, bits: int, turns: float) -> float:
     """The amplitude at the lag nearest to a fringe that nobody takes out, turned back at its rate.
 
     turns  of the fringe in one integration
     """
-    total = 0
+    total = 0j
     for residual in residuals:
         seen = level_product(common * (coherence(residual) * numpy.exp(2j * numpy.pi * PHASES)).real, bits)
         total += (seen * numpy.exp(-2j * numpy.pi * PHASES)).mean()
-    return abs(total) / len(residuals) * numpy.sinc(turns)
+    return float(abs(total) / len(residuals) * numpy.sinc(turns))

@@ -1,23 +1,29 @@
-#!/usr/bin/python3
-"""Pictures of a record file of the correlator `vlbi`: fringes over lag, over time, and over lag and residual rate.
+"""Pictures of the fringes of a record file: over lag, over time, and over lag and residual rate. It is the command `vlbi-plot`."""
+from __future__ import annotations
 
-    vlbi-plot sky.vis                    in a window
-    vlbi-plot sky.vis sky.png            into a file
-    vlbi-plot --what map --baseline Ef-Wb --product CH01,CH01 sky.vis sky.png
-"""
-import argparse
+import functools
+import itertools
 import os
-import sys
-import time
+from collections.abc import Callable, Iterable, Iterator, Sequence
+from typing import Any
 
 import matplotlib
 import numpy
-from matplotlib import colors, text
+from matplotlib import backend_bases, colors, text
+from matplotlib.figure import Figure
+from numpy.typing import NDArray
 
-import vlbi_fringe
-import vlbi_records
+from vlbi import fringe as fringes
+from vlbi.faults import Fault
+from vlbi.records import Scan
 
-ROWS = 10        # fringes on a page
+# matplotlib has no types
+Axes = Any
+Place = Any
+NewFigure = Callable[..., Figure]
+
+ROWS = 10        # rows of a page
+COLUMNS = {"page": 1, "lags": 2, "time": 2, "map": 3}  # places in a row
 MOST_ROWS = 512  # rows of a map that are drawn
 COLOURS = ("#1f5fa8", "#c8501e", "#2e8b57", "#8a4fa3", "#b8860b", "#00868b", "#a0305a", "#5a6b1f")
 PEAK = "#e8502a"
@@ -33,54 +39,59 @@ class Pair:
            both stations were correlated with themselves, else as it is
     """
 
-    def __init__(self, scan, baseline, product):
+    def __init__(self, scan: Scan, baseline: int, product: int) -> None:
         self.scan = scan
         self.baseline = baseline
         self.product = product
-        self.fringe = vlbi_fringe.of(scan, product, baseline)
         (a, b), (x, y) = scan.baselines[baseline], scan.head.products[product]
-        power = numpy.sqrt(vlbi_fringe.power(scan, a, x) * vlbi_fringe.power(scan, b, y))
+        power = float(numpy.sqrt(fringes.power(scan, a, x) * fringes.power(scan, b, y)))
         self.scale, self.unit = (100 / power, "correlation (%)") if power > 0 else (1.0, "mean product")
 
+    @functools.cached_property
+    def fringe(self) -> fringes.Fringe:
+        """The fringe, which is looked for when it is asked for."""
+        return fringes.of(self.scan, self.product, self.baseline)
+
     @property
-    def baseline_name(self):
+    def baseline_name(self) -> str:
         return "\N{EN DASH}".join(self.scan.baseline_keys[self.baseline])
 
     @property
-    def product_name(self):
+    def product_name(self) -> str:
         x, y = self.scan.head.products[self.product]
         return x if x == y else f"{x} \N{MULTIPLICATION SIGN} {y}"
 
     @property
-    def peak_words(self):
+    def peak_words(self) -> str:
         """The peak's lag, residual rate and signal to noise in words."""
         fringe = self.fringe
         lag = f"lag {signed(fringe.lag, 2)} samples ({signed(fringe.lag * 1e6 / self.scan.head.rate, 3)} {MICROSECONDS})"
         return ",  ".join([lag, f"rate {signed(fringe.rate, 3)} Hz", f"SNR {fringe.snr:.0f}" if numpy.isfinite(fringe.snr) else "SNR unknown"])
 
-    def over_lags(self):
+    def over_lags(self) -> NDArray[numpy.complex128]:
         """The mean over the scan at each lag, turned back at the peak's rate: complex128 (L,)."""
         cells = self.scan.cells[:, self.product, self.baseline]
-        sums = (cells["re"] + 1j * cells["im"]) * vlbi_fringe.back(self.scan.times, self.fringe.rate)[:, None]
-        return self.scale * sums.sum(axis=0) / numpy.maximum(cells["count"].sum(axis=0), 1)
+        sums = (cells["re"] + 1j * cells["im"]) * fringes.back(self.scan.times, self.fringe.rate)[:, None]
+        means: NDArray[numpy.complex128] = self.scale * sums.sum(axis=0) / numpy.maximum(cells["count"].sum(axis=0), 1)
+        return means
 
-    def over_time(self):
+    def over_time(self) -> NDArray[numpy.complex128]:
         """The mean at the lag nearest to the peak in each integration: complex128 (M,), NaN where it has no pair."""
         return self.scale * self.scan.means(self.product, self.baseline)[:, self.fringe.nearest]
 
 
-def signed(number, places):
+def signed(number: float, places: int) -> str:
     """A number with its sign, and a zero with none."""
     written = f"{number:+.{places}f}"
     return written[1:] if float(written) == 0 else written.replace("-", MINUS)
 
 
-def pairs_of(scan, baselines, products, auto):
+def pairs_of(scan: Scan, baselines: Sequence[str], products: Sequence[str], auto: bool) -> list[Pair]:
     """The Pairs of these baselines (`Ef-Wb`) and products (`CH01,CH01`), of all where none is named.
 
     Those of a station with itself stand among them where they are named, or with `auto`.
     """
-    def has(baseline):
+    def has(baseline: int) -> bool:
         a, b = scan.baselines[baseline]
         return "-".join(scan.baseline_keys[baseline]) in baselines if baselines else auto or a != b
 
@@ -91,7 +102,7 @@ def pairs_of(scan, baselines, products, auto):
     ]
 
 
-def draw_phases(axes, places, means, colour):
+def draw_phases(axes: Axes, places: NDArray[numpy.float64], means: NDArray[numpy.complex128], colour: str) -> None:
     """Phases in degrees as points, the fainter the smaller their amplitude."""
     amplitudes = numpy.abs(means)
     there = amplitudes > 0
@@ -105,10 +116,10 @@ def draw_phases(axes, places, means, colour):
     axes.set_axisbelow(True)
 
 
-def draw_amplitudes(axes, places, means, colour, label):
+def draw_amplitudes(axes: Axes, places: NDArray[numpy.float64], means: NDArray[numpy.complex128], colour: str, label: str) -> None:
     """Amplitudes as a line, with points where there are few; the axis goes from 0 past the greatest of all that it shows."""
     amplitudes = numpy.abs(means)
-    style = {"marker": "o", "markersize": 2.5} if len(places) <= 100 else {}
+    style: dict[str, Any] = {"marker": "o", "markersize": 2.5} if len(places) <= 100 else {}
     before = axes.get_ylim()[1] if axes.lines else 0
     axes.plot(places, amplitudes, color=colour, linewidth=0.9 if len(places) <= 1000 else 0.25, label=label, **style)
     axes.set_ylim(0, max(before, 1.12 * numpy.nanmax(amplitudes, initial=0)) or 1)
@@ -116,10 +127,11 @@ def draw_amplitudes(axes, places, means, colour, label):
     axes.set_axisbelow(True)
 
 
-def draw_lags(upper, lower, pairs):
+def draw_lags(upper: Axes, lower: Axes, pairs: Sequence[Pair]) -> None:
     """Amplitude above and phase below, over lag, of the products of a baseline."""
-    for pair, colour in zip(pairs, endless(COLOURS)):
-        lags, means = pair.fringe.lags, pair.over_lags()
+    lags = pairs[0].fringe.lags
+    for pair, colour in zip(pairs, itertools.cycle(COLOURS)):
+        means = pair.over_lags()
         draw_amplitudes(upper, lags, means, colour, pair.product_name)
         draw_phases(lower, lags, means, colour)
     for axes in (upper, lower):
@@ -128,10 +140,10 @@ def draw_lags(upper, lower, pairs):
     lower.set_xlabel("lag (samples)", fontsize=SMALL, labelpad=1)
 
 
-def draw_time(upper, lower, pairs):
+def draw_time(upper: Axes, lower: Axes, pairs: Sequence[Pair]) -> None:
     """Amplitude above and phase below, of the lag nearest to the peak, over the seconds of the scan, of the products of a baseline."""
     scan = pairs[0].scan
-    for pair, colour in zip(pairs, endless(COLOURS)):
+    for pair, colour in zip(pairs, itertools.cycle(COLOURS)):
         means = pair.over_time()
         draw_amplitudes(upper, scan.times, means, colour, pair.product_name)
         draw_phases(lower, scan.times, means, colour)
@@ -140,7 +152,7 @@ def draw_time(upper, lower, pairs):
     lower.set_xlabel("time in the scan (s)", fontsize=SMALL, labelpad=1)
 
 
-def draw_map(figure, place, pair):
+def draw_map(figure: Figure, place: Place, pair: Pair) -> None:
     """The amplitude over lag and residual rate in a place of a grid, with the peak ringed and a scale beside it."""
     fringe = pair.fringe
     inner = place.subgridspec(1, 3, width_ratios=(40, 1.2, 4.5), wspace=0.05)
@@ -167,26 +179,22 @@ def draw_map(figure, place, pair):
     axes.set_ylim(extent[2:])
 
 
-def shrunk(heights):
+def shrunk(heights: NDArray[numpy.float64]) -> NDArray[numpy.float64]:
     """A map of at most MOST_ROWS rows, each the greatest of those that it stands for, so that no peak is lost."""
     times = -(-len(heights) // MOST_ROWS)
     padded = numpy.pad(heights, ((0, -len(heights) % times), (0, 0)))
-    return padded.reshape(-1, times, heights.shape[1]).max(axis=1)
+    greatest: NDArray[numpy.float64] = padded.reshape(-1, times, heights.shape[1]).max(axis=1)
+    return greatest
 
 
-def microsecond_axis(axes, rate):
+def microsecond_axis(axes: Axes, rate: int) -> None:
     """A second axis above, of lags in microseconds."""
     above = axes.secondary_xaxis("top", functions=(lambda lag: lag * 1e6 / rate, lambda us: us * rate / 1e6))
     above.tick_params(labelsize=SMALL - 1, pad=0, length=2)
     above.set_xlabel(f"lag ({MICROSECONDS})", fontsize=SMALL - 1, labelpad=2)
 
 
-def endless(items):
-    while True:
-        yield from items
-
-
-def stacked(figure, place, unit):
+def stacked(figure: Figure, place: Place, unit: str) -> tuple[Axes, Axes]:
     """Two axes in a place of a grid, one above the other, for amplitude and phase."""
     inner = place.subgridspec(2, 1, height_ratios=(3, 2), hspace=0.1)
     upper, lower = figure.add_subplot(inner[0]), figure.add_subplot(inner[1])
@@ -203,27 +211,27 @@ class Sheet:
 
     TOP, GAP, BELOW, LEFT, RIGHT, BETWEEN = 0.45, 0.62, 0.42, 0.75, 0.25, 0.8
 
-    def __init__(self, pyplot, title, rows, widths, height):
+    def __init__(self, new: NewFigure, title: str, rows: int, widths: Sequence[float], height: float) -> None:
         self.height = height
         self.size = (self.LEFT + sum(widths) + self.BETWEEN * (len(widths) - 1) + self.RIGHT, self.TOP + rows * (self.GAP + height + self.BELOW))
         self.widths = widths
-        self.figure = pyplot.figure(figsize=self.size)
+        self.figure = new(figsize=self.size)
         self.figure.text(self.LEFT / self.size[0], 1 - 0.3 / self.size[1], title, fontsize=12, va="center")
 
-    def left(self, column):
+    def left(self, column: int) -> float:
         return self.LEFT + sum(self.widths[:column]) + self.BETWEEN * column
 
-    def bottom(self, row):
+    def bottom(self, row: int) -> float:
         return self.size[1] - self.TOP - (row + 1) * (self.GAP + self.height) - row * self.BELOW
 
-    def place(self, row, column):
+    def place(self, row: int, column: int) -> Place:
         """The place of this row and column, as a place of a grid."""
         wide, high = self.size
         left, bottom = self.left(column), self.bottom(row)
         return self.figure.add_gridspec(1, 1, left=left / wide, right=(left + self.widths[column]) / wide, bottom=bottom / high,
                                         top=(bottom + self.height) / high)[0]
 
-    def words(self, row, column, bold, more=""):
+    def words(self, row: int, column: int, bold: str, more: str = "") -> None:
         """The line above a place: a name, and what is said of it."""
         across, up = self.left(column) / self.size[0], (self.bottom(row) + self.height + 0.42) / self.size[1]
         name = self.figure.text(across, up, bold, fontsize=10, fontweight="bold", va="center")
@@ -232,9 +240,9 @@ class Sheet:
             self.figure.add_artist(behind)
 
 
-def draw_page(pyplot, pairs, title):
+def draw_page(new: NewFigure, pairs: Sequence[Pair], title: str) -> Figure:
     """A row of each fringe: over lag, over time, and the map."""
-    sheet = Sheet(pyplot, title, len(pairs), (3.9, 4.2, 4.7), 2.1)
+    sheet = Sheet(new, title, len(pairs), (3.9, 4.2, 4.7), 2.1)
     for row, pair in enumerate(pairs):
         sheet.words(row, 0, f"{pair.baseline_name}  {pair.product_name}", pair.peak_words)
         draw_lags(*stacked(sheet.figure, sheet.place(row, 0), pair.unit), [pair])
@@ -243,14 +251,12 @@ def draw_page(pyplot, pairs, title):
     return sheet.figure
 
 
-def draw_sheet(pyplot, pairs, title, draw):
+def draw_sheet(new: NewFigure, pairs: Sequence[Pair], title: str, draw: Callable[[Axes, Axes, Sequence[Pair]], None]) -> Figure:
     """A place for each baseline, its products drawn in colours by `draw`."""
-    by_baseline = {}
-    for pair in pairs:
-        by_baseline.setdefault(pair.baseline, []).append(pair)
-    columns = min(len(by_baseline), 2)
-    sheet = Sheet(pyplot, title, -(-len(by_baseline) // columns), (6.0,) * columns, 2.4)
-    for number, group in enumerate(by_baseline.values()):
+    by_baseline = grouped(pairs)
+    columns = min(len(by_baseline), COLUMNS["lags"])
+    sheet = Sheet(new, title, -(-len(by_baseline) // columns), (6.0,) * columns, 2.4)
+    for number, group in enumerate(by_baseline):
         row, column = divmod(number, columns)
         upper, lower = stacked(sheet.figure, sheet.place(row, column), group[0].unit)
         sheet.words(row, column, group[0].baseline_name, group[0].peak_words if len(group) == 1 else "")
@@ -260,10 +266,10 @@ def draw_sheet(pyplot, pairs, title, draw):
     return sheet.figure
 
 
-def draw_maps(pyplot, pairs, title):
+def draw_maps(new: NewFigure, pairs: Sequence[Pair], title: str) -> Figure:
     """A map of each fringe, those of a baseline beside each other, up to three."""
-    columns = min(len(pairs), 3)
-    sheet = Sheet(pyplot, title, -(-len(pairs) // columns), (5.2,) * columns, 2.8)
+    columns = min(len(pairs), COLUMNS["map"])
+    sheet = Sheet(new, title, -(-len(pairs) // columns), (5.2,) * columns, 2.8)
     for number, pair in enumerate(pairs):
         row, column = divmod(number, columns)
         sheet.words(row, column, f"{pair.baseline_name}  {pair.product_name}", pair.peak_words)
@@ -271,80 +277,85 @@ def draw_maps(pyplot, pairs, title):
     return sheet.figure
 
 
-def figures(pyplot, pairs, what, title):
-    """The figures of these Pairs: `what` is page, lags, time or map. A page has at most ROWS rows, and there may be more of them."""
+def grouped(pairs: Iterable[Pair]) -> list[list[Pair]]:
+    """The Pairs of each baseline together."""
+    by_baseline: dict[int, list[Pair]] = {}
+    for pair in pairs:
+        by_baseline.setdefault(pair.baseline, []).append(pair)
+    return list(by_baseline.values())
+
+
+def pages(pairs: Sequence[Pair], what: str) -> list[list[Pair]]:
+    """The Pairs of each page: as many as ROWS rows hold. A place is a Pair's, or with `lags` and `time` those of a baseline together."""
+    places = grouped(pairs) if what in ("lags", "time") else [[pair] for pair in pairs]
+    size = ROWS * COLUMNS[what]
+    return [list(itertools.chain(*places[first:first + size])) for first in range(0, len(places), size)]
+
+
+def figure_of(pairs: Sequence[Pair], what: str, title: str, new: NewFigure = Figure) -> Figure:
+    """The figure of a page: `what` is page, lags, time or map. `new` makes it: of its own, or in a window."""
     if what == "page":
-        return [draw_page(pyplot, pairs[first:first + ROWS], title) for first in range(0, len(pairs), ROWS)]
+        return draw_page(new, pairs, title)
     if what == "map":
-        return [draw_maps(pyplot, pairs, title)]
-    return [draw_sheet(pyplot, pairs, title, {"lags": draw_lags, "time": draw_time}[what])]
+        return draw_maps(new, pairs, title)
+    return draw_sheet(new, pairs, title, {"lags": draw_lags, "time": draw_time}[what])
 
 
-def numbered(path, number):
-    """The path of the figure of this number from 0: that given, then with -2, -3 .. before its ending."""
+def check_picture(path: str) -> None:
+    """Fault where no picture can be written under this name: an ending that is no kind of picture, a folder that is not there."""
+    kinds = backend_bases.FigureCanvasBase.get_supported_filetypes()
+    ending = os.path.splitext(path)[1].removeprefix(".").lower()
+    if ending not in kinds:
+        raise Fault(f"no picture has this ending: take .png, .pdf or .svg (or one of {', '.join(sorted(kinds))})", path)
+    folder = os.path.dirname(path) or "."
+    if not os.path.isdir(folder):
+        raise Fault(f"there is no folder {folder}", path)
+    if os.path.isdir(path):
+        raise Fault("this is a folder", path)
+
+
+def save(groups: Sequence[Sequence[Pair]], what: str, title: str, path: str, dpi: int) -> Iterator[str]:
+    """Writes a picture of each page, and gives its path once it is written: `path`, then with -2, -3 .. before its ending.
+
+    A PDF has them all as pages of one file. Fault where it cannot be written.
+    """
+    check_picture(path)
+    try:
+        if path.lower().endswith(".pdf"):
+            save_pages(groups, what, title, path)
+            yield path
+            return
+        for number, pairs in enumerate(groups):
+            named = numbered(path, number)
+            figure_of(pairs, what, title).savefig(named, dpi=dpi)
+            yield named
+    except (OSError, ValueError) as error:  # a full disk; a picture of more dots than there may be
+        if isinstance(error, Fault):
+            raise
+        raise Fault(str(getattr(error, "strerror", None) or error), path) from error
+
+
+def save_pages(groups: Sequence[Sequence[Pair]], what: str, title: str, path: str) -> None:
+    """Writes the pages of a PDF."""
+    from matplotlib.backends.backend_pdf import PdfPages
+
+    with PdfPages(path) as file:
+        for pairs in groups:
+            file.savefig(figure_of(pairs, what, title))
+
+
+def show(groups: Sequence[Sequence[Pair]], what: str, title: str) -> None:
+    """Shows each page in a window, until all are closed; Fault where there are no windows."""
+    from matplotlib import pyplot
+
+    if matplotlib.get_backend().lower() == "agg":
+        raise Fault("there are no windows here: name a picture")
+    for pairs in groups:
+        figure_of(pairs, what, title, pyplot.figure)
+    pyplot.show()
+
+
+def numbered(path: str, number: int) -> str:
+    """The path of the picture of this number from 0: that given, then with -2, -3 .. before its ending."""
     front, end = os.path.splitext(path)
     return path if number == 0 else f"{front}-{number + 1}{end}"
-
-
-def main(words=None):
-    parser = argparse.ArgumentParser(prog="vlbi-plot", description="Pictures of a record file of the correlator vlbi.")
-    parser.add_argument("records", help="the record file")
-    parser.add_argument("picture", nargs="?", help="a PNG, PDF or SVG that is written; a window where none is named")
-    parser.add_argument("--what", choices=("page", "lags", "time", "map"), default="page",
-                        help="all three in a row for each fringe (page); amplitude and phase over lag; over time; lag against residual rate")
-    parser.add_argument("--scan", default="0", help="a scan by its name, or by its number from 0 (0)")
-    parser.add_argument("--baseline", action="append", default=[], metavar="A-B", help="a baseline, more than once for more (all)")
-    parser.add_argument("--product", action="append", default=[], metavar="X,Y", help="a product, more than once for more (all)")
-    parser.add_argument("--auto", action="store_true", help="stations with themselves too")
-    parser.add_argument("--dpi", type=int, default=100, help="dots an inch of the picture (100)")
-    given = parser.parse_args(words)
-    try:
-        records = vlbi_records.read(given.records)
-        scan = chosen_scan(records, given.scan)
-    except (OSError, LookupError, vlbi_records.RecordFault) as error:
-        print(f"vlbi-plot: {error.args[0] if isinstance(error, LookupError) else error}", file=sys.stderr)
-        return 1
-    if scan.samples == 0:
-        print(f"vlbi-plot: scan {scan.name} has no samples", file=sys.stderr)
-        return 1
-    pairs = pairs_of(scan, given.baseline, given.product, given.auto)
-    if not pairs:
-        print(f"vlbi-plot: scan {scan.name} has no such baseline and product: baselines {', '.join('-'.join(it) for it in scan.baseline_keys)};"
-              f" products {', '.join(','.join(it) for it in records.head.products)}", file=sys.stderr)
-        return 1
-    begins = time.strftime("%Y-%m-%d %H:%M:%S", time.gmtime(scan.start))
-    title = f"{os.path.basename(given.records)}   scan {scan.name}   {begins} UTC   {scan.samples / records.head.rate:g} s"
-    return draw(pairs, given, title)
-
-
-def chosen_scan(records, name):
-    """The scan of this name, or else of this number; LookupError where there is none."""
-    try:
-        return records.scan(name)
-    except LookupError:
-        if name.isdigit() and int(name) < len(records.scans):
-            return records.scan(int(name))
-        raise LookupError(f"no scan {name} among {', '.join(scan.name for scan in records.scans) or 'none'}") from None
-
-
-def draw(pairs, given, title):
-    """Draws the Pairs as the command asks, into a window or into files, whose names are printed; the exit status."""
-    if given.picture:
-        matplotlib.use("Agg")
-    from matplotlib import pyplot  # once it is known whether there are windows
-
-    if not given.picture and matplotlib.get_backend().lower() == "agg":
-        print("vlbi-plot: there are no windows here: name a picture", file=sys.stderr)
-        return 1
-    for number, figure in enumerate(figures(pyplot, pairs, given.what, title)):
-        if given.picture:
-            path = numbered(given.picture, number)
-            figure.savefig(path, dpi=given.dpi)
-            print(path)
-    if not given.picture:
-        pyplot.show()
-    return 0
-
-
-if __name__ == "__main__":
-    sys.exit(main())

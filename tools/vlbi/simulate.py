@@ -1,33 +1,52 @@
-#!/usr/bin/python3
-"""Makes recordings with a true fringe: noise that all stations have in common, each station's own noise, delays and clocks.
+"""Recordings with a true fringe: noise that all stations have in common, each station's own noise, delays and clocks.
 
-    vlbi-simulate FOLDER --station Ef --station Wb,delay=4.95:0.01,clock=2.5
+    sky = simulate.Sky((simulate.Station("Ef"), simulate.Station("Wb", delay=(4.95e-6, 1e-8), clock=(2.5e-6,))))
+    simulate.simulate(sky, "day")
 
-writes into FOLDER a recording KEY.vdif of each station, the schedule sky.vex, the job job.txt, which takes the delays and clocks out,
-and the job blind.txt, which knows nothing of them. Then, in FOLDER,
-
-    vlbi journal run --job job.txt --vex sky.vex --workers 4 --piece 65536 > sky.vis
-    vlbi-plot sky.vis
+writes into the folder `day` a recording KEY.vdif of each station, the schedule sky.vex, the job job.txt, which takes the delays and
+clocks out, and the job blind.txt, which knows nothing of them. It is the command `vlbi-simulate`.
 """
-import argparse
+from __future__ import annotations
+
 import calendar
+import contextlib
 import dataclasses
 import functools
 import os
+import re
 import struct
-import sys
 import time
+from collections.abc import Callable, Sequence
+from typing import BinaryIO
 
 import numpy
+from numpy.typing import NDArray
 
-import vlbi_job
+from vlbi import job as jobs
+from vlbi.faults import Fault
+
+Reals = NDArray[numpy.float64]
+Complexes = NDArray[numpy.complex128]
+Codes = NDArray[numpy.uint8]
 
 THRESHOLD = 0.9957  # the greatest signal to noise of levels -3, -1, +1, +3, in standard deviations of the samples
 BLOCK = 1 << 16     # samples that are made at once
 FINER = 4           # places between two samples at which the common noise is computed, before it is read between them
-KNOTS = (32768, 4096, 512, 64)
 HEAD_BYTES = 32
 MOST_DATA = 8000    # bytes of data in a frame, at most
+MOST_STATIONS = 32
+MOST_CHANNELS = 64
+MOST_LAGS = 1024
+MOST_LOAD = 2 ** 28  # stations times channels times samples of an epoch
+MOST_EPOCH = 1 << 20
+
+
+class SkyFault(Fault):
+    """A sky that cannot be simulated, or that the program `vlbi` would refuse."""
+
+
+def no_progress(seconds: float) -> None:
+    """Says nothing of how many seconds are made."""
 
 
 @dataclasses.dataclass(frozen=True)
@@ -35,12 +54,20 @@ class Station:
     """A station: its key, and the delay and the clock's lead in seconds, each by powers of the seconds since the scan's start."""
 
     key: str
-    delay: tuple = (0.0,)
-    clock: tuple = (0.0,)
+    delay: tuple[float, ...] = (0.0,)
+    clock: tuple[float, ...] = (0.0,)
 
-    def lead(self, seconds):
+    def lead(self, seconds: Reals) -> Reals:
         """Delay and clock together in seconds; seconds and answer are arrays of float64."""
-        return numpy.polynomial.polynomial.polyval(seconds, self.delay) + numpy.polynomial.polynomial.polyval(seconds, self.clock)
+        return polynomial(self.delay, seconds) + polynomial(self.clock, seconds)
+
+
+def polynomial(coefficients: tuple[float, ...], places: Reals) -> Reals:
+    """The polynomial of these coefficients, that of the power 0 first, at each place."""
+    total = numpy.zeros_like(places)
+    for coefficient in reversed(coefficients):
+        total = total * places + coefficient
+    return total
 
 
 @dataclasses.dataclass(frozen=True)
@@ -50,8 +77,8 @@ class Sky:
     stations   the Stations
     rate       samples a second
     seconds    whole seconds of the scan, from `start`, a whole second since 1970-01-01
-    channels   their number; channel c begins at the sky frequency `frequency` + c * rate / 2 hertz
-    sideband   "U" or "L"
+    channels   their number; their bands of rate / 2 hertz lie side by side, and the edge of the first is at the sky frequency `frequency`
+    sideband   "U" or "L" of all channels, or a letter for each: a band goes up from its edge, or down
     common     the part of each station's power that all have in common, 0 to 1
     bits       1 or 2
     apart      whether each channel has a thread of its own
@@ -59,10 +86,10 @@ class Sky:
     seed       of all noise
     """
 
-    stations: tuple
+    stations: tuple[Station, ...]
     rate: int = 2_000_000
     seconds: int = 10
-    start: int = vlbi_job.second_of("2010y001d00h00m00s")
+    start: int = jobs.second_of("2010y001d00h00m00s")
     channels: int = 1
     frequency: int = 8_400_000_000
     sideband: str = "U"
@@ -73,62 +100,86 @@ class Sky:
     invalid: float = 0.0
     seed: int = 1
 
-    def __post_init__(self):
+    def __post_init__(self) -> None:
         if not self.stations or min(self.rate, self.seconds, self.channels) < 1:
-            raise ValueError("there are no stations, samples, seconds or channels")
+            raise SkyFault("there are no stations, samples, seconds or channels")
+        if len(self.stations) > MOST_STATIONS or self.channels > MOST_CHANNELS:
+            raise SkyFault(f"the program takes at most {MOST_STATIONS} stations and {MOST_CHANNELS} channels")
+        self.check_keys()
+        if self.bits not in (1, 2):
+            raise SkyFault(f"a sample has 1 or 2 bits, not {self.bits}")
+        if not re.fullmatch("[UL]+", self.sideband) or len(self.sideband) not in (1, self.channels):
+            raise SkyFault(f"sidebands are U or L, one for all channels or one for each of {self.channels}: {self.sideband}")
         if not all(0 <= part <= 1 for part in (self.common, self.missing, self.invalid)):
-            raise ValueError("a part lies between 0 and 1")
+            raise SkyFault("a part lies between 0 and 1")
+        if min(self.frequencies) < 0 or max(self.frequencies) >= 2 ** 40:
+            raise SkyFault(f"a sky frequency past its range, 0 to 2^40 - 1 hertz: {min(self.frequencies)} to {max(self.frequencies)}")
+
+    def check_keys(self) -> None:
+        """SkyFault where two stations have one key, or where a key is no name of a file and no word of a job and a schedule."""
+        keys = [station.key for station in self.stations]
+        for number, key in enumerate(keys):
+            if not re.fullmatch(r"[A-Za-z0-9_][A-Za-z0-9_.+-]{0,63}", key):
+                raise SkyFault(f"a station's key is made of letters, digits, _, and behind the first . + -: {key!r}")
+            if key in keys[:number]:
+                raise SkyFault(f"two stations have the key {key}")
 
     @property
-    def names(self):
+    def names(self) -> tuple[str, ...]:
         """The channels' names."""
         return tuple(f"CH{number:02}" for number in range(1, self.channels + 1))
 
     @property
-    def frequencies(self):
-        """The channels' sky frequencies in hertz."""
-        return tuple(self.frequency + number * (self.rate // 2) for number in range(self.channels))
+    def sides(self) -> str:
+        """The channels' sidebands, a letter for each."""
+        return self.sideband if len(self.sideband) == self.channels else self.sideband * self.channels
 
     @property
-    def in_frame(self):
+    def bandwidth(self) -> int:
+        """The bandwidth of a channel in hertz."""
+        return self.rate // 2
+
+    @property
+    def frequencies(self) -> tuple[int, ...]:
+        """The sky frequencies of the channels' edges in hertz: the lower end of a band in the upper sideband, the upper end in the lower."""
+        lowest = self.frequency - (self.sides[0] == "L") * self.bandwidth
+        return tuple(lowest + (number + (side == "L")) * self.bandwidth for number, side in enumerate(self.sides))
+
+    @property
+    def in_frame(self) -> int:
         """The channels in one frame: all, or one where each has a thread of its own."""
         return 1 if self.apart else self.channels
 
     @property
-    def frame_samples(self):
+    def frame_samples(self) -> int:
         """The complete samples in a frame: the most that fill whole words, go evenly into a second and are few enough bytes."""
         if self.in_frame not in (1, 2, 4, 8, 16, 32, 64):
-            raise ValueError(f"{self.in_frame} channels cannot stand in one frame: their number is a power of two up to 64, or they stand apart")
+            raise SkyFault(f"{self.in_frame} channels cannot stand in one frame: their number is a power of two up to 64, or they stand apart")
         word = max(1, 64 // (self.bits * self.in_frame))
         fits = [many for many in range(word, MOST_DATA * 8 // (self.bits * self.in_frame) + 1, word) if self.rate % many == 0]
         if not fits:
-            raise ValueError(f"no frame goes evenly into a second of {self.rate} samples")
+            raise SkyFault(f"no frame goes evenly into a second of {self.rate} samples")
         return fits[-1]
 
     @property
-    def frame_bytes(self):
+    def frame_bytes(self) -> int:
         return HEAD_BYTES + self.frame_samples * self.bits * self.in_frame // 8
 
-    def model_lines(self, station):
+    def model_lines(self, station: Station) -> list[str]:
         """The `clock` and the `poly` line of a station, for the job's knot."""
         drift = station.clock[1] if len(station.clock) > 1 else 0
         return [
-            vlbi_job.clock_line(station.key, self.start, station.clock[0] * 1e6, drift, self.rate),
-            vlbi_job.poly_line(station.key, self.start, station.delay, self.rate, self.knot),
+            jobs.clock_line(station.key, self.start, station.clock[0] * 1e6, drift, self.rate),
+            jobs.poly_line(station.key, self.start, station.delay, self.rate, self.knot),
         ]
 
     @property
-    def knot(self):
-        """The job's knot: the largest of these with which a job can hold the delays of all stations, over the whole scan."""
-        for knot in KNOTS:
-            try:
-                for station in self.stations:
-                    vlbi_job.poly_line(station.key, self.start, station.delay, self.rate, knot)
-            except vlbi_job.JobFault:
-                continue
-            if knot * 2 ** 24 > self.rate * self.seconds:
-                return knot
-        raise vlbi_job.JobFault("no job can hold these delays")
+    def knot(self) -> int:
+        """The job's knot: the largest with which a job can hold the delays of all stations."""
+        knot = jobs.largest_knot([station.delay for station in self.stations], self.rate)
+        if knot is None or jobs.knot_seconds(knot, self.rate) <= self.seconds:
+            raise SkyFault("no job can hold these delays over the whole scan")
+        return knot
 
 
 class CommonNoise:
@@ -137,12 +188,12 @@ class CommonNoise:
     It is periodic noise of its own in each block of BLOCK samples, and defined between the samples too.
     """
 
-    def __init__(self, seed, channel):
+    def __init__(self, seed: int, channel: int) -> None:
         self.seed = seed
         self.channel = channel
-        self.block = functools.lru_cache(maxsize=8)(self.make_block)
+        self.block: Callable[[int], NDArray[numpy.complex64]] = functools.lru_cache(maxsize=8)(self.make_block)
 
-    def make_block(self, number):
+    def make_block(self, number: int) -> NDArray[numpy.complex64]:
         """The signal of a block, its band moved to -rate/4 to rate/4: complex64 of FINER places a sample, and three more around."""
         # a block may come before the scan's start
         random = numpy.random.default_rng([self.seed, self.channel, number + 2 ** 32])
@@ -153,12 +204,12 @@ class CommonNoise:
         places = numpy.fft.ifft(spectrum, norm="forward").astype(numpy.complex64)
         return numpy.concatenate([places[-1:], places, places[:2]])
 
-    def at(self, samples):
+    def at(self, samples: Reals) -> Complexes:
         """The signal at places in samples, float64 and rising: complex128 of the same shape."""
         numbers = numpy.floor(samples / BLOCK).astype(numpy.int64)
         return numpy.concatenate([self.inside(samples[numbers == number], number) for number in range(numbers[0], numbers[-1] + 1)])
 
-    def inside(self, samples, number):
+    def inside(self, samples: Reals, number: int) -> Complexes:
         """The signal at places that lie in one block, by the cubic through the four places about each."""
         samples = samples - number * float(BLOCK)
         places = samples * FINER
@@ -169,48 +220,51 @@ class CommonNoise:
         value += block[first + 1] * ((t + 1) * (t - 1) * (t - 2) / 2)
         value += block[first + 2] * (-(t + 1) * t * (t - 2) / 2)
         value += block[first + 3] * ((t + 1) * t * (t - 1) / 6)
-        return value * numpy.exp(0.5j * numpy.pi * samples)
+        moved: Complexes = value * numpy.exp(0.5j * numpy.pi * samples)
+        return moved
 
 
-def wave_at(sky, station, recorded):
+def wave_at(sky: Sky, station: Station, recorded: Reals) -> tuple[Reals, Reals]:
     """The place in samples of the wave that a station records at its samples, and what its clock and delay have come to by then.
 
     recorded  float64: numbers of recorded samples from the scan's start
     Both answers are float64 of its shape; the second is in seconds, and `rate` times it lies between the two places.
     """
-    wave = recorded
+    wave, lead = recorded, numpy.zeros_like(recorded)
     for _ in range(4):
         lead = station.lead(wave / sky.rate)
         wave = recorded - lead * sky.rate
     return wave, lead
 
 
-def voltages(sky, station, channel, common, recorded):
+def voltages(sky: Sky, station: Station, channel: int, common: CommonNoise, recorded: Reals) -> Reals:
     """The part of a station's samples that it has in common with the others, of power 1: float64 of the shape of `recorded`."""
     wave, lead = wave_at(sky, station, recorded)
-    sign = 1 if sky.sideband == "U" else -1
+    sign = 1 if sky.sides[channel] == "U" else -1
     turns = numpy.mod(sky.frequencies[channel] * lead, 1.0)
-    return numpy.sqrt(2) * (common.at(wave) * numpy.exp(-2j * numpy.pi * sign * turns)).real
+    seen: Reals = numpy.sqrt(2) * (common.at(wave) * numpy.exp(-2j * numpy.pi * sign * turns)).real
+    return seen
 
 
-def codes_of(voltage, bits):
+def codes_of(voltage: Reals, bits: int) -> Codes:
     """The codes of samples of power 1, uint8: 0 is the most negative level."""
     if bits == 1:
         return (voltage >= 0).astype(numpy.uint8)
     return numpy.digitize(voltage, (-THRESHOLD, 0.0, THRESHOLD)).astype(numpy.uint8)
 
 
-def packed(codes, bits):
+def packed(codes: Codes, bits: int) -> Codes:
     """The bytes of codes in their order, uint8: the lowest bits of a byte come first."""
     in_byte = 8 // bits
     shifts = numpy.arange(in_byte, dtype=numpy.uint8) * bits
-    return numpy.bitwise_or.reduce(codes.reshape(-1, in_byte) << shifts, axis=1)
+    together: Codes = numpy.bitwise_or.reduce(codes.reshape(-1, in_byte) << shifts, axis=1)
+    return together
 
 
 class Recording:
     """A station's recording, to which frames are added in their order."""
 
-    def __init__(self, sky, number, file):
+    def __init__(self, sky: Sky, number: int, file: BinaryIO) -> None:
         self.sky = sky
         self.number = number
         self.file = file
@@ -218,7 +272,7 @@ class Recording:
         self.frames = 0
         self.epoch, self.epoch_second = reference_epoch(sky.start)
 
-    def add(self, codes):
+    def add(self, codes: Codes) -> None:
         """Adds the frames of these codes, uint8 of the shape (complete samples, channels), of whole frames."""
         sky = self.sky
         data = codes.reshape(-1, sky.frame_samples, sky.channels)
@@ -230,7 +284,7 @@ class Recording:
                 self.add_frame(0, packed(frame.ravel(), sky.bits))
             self.frames += 1
 
-    def add_frame(self, thread, data):
+    def add_frame(self, thread: int, data: Codes) -> None:
         sky = self.sky
         missing, invalid = self.random.random(2) < (sky.missing, sky.invalid)
         if not missing:
@@ -247,19 +301,25 @@ class Recording:
             self.file.write(data.tobytes())
 
 
-def reference_epoch(second):
+def reference_epoch(second: int) -> tuple[int, int]:
     """The number of the VDIF reference epoch in which a second since 1970-01-01 lies, and the second with which it begins."""
     year, month = time.gmtime(second)[:2]
     half = int(month > 6)
     if not 2000 <= year < 2032:
-        raise ValueError(f"no VDIF reference epoch in the year {year}")
+        raise SkyFault(f"no VDIF reference epoch in the year {year}")
     return 2 * (year - 2000) + half, calendar.timegm((year, 7 if half else 1, 1, 0, 0, 0))
 
 
-def write_recordings(sky, folder):
-    """Writes the recording of each station into a folder, block by block of whole frames."""
+def write_recordings(sky: Sky, folder: str, progress: Callable[[float], None] = no_progress) -> None:
+    """Writes the recording of each station into a folder, block by block of whole frames; `progress` is told the seconds that are made."""
     common = [CommonNoise(sky.seed, channel) for channel in range(sky.channels)]
-    files = [open(os.path.join(folder, f"{station.key}.vdif"), "wb") for station in sky.stations]
+    with contextlib.ExitStack() as stack:
+        files = [stack.enter_context(open(os.path.join(folder, f"{station.key}.vdif"), "wb")) for station in sky.stations]
+        write_blocks(sky, common, files, progress)
+
+
+def write_blocks(sky: Sky, common: list[CommonNoise], files: Sequence[BinaryIO], progress: Callable[[float], None]) -> None:
+    """Writes the recordings into these open files, with this common noise of each channel."""
     recordings = [Recording(sky, number, file) for number, file in enumerate(files, 1)]
     noise = [numpy.random.default_rng([sky.seed, 2 ** 21 + number]) for number in range(len(files))]
     step = max(1, BLOCK // sky.frame_samples) * sky.frame_samples
@@ -273,15 +333,14 @@ def write_recordings(sky, folder):
                 own = random.standard_normal(len(recorded))
                 codes[:, channel] = codes_of(numpy.sqrt(sky.common) * shared + numpy.sqrt(1 - sky.common) * own, sky.bits)
             recording.add(codes)
-    for file in files:
-        file.close()
+        progress(min(first + step, total) / sky.rate)
 
 
-def schedule_text(sky):
+def schedule_text(sky: Sky) -> str:
     """The VEX schedule: one scan, in which all stations observe one source in all channels."""
     channels = "".join(
-        f"  chan_def = : {hertz / 1e6:.6f} MHz : {sky.sideband} : {sky.rate / 2e6:.6f} MHz : &{name} : &BBC{number:02} : &NoCal;\n"
-        for number, (name, hertz) in enumerate(zip(sky.names, sky.frequencies), 1)
+        f"  chan_def = : {hertz / 1e6:.6f} MHz : {side} : {sky.bandwidth / 1e6:.6f} MHz : &{name} : &BBC{number:02} : &NoCal;\n"
+        for number, (name, hertz, side) in enumerate(zip(sky.names, sky.frequencies, sky.sides), 1)
     )
     stations = "".join(f"  station = {station.key} : 0 sec : {sky.seconds} sec;\n" for station in sky.stations)
     return f"""VEX_rev = 1.5;
@@ -296,15 +355,20 @@ def F;
 {channels}enddef;
 $SCHED;
 scan No0001;
-  start = {vlbi_job.vex_time(sky.start)};
+  start = {jobs.vex_time(sky.start)};
   mode = M;
 {stations}endscan;
 """
 
 
-def job_text(sky, lags, integration, model=True, auto=False):
+def job_text(sky: Sky, lags: int, integration: int, model: bool = True, auto: bool = False) -> str:
     """The job's text; with `model` it has the delays and clocks of the stations, with `auto` the stations with themselves too."""
-    lines = [f"lags {lags}", f"integration {integration}", f"epoch {min(integration, 1 << 20)}", f"knot {sky.knot}", *["auto"] * auto]
+    if lags % 2 != 0 or not 2 <= lags <= MOST_LAGS:
+        raise SkyFault(f"the number of lags is even, 2 to {MOST_LAGS}: {lags}")
+    if not 1 <= integration <= 2 ** 36:
+        raise SkyFault(f"an integration has 1 to 2^36 samples: {integration}")
+    epoch = min(integration, MOST_EPOCH, MOST_LOAD // (len(sky.stations) * sky.channels))
+    lines = [f"lags {lags}", f"integration {integration}", f"epoch {epoch}", f"knot {sky.knot}", *["auto"] * auto]
     for number, station in enumerate(sky.stations, 1):
         key = station.key
         lines.append(f"station {key} {number} {sky.bits} {sky.in_frame} {sky.frame_bytes}")
@@ -317,73 +381,32 @@ def job_text(sky, lags, integration, model=True, auto=False):
     return "\n".join(lines) + "\n"
 
 
-def simulate(sky, folder, lags=64, integration=None, blind_integration=None, auto=False):
-    """Writes recordings, schedule and both jobs into a folder, which is made where it is not there.
+def simulate(
+    sky: Sky,
+    folder: str,
+    lags: int = 64,
+    integration: int | None = None,
+    blind_integration: int | None = None,
+    auto: bool = False,
+    progress: Callable[[float], None] = no_progress,
+) -> list[str]:
+    """Writes schedule, both jobs and recordings into a folder, which is made where it is not there; the paths of these files.
 
     integration        samples, of the job that takes the delays out; an eighth of a second where not said
     blind_integration  samples, of the job that does not; a 500th of a second, in which a fringe of up to 250 hertz stands
+    progress           is told again and again how many seconds are made
+
+    SkyFault, before anything is written, where the program would refuse the job.
     """
-    os.makedirs(folder, exist_ok=True)
     texts = {
         "sky.vex": schedule_text(sky),
-        "job.txt": job_text(sky, lags, integration or sky.rate // 8, auto=auto),
-        "blind.txt": job_text(sky, lags, blind_integration or sky.rate // 500, model=False, auto=auto),
+        "job.txt": job_text(sky, lags, max(sky.rate // 8, 1) if integration is None else integration, auto=auto),
+        "blind.txt": job_text(sky, lags, max(sky.rate // 500, 1) if blind_integration is None else blind_integration, model=False, auto=auto),
     }
+    reference_epoch(sky.start)
+    os.makedirs(folder, exist_ok=True)
     for name, text in texts.items():
         with open(os.path.join(folder, name), "w") as out:
             out.write(text)
-    write_recordings(sky, folder)
-
-
-def station_of(words):
-    """A station as the command is given it: KEY, and behind commas `delay=` and `clock=` in microseconds by powers of seconds."""
-    key, *parts = words.split(",")
-    numbers = {"delay": (0.0,), "clock": (0.0,)}
-    for part in parts:
-        name, _, values = part.partition("=")
-        if name not in numbers:
-            raise argparse.ArgumentTypeError(f"neither delay= nor clock=: {part}")
-        try:
-            numbers[name] = tuple(float(value) * 1e-6 for value in values.split(":"))
-        except ValueError:
-            raise argparse.ArgumentTypeError(f"no numbers: {part}") from None
-    if len(numbers["delay"]) > 6 or len(numbers["clock"]) > 2:
-        raise argparse.ArgumentTypeError(f"more than six numbers of a delay, or than two of a clock: {words}")
-    return Station(key, **numbers)
-
-
-def main(words=None):
-    parser = argparse.ArgumentParser(prog="vlbi-simulate", description="Makes recordings with a true fringe, their schedule and jobs.")
-    parser.add_argument("folder", help="where the files are written")
-    parser.add_argument("--station", type=station_of, action="append", metavar="KEY[,delay=US[:US/s[:..]]][,clock=US[:US/s]]",
-                        help="a station, with its delay and its clock's lead in microseconds, by powers of seconds (Ef and Wb where not said)")
-    parser.add_argument("--seconds", type=int, default=10, help="length of the scan (10)")
-    parser.add_argument("--rate", type=int, default=2_000_000, help="samples a second (2000000)")
-    parser.add_argument("--start", default="2010y001d00h00m00s", help="start of the scan (2010y001d00h00m00s)")
-    parser.add_argument("--channels", type=int, default=1, help="number of channels (1)")
-    parser.add_argument("--frequency", type=int, default=8_400_000_000, metavar="HZ", help="sky frequency of the first channel's edge (8400000000)")
-    parser.add_argument("--sideband", choices="UL", default="U", help="of all channels (U)")
-    parser.add_argument("--common", type=float, default=0.1, help="part of a station's power that all have in common (0.1)")
-    parser.add_argument("--bits", type=int, choices=(1, 2), default=2, help="bits in a sample (2)")
-    parser.add_argument("--apart", action="store_true", help="each channel in a thread of its own; so it is where their number is no power of two")
-    parser.add_argument("--missing", type=float, default=0, help="part of the frames that are left out (0)")
-    parser.add_argument("--invalid", type=float, default=0, help="part of the frames that are marked invalid (0)")
-    parser.add_argument("--seed", type=int, default=1, help="of all noise (1)")
-    parser.add_argument("--lags", type=int, default=64, help="lags of the jobs (64)")
-    parser.add_argument("--integration", type=int, metavar="SAMPLES", help="integration of job.txt (an eighth of a second)")
-    parser.add_argument("--blind-integration", type=int, metavar="SAMPLES", help="integration of blind.txt (a 500th of a second)")
-    parser.add_argument("--auto", action="store_true", help="the jobs correlate each station with itself too")
-    given = parser.parse_args(words)
-    stations = given.station or [Station("Ef"), station_of("Wb,delay=4.95:0.01,clock=2.5")]
-    apart = given.apart or given.channels > 64 or given.channels & given.channels - 1 != 0
-    try:
-        sky = Sky(tuple(stations), given.rate, given.seconds, vlbi_job.second_of(given.start), given.channels, given.frequency, given.sideband,
-                  given.common, given.bits, apart, given.missing, given.invalid, given.seed)
-        simulate(sky, given.folder, given.lags, given.integration, given.blind_integration, given.auto)
-    except (OSError, ValueError) as error:
-        parser.error(str(error))
-    return 0
-
-
-if __name__ == "__main__":
-    sys.exit(main())
+    write_recordings(sky, folder, progress)
+    return [os.path.join(folder, name) for name in (*texts, *(f"{station.key}.vdif" for station in sky.stations))]

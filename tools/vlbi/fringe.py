@@ -1,13 +1,21 @@
 """The fringe of a baseline and product in the records of the correlator `vlbi`: its lag, residual rate and signal to noise.
 
-    fringe = vlbi_fringe.of(scan, product, baseline)
+    found = fringe.of(scan, product, baseline)
 
 A positive lag says that the second station got the wave later, or its clock is further ahead, than the job says. The phase of a
 cell turns by the sky frequency times the rate at which that grows (upper sideband; the other way in the lower one).
 """
+from __future__ import annotations
+
 import dataclasses
 
 import numpy
+from numpy.typing import NDArray
+
+from vlbi.records import Scan
+
+Reals = NDArray[numpy.float64]
+Complexes = NDArray[numpy.complex128]
 
 PADDING = 4           # rates for one that the scan's length tells apart
 MOST_CELLS = 1 << 24  # cells of a map up to which it has them
@@ -28,9 +36,9 @@ class Fringe:
     noise      the standard deviation of the noise's real part, by the map's median; NaN where the map has few cells
     """
 
-    lags: numpy.ndarray
-    rates: numpy.ndarray
-    map: numpy.ndarray
+    lags: Reals = dataclasses.field(repr=False)
+    rates: Reals = dataclasses.field(repr=False)
+    map: Reals = dataclasses.field(repr=False)
     lag: float
     rate: float
     amplitude: float
@@ -38,17 +46,17 @@ class Fringe:
     noise: float
 
     @property
-    def snr(self):
+    def snr(self) -> float:
         """The peak's amplitude over the standard deviation of the noise's real part; NaN where the noise is not known."""
         return self.amplitude / self.noise if self.noise > 0 else float("nan")
 
     @property
-    def nearest(self):
+    def nearest(self) -> int:
         """The number of the lag, from 0, that is nearest to the peak."""
         return int(numpy.abs(self.lags - self.lag).argmin())
 
 
-def of(scan, product, baseline):
+def of(scan: Scan, product: int, baseline: int) -> Fringe:
     """The Fringe of a product and a baseline, numbers from 0, of a Scan of a record file; all NaN where it has no integration."""
     cells = scan.cells[:, product, baseline]
     sums = cells["re"] + 1j * cells["im"]
@@ -60,7 +68,7 @@ def of(scan, product, baseline):
     nan = float("nan")
     if heights.size == 0:
         return Fringe(lags, rates, heights, nan, nan, nan, nan, nan)
-    k, l = numpy.unravel_index(heights.argmax(), heights.shape)
+    k, l = divmod(int(heights.argmax()), heights.shape[1])
     lag = lags[l] + vertex(heights[k], l)
     rate = rates[k] + vertex(heights[:, l], k, around=True) * (rates[1] - rates[0] if len(rates) > 1 else 0.0)
     mean = (sums[:, l] * back(scan.times, rate)).sum() / pairs[l]
@@ -68,12 +76,13 @@ def of(scan, product, baseline):
     return Fringe(lags, rates, heights, float(lag), float(rate), float(abs(mean)), float(numpy.angle(mean, deg=True)), float(noise))
 
 
-def back(times, rate):
+def back(times: Reals, rate: float) -> Complexes:
     """The factors that turn a phase back at a rate in hertz, about the middle of these times in seconds: complex128 of their shape."""
-    return numpy.exp(-2j * numpy.pi * rate * (times - times.mean()))
+    factors: Complexes = numpy.exp(-2j * numpy.pi * rate * (times - times.mean()))
+    return factors
 
 
-def power(scan, station, channel):
+def power(scan: Scan, station: int, channel: str) -> float:
     """The mean square of a station's values in a channel, over a scan; NaN where the station was not correlated with itself.
 
     station  its number from 0
@@ -87,7 +96,7 @@ def power(scan, station, channel):
     return float(cells["re"].sum(dtype=numpy.float64) / pairs) if pairs > 0 else float("nan")
 
 
-def transform(sums, step):
+def transform(sums: Complexes, step: float) -> tuple[Complexes, Reals]:
     """The sums over the integrations turned back at each rate, complex128 (K, L), and the rates in hertz, float64 (K,).
 
     sums  complex128 (M, L), one integration each `step` seconds; one integration has the one rate 0
@@ -101,7 +110,7 @@ def transform(sums, step):
     return numpy.fft.fftshift(turned, axes=0), numpy.fft.fftshift(rates)
 
 
-def vertex(heights, at, around=False):
+def vertex(heights: Reals, at: int, around: bool = False) -> float:
     """How far the top of the parabola over a highest place and its two neighbours is from that place, -0.5 to 0.5.
 
     around  whether the last place is a neighbour of the first; else a place at the end is its own top

@@ -1,47 +1,53 @@
 """The record files and journals of the correlator `vlbi`, for numpy.
 
-    records = vlbi_records.read("sky.vis")
-    scan = records.scans[0]
+    found = records.read("sky.vis")
+    scan = found.scans[0]
     scan.cells["re"][integration, product, baseline, lag]
 
 `read` gives a record file's head and cells, `text` the lines that `vlbi JOURNAL dump FILE` prints of it, `journal` how far a
 journal is. Names are texts; a byte that is no UTF-8 is kept as Python keeps it in file names (`surrogateescape`).
 """
+from __future__ import annotations
+
 import dataclasses
 import mmap
 import os
 import stat
+from collections.abc import Iterator
+from typing import BinaryIO, Union
 
 import numpy
+from numpy.typing import NDArray
 
-import vlbi_job
+from vlbi import job as jobs
+from vlbi.faults import Fault, PlacedFault
 
 MAGIC = b"VLBIVIS1"
 JOURNAL_MAGIC = b"VLBIJRN1"
 AXES = ("integration", "product", "baseline", "lag")
 CELL = numpy.dtype([("re", "<i8"), ("im", "<i8"), ("count", "<u8")])
 PLACE = numpy.dtype([("mark", "u1"), ("scan", "<u4"), ("integration", "<u8"), ("product", "<u4"), ("baseline", "<u4")])
+PLACES = {"mark": 0, "scan": 1, "integration": 5, "product": 13, "baseline": 17}  # where each of its fields begins
 CHECKED = 1 << 16  # records whose marks and numbers are looked at in one go
 
 
-class RecordFault(ValueError):
+Data = Union[bytes, mmap.mmap]
+Shape = tuple[int, int, int, int]
+
+
+class RecordFault(PlacedFault):
     """A file that is no record file: the first rule that it breaks, from the front.
 
     `kind` is `Magic`, `Short`, `Head`, `Order` or `AfterEnd`, `at` the place in bytes; both are those that `dump` answers.
     """
 
-    def __init__(self, kind, at):
-        super().__init__(f"records: {kind} at byte {at}")
-        self.kind = kind
-        self.at = at
+    FRONT = "no record file: "
 
 
-class JournalFault(ValueError):
-    """A file that is not blank and no journal: `at` is the place in bytes at which it is none."""
+class JournalFault(PlacedFault):
+    """A file that is not blank and no journal: `kind` says what is there, `at` is the place in bytes at which it is none."""
 
-    def __init__(self, what, at):
-        super().__init__(f"journal: {what} at byte {at}")
-        self.at = at
+    FRONT = "no journal: "
 
 
 @dataclasses.dataclass(frozen=True)
@@ -58,18 +64,18 @@ class Head:
     lags: int
     integration: int
     rate: int
-    stations: tuple
-    products: tuple
+    stations: tuple[str, ...]
+    products: tuple[tuple[str, str], ...]
 
     @property
-    def lag_numbers(self):
+    def lag_numbers(self) -> NDArray[numpy.int64]:
         """The lags in samples, int64 of the shape (L,), from -L/2 on: at lag l the second station's sample n + l goes with n."""
         return numpy.arange(self.lags, dtype=numpy.int64) - self.lags // 2
 
     @property
-    def lag_times(self):
+    def lag_times(self) -> NDArray[numpy.float64]:
         """The lags in microseconds, float64 of the shape (L,)."""
-        return self.lag_numbers * (1e6 / self.rate)
+        return self.lag_numbers.astype(numpy.float64) * (1e6 / self.rate)
 
 
 @dataclasses.dataclass(frozen=True, eq=False)
@@ -90,33 +96,35 @@ class Scan:
     name: str
     start: int
     samples: int
-    baselines: tuple
-    cells: numpy.ndarray = dataclasses.field(repr=False)
+    baselines: tuple[tuple[int, int], ...]
+    cells: NDArray[numpy.void] = dataclasses.field(repr=False)
 
     @property
-    def baseline_keys(self):
+    def baseline_keys(self) -> tuple[tuple[str, str], ...]:
         """The keys of each baseline's two stations, B pairs of texts."""
         return tuple((self.head.stations[a], self.head.stations[b]) for a, b in self.baselines)
 
     @property
-    def begins(self):
+    def begins(self) -> NDArray[numpy.int64]:
         """The first sample of each integration, int64 of the shape (M,)."""
         return numpy.arange(self.cells.shape[0], dtype=numpy.int64) * self.head.integration
 
     @property
-    def times(self):
+    def times(self) -> NDArray[numpy.float64]:
         """The middle of each integration in seconds from the scan's start, float64 of the shape (M,)."""
         begins = self.begins
-        return (begins + numpy.minimum(begins + self.head.integration, self.samples)) / (2 * self.head.rate)
+        middles: NDArray[numpy.float64] = (begins + numpy.minimum(begins + self.head.integration, self.samples)) / (2 * self.head.rate)
+        return middles
 
-    def means(self, product, baseline):
+    def means(self, product: int, baseline: int) -> NDArray[numpy.complex128]:
         """The mean product of a pair's levels, complex128 of the shape (M, L); NaN where a cell has no pair.
 
         product, baseline  numbers from 0
         """
         cells = self.cells[:, product, baseline]
         with numpy.errstate(invalid="ignore"):
-            return (cells["re"] + 1j * cells["im"]) / numpy.where(cells["count"] == 0, numpy.nan, cells["count"])
+            found: NDArray[numpy.complex128] = (cells["re"] + 1j * cells["im"]) / numpy.where(cells["count"] == 0, numpy.nan, cells["count"])
+        return found
 
 
 @dataclasses.dataclass(frozen=True, eq=False)
@@ -124,9 +132,9 @@ class Records:
     """A record file: its Head, and a Scan for each scan that has a baseline, in the schedule's order."""
 
     head: Head
-    scans: tuple
+    scans: tuple[Scan, ...]
 
-    def scan(self, name):
+    def scan(self, name: str | int) -> Scan:
         """The first Scan of this name, or the one of this number from 0; LookupError where there is none."""
         if isinstance(name, int):
             return self.scans[name]
@@ -136,7 +144,7 @@ class Records:
         raise LookupError(f"no scan {name}")
 
 
-def read(path):
+def read(path: str) -> Records:
     """The Records of the record file at a path.
 
     A regular file is mapped, so that only what is looked at is read; anything else (a pipe, say) is read to its end. All the
@@ -146,10 +154,10 @@ def read(path):
     defined content.
     """
     with open(path, "rb") as file:
-        return from_bytes(content(file))
+        return from_bytes(content(file), path)
 
 
-def content(file):
+def content(file: BinaryIO) -> Data:
     """The bytes of an open file: a map of a regular file that is not empty, else what it gives."""
     state = os.fstat(file.fileno())
     if stat.S_ISREG(state.st_mode) and state.st_size > 0:
@@ -157,9 +165,17 @@ def content(file):
     return file.read()
 
 
-def from_bytes(data):
-    """The Records whose file has these bytes (`bytes`, or a map); RecordFault where it is none."""
-    front = Front(data)
+def from_bytes(data: Data, path: str | None = None) -> Records:
+    """The Records whose file has these bytes (`bytes`, or a map); RecordFault where it is none, which names the path."""
+    try:
+        return read_records(Front(data))
+    except RecordFault as fault:
+        fault.name_file(path)
+        raise
+
+
+def read_records(front: Front) -> Records:
+    """The Records of a whole file."""
     head = read_head(front)
     scans = [read_scan(front, len(head.stations)) for _ in range(front.number(4, 0, 2 ** 32 - 1))]
     made = []
@@ -173,30 +189,30 @@ def from_bytes(data):
 class Front:
     """The bytes of a file, read from the front, and the place up to which they are read."""
 
-    def __init__(self, data):
+    def __init__(self, data: Data) -> None:
         self.data = data
         self.at = 0
 
-    def piece(self, size):
+    def piece(self, size: int) -> bytes:
         """The next bytes. `Short` at the file's length where it ends before."""
         if len(self.data) - self.at < size:
             raise RecordFault("Short", len(self.data))
         self.at += size
         return self.data[self.at - size:self.at]
 
-    def number(self, size, least, greatest):
+    def number(self, size: int, least: int, greatest: int) -> int:
         """The next whole number of so many bytes. `Head` at its first byte where it is out of this range."""
         number = int.from_bytes(self.piece(size), "little")
         if not least <= number <= greatest:
             raise RecordFault("Head", self.at - size)
         return number
 
-    def name(self):
+    def name(self) -> str:
         """The next name: its length in two bytes, and its bytes."""
         return self.piece(self.number(2, 1, 255)).decode("utf-8", "surrogateescape")
 
 
-def read_head(front):
+def read_head(front: Front) -> Head:
     """The Head, up to the number of scans."""
     if front.piece(8) != MAGIC:
         raise RecordFault("Magic", 0)
@@ -210,12 +226,12 @@ def read_head(front):
     return Head(lags, integration, rate, stations, products)
 
 
-def read_scan(front, stations):
+def read_scan(front: Front, stations: int) -> tuple[str, int, int, tuple[tuple[int, int], ...]]:
     """A scan's name, start, samples and baselines."""
     name = front.name()
     start = front.number(8, 0, 2 ** 32 - 1)
     samples = front.number(8, 0, 2 ** 40)
-    baselines = []
+    baselines: list[tuple[int, int]] = []
     for _ in range(front.number(4, 1, 528)):
         before = baselines[-1] if baselines else (0, -1)
         a = front.number(4, before[0], stations - 1)
@@ -224,7 +240,7 @@ def read_scan(front, stations):
     return name, start, samples, tuple(baselines)
 
 
-def read_cells(front, scan, shape):
+def read_cells(front: Front, scan: int, shape: Shape) -> NDArray[numpy.void]:
     """The cells of a scan's records, of this shape, when each record has been found to be the one that is due."""
     integrations, products, baselines, lags = shape
     size = PLACE.itemsize + lags * CELL.itemsize
@@ -233,19 +249,20 @@ def read_cells(front, scan, shape):
     begins = front.at
     check_places(front, scan, shape, whole, size)
     if whole < due:
-        check_part(front, (scan, *numpy.unravel_index(whole, shape[:3])))
+        integration, rest = divmod(whole, products * baselines)
+        check_part(front, (scan, integration, *divmod(rest, baselines)))
     strides = (products * baselines * size, baselines * size, size, CELL.itemsize)
     if due == 0:
         return numpy.zeros(shape, CELL)
     return numpy.ndarray(shape, CELL, front.data, begins + PLACE.itemsize, strides)
 
 
-def check_places(front, scan, shape, whole, size):
+def check_places(front: Front, scan: int, shape: Shape, whole: int, size: int) -> None:
     """Goes over so many whole records. `Order` at the first mark or number that is not the one due."""
     _, products, baselines, _ = shape
     for first in range(0, whole, CHECKED):
         count = min(CHECKED, whole - first)
-        places = numpy.ndarray((count,), PLACE, front.data, front.at, (size,))
+        places: NDArray[numpy.void] = numpy.ndarray((count,), PLACE, front.data, front.at, (size,))
         number = numpy.arange(first, first + count, dtype=numpy.uint64)
         due = {
             "mark": 1,
@@ -254,27 +271,27 @@ def check_places(front, scan, shape, whole, size):
             "product": number // baselines % products,
             "baseline": number % baselines,
         }
-        wrong = numpy.stack([places[field] != due[field] for field in PLACE.names], axis=1)
+        wrong = numpy.stack([places[field] != due[field] for field in PLACES], axis=1)
         if wrong.any():
-            record, field = divmod(int(wrong.ravel().argmax()), len(PLACE.names))
-            raise RecordFault("Order", front.at + record * size + PLACE.fields[PLACE.names[field]][1])
+            record, field = divmod(int(wrong.ravel().argmax()), len(PLACES))
+            raise RecordFault("Order", front.at + record * size + list(PLACES.values())[field])
         front.at += count * size
 
 
-def check_part(front, place):
+def check_part(front: Front, place: tuple[int, int, int, int]) -> None:
     """Goes over the first part of a record behind which the file ends: `Order`, or else `Short` at the file's length."""
-    for field, due in zip(PLACE.names, (1, *place)):
+    for field, due in zip(PLACES, (1, *place)):
         due_number(front, PLACE[field].itemsize, due)
     raise RecordFault("Short", len(front.data))
 
 
-def due_number(front, size, due):
+def due_number(front: Front, size: int, due: int) -> None:
     """Reads the next number. `Order` at its first byte where it is not the one due."""
     if int.from_bytes(front.piece(size), "little") != due:
         raise RecordFault("Order", front.at - size)
 
 
-def read_end(front, records):
+def read_end(front: Front, records: int) -> None:
     """Reads the end, with the number of records, and nothing behind it."""
     due_number(front, 1, 0xFF)
     due_number(front, 8, records)
@@ -282,9 +299,9 @@ def read_end(front, records):
         raise RecordFault("AfterEnd", front.at)
 
 
-def text(records):
+def text(records: Records) -> Iterator[bytes]:
     """The lines that `dump` prints of a record file, each with its line feed, as an iterator of `bytes`."""
-    def raw(name):
+    def raw(name: str) -> bytes:
         return name.encode("utf-8", "surrogateescape")
 
     head = records.head
@@ -298,9 +315,9 @@ def text(records):
         for place, (a, b) in enumerate(scan.baselines):
             yield b"baseline %d %d %d %d\n" % (number, place, a, b)
     for number, scan in enumerate(records.scans):
-        for place in numpy.ndindex(scan.cells.shape[:3]):
-            for lag, (re, im, count) in zip(head.lag_numbers.tolist(), scan.cells[place].tolist()):
-                yield b"%d %d %d %d %d %d %d %d\n" % (number, *place, lag, re, im, count)
+        for record in numpy.ndindex(scan.cells.shape[:3]):
+            for lag, (re, im, count) in zip(head.lag_numbers.tolist(), scan.cells[record].tolist()):
+                yield b"%d %d %d %d %d %d %d %d\n" % (number, *record, lag, re, im, count)
 
 
 @dataclasses.dataclass(frozen=True)
@@ -319,57 +336,65 @@ class Journal:
 
     blank: bool
     kept: int = 0
-    epochs: int = None
+    epochs: int | None = None
     kept_samples: int = 0
-    samples: int = None
+    samples: int | None = None
     job: bytes = b""
     schedule: bytes = b""
-    recordings: tuple = ()
+    recordings: tuple[int, ...] = ()
 
     @property
-    def whole(self):
+    def whole(self) -> bool:
         """Whether it keeps every epoch of its job."""
         return not self.blank and self.kept == self.epochs
 
-    def __str__(self):
+    def __str__(self) -> str:
         return "a blank journal" if self.blank else f"{self.kept} of {self.epochs} epochs kept"
 
 
-def journal(path):
+def journal(path: str) -> Journal:
     """How far the journal at a path is, a Journal. It may be asked while a `run` works on it; nothing is written.
 
-    JournalFault where the file is not blank and no journal; vlbi_job.JobFault where its job and schedule cannot be read;
+    JournalFault where the file is not blank and no journal; job.JobFault where its job and schedule cannot be read;
     OSError where the file cannot be read.
     """
-    with open(path, "rb") as file:
-        data = content(file)
-        if len(data) <= 1 or data[0] != 1:
-            return Journal(blank=True)
-        front = JournalFront(data)
-        front.at = 1
-        if front.piece(8) != JOURNAL_MAGIC:
-            raise JournalFault("another mark", 1)
-        lengths = [front.word() for _ in range(3)]
-        recordings = tuple(front.word() for _ in range(lengths.pop()))
-        schedule, job = (bytes(front.piece(length)) for length in lengths)
-        return walk(front, job, schedule, recordings)
+    try:
+        with open(path, "rb") as file:
+            return read_journal(content(file))
+    except Fault as fault:
+        fault.name_file(path)
+        raise
+
+
+def read_journal(data: Data) -> Journal:
+    """How far the journal of these bytes is."""
+    if len(data) <= 1 or data[0] != 1:
+        return Journal(blank=True)
+    front = JournalFront(data)
+    front.at = 1
+    if front.piece(8) != JOURNAL_MAGIC:
+        raise JournalFault("another mark", 1)
+    lengths = [front.word() for _ in range(3)]
+    recordings = tuple(front.word() for _ in range(lengths.pop()))
+    schedule, job = (bytes(front.piece(length)) for length in lengths)
+    return walk(front, job, schedule, recordings)
 
 
 class JournalFront(Front):
     """The bytes of a journal, read from the front."""
 
-    def piece(self, size):
+    def piece(self, size: int) -> bytes:
         if len(self.data) - self.at < size:
             raise JournalFault("the end", len(self.data))
         return super().piece(size)
 
-    def word(self):
+    def word(self) -> int:
         return int.from_bytes(self.piece(8), "little")
 
 
-def walk(front, job, schedule, recordings):
+def walk(front: JournalFront, job: bytes, schedule: bytes, recordings: tuple[int, ...]) -> Journal:
     """The Journal whose first gate is next: the open gates in a row are counted, scan by scan."""
-    plan = vlbi_job.plan(job, schedule)
+    plan = jobs.plan(job, schedule)
     kept = kept_samples = 0
     for scan in plan.scans:
         size = 1 + len(plan.products) * len(scan.baselines) * plan.lags * CELL.itemsize
@@ -382,7 +407,7 @@ def walk(front, job, schedule, recordings):
     return Journal(False, kept, plan.epochs, kept_samples, plan.samples, job, schedule, recordings)
 
 
-def open_gates(front, epochs, size):
+def open_gates(front: JournalFront, epochs: int, size: int) -> int:
     """Goes past the open gates in a row, of at most so many epochs, and their bodies; the number of these gates.
 
     size  the bytes of a gate and its body

@@ -1,0 +1,78 @@
+"""`vlbi.job`: the lines of a job, and what a job comes to."""
+from __future__ import annotations
+
+import math
+
+import pytest
+
+from vlbi import job as jobs
+
+
+def test_lines_from_what_a_station_has() -> None:
+    # worked out in docs/FORMATS.md
+    assert jobs.clock_line("Wb", 1262304000, 2.5, 1e-12, 16_000_000) == "clock Wb 2010y001d00h00m00s 171798691840 68719"
+    assert jobs.poly_line("Wb", 1262304000, [1e-6, 1e-6], 16_000_000) == "poly Wb 2010y001d00h00m00s 68719476736 2361183241434823"
+    assert jobs.poly_line("Wb", 1262304000, ["1e-6", "0.000001"], 16_000_000) == "poly Wb 2010y001d00h00m00s 68719476736 2361183241434823"
+
+
+def test_numbers_past_their_greatest() -> None:
+    with pytest.raises(jobs.JobFault, match="station Wb: a clock offset or drift past its greatest"):
+        jobs.clock_line("Wb", 0, 1e12, 0, 16_000_000)
+    with pytest.raises(jobs.JobFault, match="station Wb: a delay has one to six numbers"):
+        jobs.poly_line("Wb", 0, [], 16_000_000)
+    with pytest.raises(jobs.JobFault, match="it is past the greatest delay"):
+        jobs.poly_line("Wb", 0, [1e9], 16_000_000)
+    with pytest.raises(jobs.JobFault, match="past its greatest with every knot"):
+        jobs.knot_line([[0], [1e9]], 16_000_000)
+
+
+def earth(late: float, phase: float) -> list[float]:
+    """The first six coefficients of a station's delay as the earth turns: late * cos(w t + phase)."""
+    w = 2 * math.pi / 86164.1
+    return [late * w ** k / math.factorial(k) * math.cos(phase + k * math.pi / 2) for k in range(6)]
+
+
+@pytest.mark.parametrize("rate, knot", [(1_000_000, 8192), (2_000_000, 16384), (4_000_000, 16384), (8_000_000, 32768), (128_000_000, 32768)])
+def test_a_real_delay_names_its_knot(rate: int, knot: int) -> None:
+    """The 21 milliseconds of the earth's radius, at the worst of many phases, go into every job with the knot that is named."""
+    delays = [earth(0.021, phase / 10) for phase in range(63)]
+    found = jobs.largest_knot(delays, rate)
+    assert found == knot
+    assert jobs.knot_line(delays, rate) == f"knot {found}"
+    for delay in delays:
+        jobs.poly_line("Wb", 1262304000, delay, rate, found)
+    if found < jobs.KNOT:
+        with pytest.raises(jobs.JobFault, match=f"with a knot of {found} samples, in the job's `knot` line too, they do"):
+            for delay in delays:
+                jobs.poly_line("Wb", 1262304000, delay, rate, 2 * found)
+
+
+def test_epochs_of_a_schedule() -> None:
+    schedule = b"""VEX_rev = 1.5; * a schedule
+$MODE; def M; ref $FREQ = F : Wb; ref $FREQ = G : Ef:On; ref $FREQ = F : Mc; enddef;
+$FREQ; def F; sample_rate = 16.0Ms/sec; enddef; def G; sample_rate = 16 Ms/sec; x = "scan T; ; endscan;"; enddef;
+$SCHED;
+scan A; start = 2010y001d00h00m00s; mode = M; start_literal(x); scan B; end_literal(x);
+station = Ef : 0 sec : 2.5 sec; station = Wb : 1 sec : 3 sec : : :; station = Mc : 0 sec : 9 sec; endscan;
+scan B; start = 2010y001d01h00m00s; mode = M; station = Ef : 0 sec : 2 sec; endscan;
+scan C; start = 2010y001d02h00m00s; mode = M; station = On : 0 sec : 1 sec; station = Wb : 0 sec : 1sec; endscan;
+"""
+    job = b"lags 4\nintegration 32000000 # two seconds\nepoch 3000000\nstation Ef 1 2 1 40\nstation Wb 2 2 1 40\nstation On 3 2 1 40\nproduct X X\n"
+    plan = jobs.plan(job, schedule)
+    assert [(scan.name, scan.samples, scan.baselines) for scan in plan.scans] == [("A", 48_000_000, ((0, 1),)), ("C", 16_000_000, ((1, 2),))]
+    assert [plan.epochs_of(scan) for scan in plan.scans] == [11 + 6, 6]
+    assert [plan.samples_of(plan.scans[0], epochs) for epochs in (0, 10, 11, 12, 17)] == [0, 30_000_000, 32_000_000, 35_000_000, 48_000_000]
+    assert [scan.name for scan in jobs.plan(job + b"take C\n", schedule).scans] == ["C"]
+
+
+@pytest.mark.parametrize("job, schedule, said", [
+    (b"lags 4\n", b"", "the job has no line `integration` with a number"),
+    (b"lags 4\nintegration 4.5\nepoch 1\n", b"", "the job: no whole number: 4.5"),
+    (b"lags x\nintegration 4\nepoch 1\n", b"", "the job: no number: x"),
+    (b"lags 4\n", b"VEX_rev = 2.0;", "the schedule: Revision at byte 0"),
+    (b"lags 4\n", b"VEX_rev = 1.5;", "the schedule: NoSched at byte 0"),
+])
+def test_jobs_that_cannot_be_read(job: bytes, schedule: bytes, said: str) -> None:
+    with pytest.raises(jobs.JobFault) as caught:
+        jobs.plan(job, schedule)
+    assert str(caught.value) == said

@@ -1,0 +1,60 @@
+"""The commands around the correlator `vlbi`: `main` of each module is one. They import what they need once they know what is asked."""
+from __future__ import annotations
+
+import argparse
+import os
+import sys
+from collections.abc import Callable, Sequence
+from typing import Any
+
+import vlbi
+from vlbi.faults import Fault
+
+
+class PrintFolder(argparse.Action):
+    """The option `--where`: the folder that Python has to search for the package."""
+
+    def __call__(self, parser: argparse.ArgumentParser, namespace: argparse.Namespace, values: str | Sequence[Any] | None,
+                 option_string: str | None = None) -> None:
+        print(os.path.dirname(os.path.dirname(os.path.abspath(vlbi.__file__))))
+        parser.exit()
+
+
+def parser_of(name: str, description: str) -> argparse.ArgumentParser:
+    """A parser with what all commands have alike."""
+    parser = argparse.ArgumentParser(prog=name, description=description, epilog=f"`man {name}` says more.", allow_abbrev=False)
+    parser.add_argument("--version", action="version", version=f"%(prog)s {vlbi.__version__}")
+    parser.add_argument("--where", action=PrintFolder, nargs=0, help="print the folder that PYTHONPATH has to name for Python to find the package vlbi")
+    return parser
+
+
+def whole_number(least: int, greatest: int) -> Callable[[str], int]:
+    """Reads an option's whole number of this range."""
+    def number(word: str) -> int:
+        found = int(word)
+        if not least <= found <= greatest:
+            raise argparse.ArgumentTypeError(f"{word} is not {least} to {greatest}")
+        return found
+
+    number.__name__ = "number"  # as argparse calls it where the word is none
+    return number
+
+
+def told(name: str, work: Callable[[], int]) -> int:
+    """The exit status of a command's work; what is wrong is a line on standard error, and the status 1."""
+    try:
+        return work()
+    except Fault as fault:
+        words = str(fault)
+    except ModuleNotFoundError as error:
+        if error.name is None or error.name.split(".")[0] == "vlbi":
+            raise
+        package = error.name.split(".")[0]
+        words = f"needs the Python package {package}: Debian's python3-{package}"
+    except OSError as error:
+        words = f"{error.filename}: {error.strerror}" if error.filename else str(error.strerror or error)
+    except KeyboardInterrupt:
+        print(f"{name}: interrupted", file=sys.stderr)
+        return 130
+    print(f"{name}: {words}", file=sys.stderr)
+    return 1

@@ -1,0 +1,126 @@
+"""The command `vlbi-simulate`: recordings with a true fringe, their schedule and jobs.
+
+    vlbi-simulate FOLDER --station Ef --station Wb,delay=4.95:0.01,clock=2.5
+
+writes into FOLDER a recording KEY.vdif of each station, the schedule sky.vex, the job job.txt, which takes the delays and clocks out,
+and the job blind.txt, which knows nothing of them. Then, in FOLDER,
+
+    vlbi journal run --job job.txt --vex sky.vex --workers 4 --piece 65536 > sky.vis
+    vlbi-plot sky.vis
+"""
+from __future__ import annotations
+
+import argparse
+import sys
+import time
+from collections.abc import Sequence
+from typing import NamedTuple
+
+from vlbi.commands import parser_of, told
+from vlbi.faults import Fault
+
+NAME = "vlbi-simulate"
+EVERY = 10.0         # seconds between two lines that say how far it is, where standard error is no terminal
+EVERY_SHOWN = 0.2    # and where it is one
+
+
+class Asked(NamedTuple):
+    """A station as the command is given it: its key, and its delay and its clock's lead in seconds by powers of seconds."""
+
+    key: str
+    delay: tuple[float, ...] = (0.0,)
+    clock: tuple[float, ...] = (0.0,)
+
+
+def main(words: Sequence[str] | None = None) -> int:
+    given = parser().parse_args(words)
+    return told(NAME, lambda: simulate(given))
+
+
+def parser() -> argparse.ArgumentParser:
+    made = parser_of(NAME, "Makes recordings with a true fringe, their schedule and jobs.")
+    made.add_argument("folder", help="where the files are written")
+    made.add_argument("--station", type=station_of, action="append", metavar="KEY[,delay=US[:US/s[:..]]][,clock=US[:US/s]]",
+                      help="a station, with its delay and its clock's lead in microseconds, by powers of seconds (Ef and Wb where not said)")
+    made.add_argument("--seconds", type=int, default=10, help="length of the scan (10)")
+    made.add_argument("--rate", type=int, default=2_000_000, help="samples a second (2000000)")
+    made.add_argument("--start", default="2010y001d00h00m00s", help="start of the scan (2010y001d00h00m00s)")
+    made.add_argument("--channels", type=int, default=1, help="number of channels (1)")
+    made.add_argument("--frequency", type=int, default=8_400_000_000, metavar="HZ", help="sky frequency of the first channel's edge (8400000000)")
+    made.add_argument("--sideband", default="U", metavar="U|L..", help="of all channels, or a letter for each, as UULL (U)")
+    made.add_argument("--common", type=float, default=0.1, help="part of a station's power that all have in common (0.1)")
+    made.add_argument("--bits", type=int, choices=(1, 2), default=2, help="bits in a sample (2)")
+    made.add_argument("--apart", action="store_true", help="each channel in a thread of its own; so it is where their number is no power of two")
+    made.add_argument("--missing", type=float, default=0, help="part of the frames that are left out (0)")
+    made.add_argument("--invalid", type=float, default=0, help="part of the frames that are marked invalid (0)")
+    made.add_argument("--seed", type=int, default=1, help="of all noise (1)")
+    made.add_argument("--lags", type=int, default=64, help="lags of the jobs (64)")
+    made.add_argument("--integration", type=int, metavar="SAMPLES", help="integration of job.txt (an eighth of a second)")
+    made.add_argument("--blind-integration", type=int, metavar="SAMPLES", help="integration of blind.txt (a 500th of a second)")
+    made.add_argument("--auto", action="store_true", help="the jobs correlate each station with itself too")
+    made.add_argument("--quiet", action="store_true", help="do not say how far it is")
+    return made
+
+
+def station_of(words: str) -> Asked:
+    """A station as the command is given it: KEY, and behind commas `delay=` and `clock=` in microseconds by powers of seconds."""
+    key, *parts = words.split(",")
+    numbers: dict[str, tuple[float, ...]] = {}
+    for part in parts:
+        name, _, values = part.partition("=")
+        if name not in ("delay", "clock"):
+            raise argparse.ArgumentTypeError(f"neither delay= nor clock=: {part}")
+        if name in numbers:
+            raise argparse.ArgumentTypeError(f"{name}= twice: {words}")
+        try:
+            numbers[name] = tuple(float(value) * 1e-6 for value in values.split(":"))
+        except ValueError:
+            raise argparse.ArgumentTypeError(f"no numbers: {part}") from None
+    made = Asked(key, **numbers)
+    if len(made.delay) > 6 or len(made.clock) > 2:
+        raise argparse.ArgumentTypeError(f"more than six numbers of a delay, or than two of a clock: {words}")
+    return made
+
+
+def simulate(given: argparse.Namespace) -> int:
+    """Makes what is asked; the exit status."""
+    from vlbi import job
+    from vlbi import simulate as made
+
+    stations = [made.Station(*one) for one in given.station or (Asked("Ef"), station_of("Wb,delay=4.95:0.01,clock=2.5"))]
+    try:
+        start = job.second_of(given.start)
+    except ValueError as error:
+        raise Fault(f"--start: {error}") from None
+    sky = made.Sky(
+        stations=tuple(stations), rate=given.rate, seconds=given.seconds, start=start, channels=given.channels, frequency=given.frequency,
+        sideband=given.sideband, common=given.common, bits=given.bits, apart=given.apart or given.channels & (given.channels - 1) != 0,
+        missing=given.missing, invalid=given.invalid, seed=given.seed,
+    )
+    progress = made.no_progress if given.quiet else Progress(sky.seconds).say
+    paths = made.simulate(sky, given.folder, given.lags, given.integration, given.blind_integration, given.auto, progress)
+    for path in paths:
+        print(path)
+    return 0
+
+
+class Progress:
+    """Says on standard error how far it is: in a terminal in one line that changes, else in a line each ten seconds."""
+
+    def __init__(self, seconds: int) -> None:
+        self.seconds = seconds
+        self.shown = sys.stderr.isatty()
+        self.last = time.monotonic()
+
+    def say(self, made: float) -> None:
+        now = time.monotonic()
+        done = made >= self.seconds
+        if now - self.last < (EVERY_SHOWN if self.shown else EVERY) and not (done and self.shown):
+            return
+        self.last = now
+        words = f"{NAME}: {made:.1f} of {self.seconds} seconds are made"
+        print(f"\r{words}" if self.shown else words, end="\n" if done or not self.shown else "", file=sys.stderr, flush=True)
+
+
+if __name__ == "__main__":
+    sys.exit(main())

@@ -1,0 +1,215 @@
+"""The jobs of the correlator `vlbi`: lines of a job's text from what a station has, and what a job comes to.
+
+    job.clock_line("Wb", time, 2.5, 1e-12, 16_000_000)
+    job.poly_line("Wb", time, [0.0123, 1.1e-6, -3e-11], 16_000_000)
+    job.knot_line([[0.0123, 1.1e-6, -3e-11]], 16_000_000)
+
+`plan` reads a job that the program has accepted, with its schedule, to its scans and epochs. It is no judge of a job: that is
+`vlbi JOURNAL check`.
+"""
+from __future__ import annotations
+
+import dataclasses
+import fractions
+from collections.abc import Iterable, Sequence
+
+from vlbi import vex
+from vlbi.faults import Fault
+from vlbi.vex import second_of as second_of
+from vlbi.vex import vex_time as vex_time
+
+KNOT = 32768         # the job's knot where it has no line `knot`
+KNOTS = 2 ** 24      # for which a polynomial counts
+MOST_TERMS = 6
+MOST_POLY = 2 ** 58  # of the sum of a `poly` line's magnitudes
+
+
+class JobFault(Fault):
+    """A job or a schedule that cannot be read, or a number that no line of a job can hold."""
+
+
+def clock_line(key: str, when: int, offset: float | str, drift: float | str, rate: int) -> str:
+    """The `clock` line of a station whose clock is ahead.
+
+    when    the second since 1970-01-01 from which on it counts
+    offset  microseconds that the clock is ahead then; negative where it is behind
+    drift   seconds that it gains in each second
+    rate    samples a second
+
+    JobFault where a number is past what the line may hold.
+    """
+    c0 = round(exact(offset) * rate * 2 ** 32 / 10 ** 6)
+    c1 = round(exact(drift) * rate * 2 ** 32)
+    if abs(c0) >= 2 ** 57 or abs(c1) >= 2 ** 25:
+        raise JobFault(f"station {key}: a clock offset or drift past its greatest: {offset} microseconds, {drift}")
+    return f"clock {key} {vex_time(when)} {c0} {c1}"
+
+
+def poly_line(key: str, when: int, coefficients: Sequence[float | str], rate: int, knot: int = KNOT) -> str:
+    """The `poly` line of a station that gets the wave late.
+
+    when          the second since 1970-01-01 from which on it counts, and from which its powers are counted
+    coefficients  one to six numbers: the delay `t` seconds behind `when` is c[0] + c[1]*t + c[2]*t*t + .. seconds
+    rate          samples a second
+    knot          samples from one knot to the next: the number of the job's `knot` line, of which a job has one for all stations
+
+    It counts for 2^24 knots. JobFault where the numbers are past what the line may hold; it names a knot with which they are not, if
+    there is one.
+    """
+    if not 1 <= len(coefficients) <= MOST_TERMS:
+        raise JobFault(f"station {key}: a delay has one to six numbers: {list(coefficients)}")
+    counts = poly_counts(coefficients, rate, knot)
+    if not fits(counts):
+        less = largest_knot([coefficients], rate)
+        help_words = "it is past the greatest delay" if less is None else f"with a knot of {less} samples, in the job's `knot` line too, they do"
+        raise JobFault(f"station {key}: these delays do not go into a poly line with a knot of {knot} samples; {help_words}: {list(coefficients)}")
+    return " ".join(["poly", key, vex_time(when), *(str(count) for count in counts)])
+
+
+def poly_counts(coefficients: Iterable[float | str], rate: int, knot: int) -> list[int]:
+    """The coefficients in 2^-32 sample, by powers of 2^24 knots."""
+    step = fractions.Fraction(KNOTS * knot, rate)
+    return [round(exact(c) * rate * 2 ** 32 * step ** power) for power, c in enumerate(coefficients)]
+
+
+def fits(counts: Iterable[int]) -> bool:
+    """Whether a `poly` line may hold these numbers."""
+    return sum(abs(count) for count in counts) < MOST_POLY
+
+
+def largest_knot(delays: Sequence[Sequence[float | str]], rate: int) -> int | None:
+    """The largest knot, 32768 samples or a smaller power of two, with which the `poly` lines of all these delays can be written.
+
+    delays  the coefficients of each line
+    None where there is none.
+    """
+    knot = KNOT
+    while knot >= 1:
+        if all(fits(poly_counts(coefficients, rate, knot)) for coefficients in delays):
+            return knot
+        knot //= 2
+    return None
+
+
+def knot_line(delays: Sequence[Sequence[float | str]], rate: int) -> str:
+    """The job's `knot` line for these delays of all its stations, each the coefficients of a `poly` line.
+
+    A polynomial counts for 2^24 of these knots, which is `knot_seconds`. JobFault where no knot is short enough.
+    """
+    knot = largest_knot(delays, rate)
+    if knot is None:
+        raise JobFault("a delay is past its greatest with every knot")
+    return f"knot {knot}"
+
+
+def knot_seconds(knot: int, rate: int) -> float:
+    """How many seconds a polynomial counts with this knot, in samples."""
+    return KNOTS * knot / rate
+
+
+def exact(number: float | str) -> fractions.Fraction:
+    """A number as it is written, `1e-6` a millionth; a text as "2.5" too."""
+    return fractions.Fraction(str(number))
+
+
+@dataclasses.dataclass(frozen=True)
+class Scan:
+    """A scan of a plan: its name, its length in samples, its baselines as pairs of numbers of the job's stations."""
+
+    name: str
+    samples: int
+    baselines: tuple[tuple[int, int], ...]
+
+
+@dataclasses.dataclass(frozen=True)
+class Plan:
+    """What a job comes to.
+
+    lags, integration, epoch  the numbers of these lines, the last two in samples
+    stations                  the stations' keys
+    products                  pairs of names of channels
+    scans                     a Scan for each scan that has a baseline
+    """
+
+    lags: int
+    integration: int
+    epoch: int
+    stations: tuple[str, ...]
+    products: tuple[tuple[str, str], ...]
+    scans: tuple[Scan, ...]
+
+    def epochs_of(self, scan: Scan) -> int:
+        """The number of epochs of a scan."""
+        whole, rest = divmod(scan.samples, self.integration)
+        return whole * -(-self.integration // self.epoch) - (-rest // self.epoch)
+
+    def samples_of(self, scan: Scan, epochs: int) -> int:
+        """The samples in so many first epochs of a scan."""
+        whole, more = divmod(epochs, -(-self.integration // self.epoch))
+        return min(whole * self.integration + more * self.epoch, scan.samples)
+
+    @property
+    def epochs(self) -> int:
+        return sum(self.epochs_of(scan) for scan in self.scans)
+
+    @property
+    def samples(self) -> int:
+        return sum(scan.samples for scan in self.scans)
+
+
+def plan(job: bytes, schedule: bytes = b"") -> Plan:
+    """The Plan of a job's text and its schedule's, empty where there is none; JobFault where they cannot be read."""
+    lines = job_lines(job)
+    keys = tuple(fields[0] for fields in lines.get("station", []) if fields)
+    taken = {fields[0] for fields in lines.get("take", []) if fields}
+    ends = schedule_ends(schedule, keys) if schedule else inline_ends(lines, keys)
+    made = []
+    for name, last in ends:
+        standing = [number for number, key in enumerate(keys) if key in last and (not taken or name in taken)]
+        baselines = tuple((a, b) for a in standing for b in standing if a < b or a == b and "auto" in lines)
+        if baselines:
+            made.append(Scan(name, max(last.values()), baselines))
+    products = tuple((fields[0], fields[1]) for fields in lines.get("product", []) if len(fields) == 2)
+    lags, integration, epoch = (only_number(lines, word) for word in ("lags", "integration", "epoch"))
+    return Plan(lags, integration, epoch, keys, products, tuple(made))
+
+
+def schedule_ends(schedule: bytes, keys: Iterable[str]) -> list[tuple[str, dict[str, int]]]:
+    """The scans of a schedule: each one's name, and the sample before which the part of each of these stations in it ends."""
+    try:
+        return [(scan.name, scan.ends(keys)) for scan in vex.from_bytes(schedule).scans]
+    except vex.VexFault as fault:
+        raise JobFault(f"the schedule: {fault}") from fault
+
+
+def inline_ends(lines: dict[str, list[list[str]]], keys: Sequence[str]) -> list[tuple[str, dict[str, int]]]:
+    """The same of a job that states its scans itself: all stations stand in each."""
+    return [(fields[0], dict.fromkeys(keys, whole(fields[2]))) for fields in lines.get("scan", []) if len(fields) == 3]
+
+
+def only_number(lines: dict[str, list[list[str]]], word: str) -> int:
+    """The number of a line that every job has."""
+    if not lines.get(word) or not lines[word][0]:
+        raise JobFault(f"the job has no line `{word}` with a number")
+    return whole(lines[word][0][0])
+
+
+def job_lines(text: bytes) -> dict[str, list[list[str]]]:
+    """The lines of a job by their words, each as a list of the fields behind its word."""
+    lines: dict[str, list[list[str]]] = {}
+    for line in text.decode("latin-1").split("\n"):
+        fields = line.split("#")[0].split()
+        if fields:
+            lines.setdefault(fields[0], []).append(fields[1:])
+    return lines
+
+
+def whole(number: str) -> int:
+    """A whole number as jobs write it: `64`, `+64`, `064`, `64.00`. JobFault where it is none."""
+    try:
+        value = vex.decimal(number)
+    except ValueError as error:
+        raise JobFault(f"the job: {error}") from None
+    if value.denominator != 1:
+        raise JobFault(f"the job: no whole number: {number}")
+    return int(value)

@@ -11,9 +11,6 @@ use Rattle.fringe_search.specs.Layout.{Series, cell_at}
 use Rattle.fringe_search.specs.Sums.{cosines, cosine_of, sine_of, turned_re, turned_im, size, sector, re_at, im_at, amplitude_at, power_at, bound_at}
 use Rattle.fringe_search.proofs.SumBounds.{int_sum-within}
 
-IsTurn : ℤ → Type 0
-IsTurn z = unsigned_abs z ≤ 16384
-
 all_turns : All (λ z. unsigned_abs z ≤ 16384) cosines
 all_turns = search arith
 

@@ -66,12 +66,3 @@ passes power rates l r lag bound a within h = record {
   late = omega (arith, a.late);
   rate_late = λ e. absurd (omega (arith, a.late));
 }
-
--- the first point of all
-pub begins : (power : ℕ → ℤ → ℕ) (rates : ℕ) → Ahead power rates 0 (pos 0 -ℤ pos rates) 0 0
-begins power rates = record {
-  earlier = λ lag' rate p q. absurd (omega arith);
-  here = λ k p. absurd (omega arith);
-  late = omega arith;
-  rate_late = λ _. omega (arith, ints);
-}

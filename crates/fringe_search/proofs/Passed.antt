@@ -20,15 +20,6 @@ pub record IsPassed (c : Content) (next : Option SeriesAt) : Type 0 where
   pub within : MatchOption next (Unit {0}) (IsSeriesAt c.head)
   pub small : All (λ (at : SeriesAt). IsSmall (series_of c at)) before
 
-pub none_passed : (c : Content) (h : Head) (next : Option SeriesAt) → h ≡ c.head → series_in h ≡ series_next h next
-    → MatchOption next (Unit {0}) (IsSeriesAt h) → IsPassed c next
-none_passed c h next same is within = record {
-  before = [];
-  is = subst (λ (x : Head). series_in x ≡ series_next x next) same is;
-  within = subst (λ (x : Head). MatchOption next (Unit {0}) (IsSeriesAt x)) same within;
-  small = λ k d b. absurd (omega arith);
-}
-
 All-one_more : {X : Type 0} (P : X → Type 0) (xs : List X) (x : X) → All P xs → P x → All P (xs ++ x ∷ [])
 All-one_more P xs x all one = λ k d h.
     elim (cases_lt k (length xs)) [

@@ -12,10 +12,6 @@ pub nat_sum-more : (f : ℕ → ℕ) (n : ℕ) → nat_sum f (n + 1) ≡ nat_sum
 unfolding nat_sum
 nat_sum-more f n = rw add-one refl
 
-pub sums_none : (f : ℕ → ℤ) (g : ℕ → ℕ) → (int_sum f 0 ≡ pos 0) × (nat_sum g 0 ≡ 0)
-unfolding int_sum nat_sum
-sums_none f g = (refl, refl)
-
 -- each term is within a multiple of a number, so each sum is
 pub int_sum-within : (f : ℕ → ℤ) (g : ℕ → ℕ) (k n : ℕ) → ((i : ℕ) → i < n → unsigned_abs (f i) ≤ k * g i)
     → unsigned_abs (int_sum f n) ≤ k * nat_sum g n

@@ -8,3 +8,4 @@ pub mod Steps
 pub mod Counting
 pub mod Turns
 pub mod Passed
+pub mod Placing

@@ -4,3 +4,4 @@ pub mod Sums
 pub mod Peaks
 pub mod Best
 pub mod Phases
+pub mod Laws

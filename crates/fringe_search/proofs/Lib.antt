@@ -1,0 +1,11 @@
+pub mod IntProducts
+pub mod Sectors
+pub mod Phasing
+pub mod SumBounds
+pub mod Bounds
+pub mod Order
+pub mod Steps
+pub mod Counting
+pub mod Turns
+pub mod Passed
+pub mod Placing

@@ -1,0 +1,4 @@
+pub mod Windows
+pub mod IntProducts
+pub mod Biased
+pub mod Bounds

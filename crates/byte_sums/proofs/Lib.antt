@@ -1,0 +1,5 @@
+pub mod Weights
+pub mod Chunks
+pub mod Places
+pub mod Clamped
+pub mod Small

@@ -45,7 +45,12 @@ impl Held {
             Ok(bins) => {
                 print!(rt; "{} bins", bins.count)?;
                 for e in bins.phases.entries() {
-                    print!(rt; ", from {} {} to {}", e.second, e.poly.at(0), e.poly.at(1 << 24))?;
+                    print!(rt;
+                        ", from {} {} to {}",
+                        e.second,
+                        e.poly.at(0),
+                        e.poly.at(1 << 24)
+                    )?;
                 }
                 println!(rt; "")?;
                 self.bins = Some(bins);

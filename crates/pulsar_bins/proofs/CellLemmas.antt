@@ -6,7 +6,7 @@ use Rattle.std.proofs.lemmas.Bool.Decides.{nat_tests}
 use Rattle.corr_model.specs.declared.cell.Cell.{Cell}
 use Rattle.corr_model.specs.declared.cell.Pair.{Pair}
 use Rattle.corr_model.specs.Cell.{Samples, no_cell, cell_plus, product_at, sum_from, cell_in}
-use Rattle.corr_model.proofs.CellLemmas.{same_cell, cell_plus-assoc, cell_plus-none, cell_in-sum, sum_from-same}
+use Rattle.corr_model.proofs.CellLemmas.{same_cell, cell_plus-none, cell_in-sum, sum_from-same}
 use Rattle.pulsar_bins.specs.Cells.{of_bin, bin_cell_in, all_bins}
 
 none-cell_plus : (c : Cell) → cell_plus no_cell c ≡ c

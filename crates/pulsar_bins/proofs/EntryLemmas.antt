@@ -1,5 +1,5 @@
 -- Whether a phase begins at a second, by the one in force at it.
-use Rattle.std.proofs.Common.{◌≡◌, ◌≢◌, ◌<◌, ℕ, Bool, true, false, List, length, get_or, refl, sym, ◌∙◌, ap, arith, IsTrue, Decides, FitsSigned, eqb}
+use Rattle.std.proofs.Common.{◌≡◌, ◌≢◌, Bool, true, false, List, get_or, refl, sym, ◌∙◌, ap, arith, IsTrue, Decides, FitsSigned, eqb}
 use Rattle.std.specs.Prelude.{Option, Some, ℤ, ◌<ℤ◌, ◌≤ℤ◌, if◌then◌else◌}
 use Rattle.std.specs.List.{All, list_any}
 use Rattle.std.specs.Ordering.{int_eq}

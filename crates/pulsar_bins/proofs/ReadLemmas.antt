@@ -1,5 +1,5 @@
 -- The lines of a text read one behind the other, and the answer for the text.
-use Rattle.std.proofs.Common.{◌≡◌, ◌⊎◌, inl, inr, ◌==◌, ℕ, zero, suc, ◌+◌, ◌≤◌, Bool, true, false, cond, List, [], ◌∷◌, ◌++◌, length, filter_map, fold, Option, Some, None, Err, ok_or, option_map, option_to_list, refl, sym, ap, ◌∙◌, arith, append_assoc}
+use Rattle.std.proofs.Common.{◌≡◌, ◌⊎◌, inl, inr, ◌==◌, ℕ, ◌+◌, ◌≤◌, Bool, true, false, cond, List, [], ◌∷◌, ◌++◌, length, filter_map, Option, Some, None, Err, ok_or, option_to_list, refl, sym, ap, ◌∙◌, arith, append_assoc}
 use Rattle.std.specs.List.{cons_option, slice_split, onto_first}
 use Rattle.std.specs.Option.{option_or}
 use Rattle.std.specs.Str.Lines.{lines, lines_of_parts}
@@ -11,10 +11,9 @@ use Rattle.delay_poly.specs.declared.entry.PolyEntry.{PolyEntry}
 use Rattle.pulsar_bins.specs.declared.word.Word.{Word}
 use Rattle.pulsar_bins.specs.declared.word.Word.TheVariants.{Count, Phase}
 use Rattle.pulsar_bins.specs.declared.said.Said.{Said}
-use Rattle.pulsar_bins.specs.declared.fault.BinsKind.{BinsKind}
 use Rattle.pulsar_bins.specs.declared.fault.BinsKind.TheVariants.{Missing}
 use Rattle.pulsar_bins.specs.declared.fault.BinsFault.{BinsFault}
-use Rattle.pulsar_bins.specs.Values.{count_in, phase_in}
+use Rattle.pulsar_bins.specs.Values.{count_in}
 use Rattle.pulsar_bins.specs.Words.{Row, row_of}
 use Rattle.pulsar_bins.specs.Said.{count_by, phase_by, last, said_by}
 use Rattle.pulsar_bins.specs.Faults.{line_fault}

@@ -1,5 +1,5 @@
 -- The bins of a pulse: how many a turn has, and the phase's entries, each in force from a second on.
-use Rattle.std.specs.Prelude.{◌≡◌, ℕ, ◌≤◌, List, length, IfSome}
+use Rattle.std.specs.Prelude.{ℕ, ◌≤◌, List, length, IfSome}
 use Rattle.std.specs.List.{All}
 use Rattle.num_time.specs.Times.{IsSecond}
 use Rattle.delay_poly.specs.declared.entry.PolyEntry.{PolyEntry}

@@ -6,18 +6,18 @@
 #![tactic(auto)]
 
 mod bins;
-mod scans;
 mod fault;
 pub mod laws;
 mod phase;
 mod read;
 mod rows;
 mod said;
+mod scans;
 mod values;
 mod word;
 
 pub use bins::Bins;
-pub use scans::covers;
 pub use fault::{BinsFault, BinsKind, NoPhase};
 pub use phase::bin;
 pub use read::read_bins;
+pub use scans::covers;

@@ -23,12 +23,7 @@ fn fault_in(kind: BinsKind, number: u32) -> BinsFault
 
 // Takes the fields behind a word.
 #[tactic(auto, unfolding(crate::specs::Faults::word_fault))]
-fn take_word(
-    alloc: Global,
-    said: &mut Said,
-    word: Word,
-    fields: &[&[u8]],
-) -> Result<(), BinsKind>
+fn take_word(alloc: Global, said: &mut Said, word: Word, fields: &[&[u8]]) -> Result<(), BinsKind>
     ensures taken { Takes (word_fault said.old word (map (λ field. field.now) fields.now)) (grown said.old word (map (λ field. field.now) fields.now)) result said.new }
     ensures sound { OnOk result (IsSaid said.old → IsSaid said.new) }
 {

@@ -1,6 +1,5 @@
 //! What the lines of a text of phases so far say.
-ghost use Rattle.std.specs.Prelude.{◌≡◌, ◌++◌, ◌∷◌, [], map, Some, false, IfSome, OnOk, OnErr, MatchOption};
-ghost use Rattle.num_time.specs.Times.{IsSecond};
+ghost use Rattle.std.specs.Prelude.{◌≡◌, ◌++◌, ◌∷◌, [], map, Some, false, OnOk};
 ghost use Rattle.pulsar_bins.specs.declared.word.Word.TheVariants.{Count, Phase};
 ghost use Rattle.pulsar_bins.specs.Said.{said_by};
 ghost use Rattle.pulsar_bins.specs.Faults.{is_taken, row_fault};

@@ -1,0 +1,5 @@
+pub mod BinLemmas
+pub mod CellLemmas
+pub mod EntryLemmas
+pub mod FirstLemmas
+pub mod ReadLemmas

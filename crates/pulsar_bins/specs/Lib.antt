@@ -1,0 +1,10 @@
+pub mod Bin
+pub mod Values
+pub mod Words
+pub mod Said
+pub mod Faults
+pub mod Growing
+pub mod Bins
+pub mod Answer
+pub mod Scans
+pub mod Cells

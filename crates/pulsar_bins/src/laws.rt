@@ -1,0 +1,16 @@
+//! What follows from the definitions. The function does nothing: a call brings its law.
+ghost use Rattle.std.specs.Prelude.{◌≡◌, ◌≤◌, ℕ, ℤ};
+ghost use Rattle.corr_model.specs.Cell.{Samples};
+ghost use Rattle.job_plan.specs.declared.plan.ProductPlan.{ProductPlan};
+ghost use Rattle.job_plan.specs.declared.plan.BaselinePlan.{BaselinePlan};
+ghost use Rattle.job_plan.specs.declared.plan.ScanPlan.{ScanPlan};
+ghost use Rattle.job_plan.specs.declared.plan.Plan.{Plan};
+ghost use Rattle.job_plan.specs.Output.{cell_of};
+ghost use Rattle.pulsar_bins.specs.Bins.{BinsFields};
+ghost use Rattle.pulsar_bins.specs.Cells.{all_bins, bin_cell_of};
+
+/// The cells of all bins add up to the cell, whatever the values of the scan.
+pub fn bins_add_up()
+    ensures { (plan : Plan) (bins : BinsFields) (z : Samples) (scan : ScanPlan) (m : ℕ) (p : ProductPlan) (b : BaselinePlan) (lag : ℤ) → 1 ≤ bins.count
+        → all_bins bins.count (bin_cell_of plan bins z scan m p b lag) ≡ cell_of plan z scan m p b lag }
+{}

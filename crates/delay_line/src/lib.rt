@@ -7,7 +7,5 @@
 mod interval;
 mod line;
 mod reach;
-#[cfg(test)]
-mod tests;
 
 pub use line::Line;

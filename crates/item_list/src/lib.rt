@@ -6,5 +6,3 @@ mod list;
 
 pub use list::ItemList;
 
-#[cfg(test)]
-mod tests;

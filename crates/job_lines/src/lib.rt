@@ -17,5 +17,3 @@ pub use lines::Lines;
 pub use word::{FieldKind, Word, word_of};
 pub use written::{are_written, is_written};
 
-#[cfg(test)]
-mod tests;

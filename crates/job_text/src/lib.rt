@@ -37,5 +37,3 @@ pub use read::read_job;
 pub use station::Station;
 pub use stations::Stations;
 
-#[cfg(test)]
-mod tests;

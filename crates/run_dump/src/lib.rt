@@ -10,5 +10,3 @@ mod show;
 
 pub use show::show_records;
 
-#[cfg(test)]
-mod tests;

@@ -24,5 +24,3 @@ pub use recordings::StationFiles;
 pub use surveys::Survey;
 pub use texts::load_text;
 
-#[cfg(test)]
-mod tests;

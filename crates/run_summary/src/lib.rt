@@ -6,5 +6,3 @@ mod summary;
 
 pub use summary::{write_check, write_kept};
 
-#[cfg(test)]
-mod tests;

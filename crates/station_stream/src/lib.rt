@@ -33,5 +33,3 @@ pub use part::StationPart;
 pub use recording::Recording;
 pub use stream::Stream;
 
-#[cfg(test)]
-mod tests;

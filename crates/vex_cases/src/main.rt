@@ -6,8 +6,6 @@ mod answers;
 mod files;
 mod pieces;
 mod scans;
-#[cfg(test)]
-mod tests;
 
 use crate::answers::answer;
 use crate::pieces::Pieces;

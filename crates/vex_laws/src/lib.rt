@@ -6,6 +6,4 @@
 #![tactic(auto)]
 
 pub mod files;
-#[cfg(test)]
-mod tests;
 pub mod texts;

@@ -29,5 +29,3 @@ pub use read::read_all;
 pub use vis::Vis;
 pub use writer::{SinkFault, write_end, write_head, write_record};
 
-#[cfg(test)]
-mod tests;

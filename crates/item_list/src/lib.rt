@@ -5,4 +5,3 @@
 mod list;
 
 pub use list::ItemList;
-

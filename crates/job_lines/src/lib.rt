@@ -16,4 +16,3 @@ pub use fields::{fields_of, is_clean};
 pub use lines::Lines;
 pub use word::{FieldKind, Word, word_of};
 pub use written::{are_written, is_written};
-

@@ -36,4 +36,3 @@ pub use places::{Band, ChanPlace, ScanSpan};
 pub use read::read_job;
 pub use station::Station;
 pub use stations::Stations;
-

@@ -9,4 +9,3 @@ pub mod laws;
 mod show;
 
 pub use show::show_records;
-

@@ -23,4 +23,3 @@ pub use ready::{Ready, prepare};
 pub use recordings::StationFiles;
 pub use surveys::Survey;
 pub use texts::load_text;
-

@@ -5,4 +5,3 @@
 mod summary;
 
 pub use summary::{write_check, write_kept};
-

@@ -32,4 +32,3 @@ pub use fault::StreamFault;
 pub use part::StationPart;
 pub use recording::Recording;
 pub use stream::Stream;
-

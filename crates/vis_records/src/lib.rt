@@ -28,4 +28,3 @@ pub use lines::dump;
 pub use read::read_all;
 pub use vis::Vis;
 pub use writer::{SinkFault, write_end, write_head, write_record};
-

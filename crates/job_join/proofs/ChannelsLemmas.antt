@@ -8,7 +8,7 @@ use Rattle.std.proofs.lemmas.Grind.{fold-append}
 use Rattle.std.proofs.lemmas.Option.{slice_get_within, get_or_from_slice_get}
 use Rattle.std.proofs.lemmas.Slice.Eq.{bytes_eq-Decides}
 use Rattle.named_list.specs.Named.{named, names, put}
-use Rattle.vex_schedule.specs.declared.scan.Chan.{Chan}
+use Rattle.scan_list.specs.declared.scan.Chan.{Chan}
 use Rattle.job_join.specs.declared.stands.Here.{Here}
 use Rattle.job_join.specs.Standing.{Stand, is_among}
 use Rattle.job_join.specs.Channels.{first_uses, chan_with, same_side, is_same_band, differ, are_different}

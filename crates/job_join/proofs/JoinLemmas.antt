@@ -5,8 +5,8 @@ use Rattle.std.specs.Option.{option_or}
 use Rattle.std.proofs.lemmas.List.{map-id}
 use Rattle.std.proofs.lemmas.List.Folds.{fold-map}
 use Rattle.std.proofs.lemmas.Iterator.Adapters.{position_from-zero}
-use Rattle.vex_schedule.specs.declared.scan.Pass.{Pass}
-use Rattle.vex_schedule.specs.declared.scan.Scan.{Scan}
+use Rattle.scan_list.specs.declared.scan.Pass.{Pass}
+use Rattle.scan_list.specs.declared.scan.Scan.{Scan}
 use Rattle.job_text.specs.Job.{JobFields, StationFields}
 use Rattle.job_join.specs.declared.fault.JoinFault.{JoinFault}
 use Rattle.job_join.specs.declared.places.Place.{Place}

@@ -7,7 +7,7 @@ use Rattle.job_plan.specs.declared.plan.ProductPlan.{ProductPlan}
 use Rattle.job_plan.specs.declared.plan.ScanPlan.{ScanPlan}
 use Rattle.job_plan.specs.declared.plan.Plan.{Plan}
 use Rattle.vdif_frame.specs.Shape.{samples_per_frame}
-use Rattle.vex_schedule.specs.Sound.{IsScan, AreScans}
+use Rattle.scan_list.specs.Sound.{IsScan, AreScans}
 use Rattle.job_text.specs.Job.{StationFields}
 use Rattle.job_text.specs.Ranges.{shape_of}
 use Rattle.job_join.specs.declared.joining.Joining.{Joining}

@@ -6,8 +6,8 @@ use Rattle.std.proofs.lemmas.List.{at_drop_more}
 use Rattle.std.proofs.lemmas.List.Elements.{All-weaker}
 use Rattle.std.proofs.lemmas.List.Folds.{find-append, fold-map}
 use Rattle.num_time.specs.Times.{IsSecond}
-use Rattle.vex_schedule.specs.declared.scan.Scan.{Scan}
-use Rattle.vex_schedule.specs.Sound.{IsScan, AreScans}
+use Rattle.scan_list.specs.declared.scan.Scan.{Scan}
+use Rattle.scan_list.specs.Sound.{IsScan, AreScans}
 use Rattle.job_text.specs.Job.{JobFields}
 use Rattle.job_join.specs.declared.places.Place.{Place}
 use Rattle.job_join.specs.declared.joining.Joining.{Joining}

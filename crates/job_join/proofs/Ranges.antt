@@ -3,8 +3,8 @@ use Rattle.std.proofs.Common.{◌≡◌, ℕ, ◌%◌, ◌^◌, ◌<◌, List, l
 use Rattle.std.proofs.lemmas.List.{length-map}
 use Rattle.std.proofs.lemmas.List.Elements.{All-map, All-weaker}
 use Rattle.vdif_frame.specs.Shape.{samples_per_frame}
-use Rattle.vex_schedule.specs.declared.scan.Scan.{Scan}
-use Rattle.vex_schedule.specs.Sound.{IsScan, IsPass, AreScans}
+use Rattle.scan_list.specs.declared.scan.Scan.{Scan}
+use Rattle.scan_list.specs.Sound.{IsScan, IsPass, AreScans}
 use Rattle.job_plan.specs.Ranges.{IsPlan, IsStation, IsProductPlan}
 use Rattle.job_text.specs.Job.{JobFields}
 use Rattle.job_text.specs.Ranges.{IsJob, shape_of}

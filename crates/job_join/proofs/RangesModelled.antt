@@ -7,7 +7,7 @@ use Rattle.std.proofs.lemmas.List.Elements.{All-nil, All-cons, All-head, All-tai
 use Rattle.std.proofs.lemmas.Option.{slice_get-map, same_Some}
 use Rattle.num_time.specs.Times.{IsSecond}
 use Rattle.corr_model.specs.Delay.{DelayModel, has_model, has_clock}
-use Rattle.vex_schedule.specs.declared.scan.Scan.{Scan}
+use Rattle.scan_list.specs.declared.scan.Scan.{Scan}
 use Rattle.job_plan.specs.declared.plan.StationPlan.{StationPlan}
 use Rattle.job_plan.specs.declared.plan.StayPlan.{StayPlan}
 use Rattle.job_plan.specs.Values.{stay_of, model_of}

@@ -8,10 +8,10 @@ use Rattle.std.proofs.lemmas.List.Elements.{All-map}
 use Rattle.std.proofs.lemmas.Nat.{mul-le, le-div}
 use Rattle.std.proofs.lemmas.Option.{slice_get_within}
 use Rattle.std.proofs.Math.Nat.{div-mul-le_self}
-use Rattle.vex_schedule.specs.declared.scan.Chan.{Chan}
-use Rattle.vex_schedule.specs.declared.scan.Pass.{Pass}
-use Rattle.vex_schedule.specs.declared.scan.Scan.{Scan}
-use Rattle.vex_schedule.specs.Sound.{IsChan, IsPass}
+use Rattle.scan_list.specs.declared.scan.Chan.{Chan}
+use Rattle.scan_list.specs.declared.scan.Pass.{Pass}
+use Rattle.scan_list.specs.declared.scan.Scan.{Scan}
+use Rattle.scan_list.specs.Sound.{IsChan, IsPass}
 use Rattle.job_plan.specs.declared.plan.StayPlan.{StayPlan}
 use Rattle.job_plan.specs.Values.{stay_of}
 use Rattle.job_plan.specs.Ranges.{IsBand, IsStay, IsOfScan}

@@ -6,8 +6,8 @@ use Rattle.std.proofs.Common.{◌≡◌, ap, refl, ℕ, ◌+◌, ◌*◌, ◌/�
 use Rattle.std.proofs.lemmas.Bool.{not-false}
 use Rattle.std.proofs.lemmas.List.Elements.{All-weaker, All-head, All-filter}
 use Rattle.std.proofs.lemmas.Nat.{mul-le, mod_below}
-use Rattle.vex_schedule.specs.declared.scan.Pass.{Pass}
-use Rattle.vex_schedule.specs.declared.scan.Scan.{Scan}
+use Rattle.scan_list.specs.declared.scan.Pass.{Pass}
+use Rattle.scan_list.specs.declared.scan.Scan.{Scan}
 use Rattle.job_text.specs.Job.{JobFields, StationFields}
 use Rattle.job_join.specs.Standing.{Stand, stand_in, stands_in, pass_with, taken, is_taken, rate_of, unknown_station}
 use Rattle.job_join.proofs.RangesLists.{option_map-none, filter_map-none, flat_map-none, first-none, list_any-none, position-None, All-from_enumerate, All-flat_map}

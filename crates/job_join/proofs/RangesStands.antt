@@ -4,8 +4,8 @@ use Rattle.std.proofs.Common.{◌≡◌, ◌∙◌, sym, ap, ℕ, ◌<◌, ◌�
 use Rattle.std.proofs.lemmas.List.Elements.{All-weaker}
 use Rattle.std.proofs.lemmas.List.FromFn.{length-enumerate_from}
 use Rattle.std.proofs.lemmas.Option.{same_Some}
-use Rattle.vex_schedule.specs.declared.scan.Pass.{Pass}
-use Rattle.vex_schedule.specs.declared.scan.Scan.{Scan}
+use Rattle.scan_list.specs.declared.scan.Pass.{Pass}
+use Rattle.scan_list.specs.declared.scan.Scan.{Scan}
 use Rattle.job_text.specs.Job.{JobFields, StationFields}
 use Rattle.job_join.specs.Standing.{Stand, stand_in, stands_in, pass_with}
 use Rattle.job_join.proofs.RangesLists.{All-filter_map, AllPairs-filter_map, IfSome-from, enumerate-there, enumerate-rising, length-filter_map, find-All}

@@ -10,7 +10,7 @@ use Rattle.job_plan.specs.Ranges.{IsRecorded, IsStation, IsProductPlan}
 use Rattle.job_text.specs.declared.places.ChanPlace.{ChanPlace}
 use Rattle.job_text.specs.Job.{JobFields, StationFields}
 use Rattle.job_text.specs.Ranges.{shape_of, IsChanOf, IsStationOf}
-use Rattle.vex_schedule.specs.declared.scan.Scan.{Scan}
+use Rattle.scan_list.specs.declared.scan.Scan.{Scan}
 use Rattle.job_join.specs.Standing.{rate_of}
 use Rattle.job_join.specs.Differing.{frame_rate}
 use Rattle.job_join.specs.Joined.{recorded_of, station_plan, number_of, product_plan, plan_by}

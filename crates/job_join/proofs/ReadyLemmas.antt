@@ -3,7 +3,7 @@ use Rattle.std.proofs.Common.{◌≡◌, ℕ, ◌+◌, ◌^◌, ◌<◌, ◌≤�
 use Rattle.std.proofs.lemmas.List.{map-append}
 use Rattle.std.proofs.lemmas.List.Elements.{All-weaker, filter_more, filter-append}
 use Rattle.std.proofs.lemmas.Option.{slice_get_within}
-use Rattle.vex_schedule.specs.Sound.{IsPass}
+use Rattle.scan_list.specs.Sound.{IsPass}
 use Rattle.job_plan.specs.declared.plan.ScanPlan.{ScanPlan}
 use Rattle.job_text.specs.Job.{JobFields}
 use Rattle.job_join.specs.declared.places.Place.{Place}

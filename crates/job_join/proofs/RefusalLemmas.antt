@@ -1,7 +1,7 @@
 -- The causes for which a job and a schedule do not go together, one after the other.
 use Rattle.std.proofs.Common.{◌≡◌, ℕ, false, List, [], ◌∷◌, ◌++◌, Option, None, Some, is_some, option_map, refl, sym}
 use Rattle.std.specs.Option.{option_or}
-use Rattle.vex_schedule.specs.declared.scan.Scan.{Scan}
+use Rattle.scan_list.specs.declared.scan.Scan.{Scan}
 use Rattle.job_text.specs.Job.{JobFields}
 use Rattle.job_join.specs.declared.fault.Quantity.{Quantity}
 use Rattle.job_join.specs.declared.fault.JoinFault.{JoinFault}

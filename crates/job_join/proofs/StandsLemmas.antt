@@ -16,9 +16,9 @@ use Rattle.std.proofs.lemmas.Option.{same_Some, slice_get-get_or, slice_get_with
 use Rattle.std.proofs.lemmas.Iterator.Adapters.{position_from-zero}
 use Rattle.std.proofs.lemmas.Slice.Eq.{bytes_eq-Decides}
 use Rattle.named_list.specs.Named.{named, put}
-use Rattle.vex_schedule.specs.declared.scan.Pass.{Pass}
-use Rattle.vex_schedule.specs.declared.scan.Scan.{Scan}
-use Rattle.vex_schedule.specs.Sound.{IsScan}
+use Rattle.scan_list.specs.declared.scan.Pass.{Pass}
+use Rattle.scan_list.specs.declared.scan.Scan.{Scan}
+use Rattle.scan_list.specs.Sound.{IsScan}
 use Rattle.job_text.specs.Job.{StationFields, JobFields}
 use Rattle.job_text.specs.Ranges.{IsJob}
 use Rattle.job_join.specs.Standing.{Stand, stand_in, stands_in, pass_with}

@@ -1,7 +1,7 @@
 -- Whether a scan is taken.
 use Rattle.std.proofs.Common.{◌≡◌, ℕ, ◌<◌, List, [], ◌∷◌, length, is_some, arith}
 use Rattle.named_list.specs.Named.{named, names}
-use Rattle.vex_schedule.specs.declared.scan.Scan.{Scan}
+use Rattle.scan_list.specs.declared.scan.Scan.{Scan}
 use Rattle.job_join.specs.Standing.{is_taken}
 use Rattle.job_join.proofs.Sets.{any-names}
 

@@ -1,9 +1,9 @@
 -- The channels of a job, and what the stations of a scan have of them.
 use Rattle.std.specs.Prelude.{ℕ, ◌==◌, ◌&&◌, not, Bool, false, if◌then◌else◌, List, [], ◌∷◌, filter_map, find, flat_map, bytes_eq, Option, None, Some}
 use Rattle.std.specs.List.{list_any}
-use Rattle.vex_schedule.specs.declared.scan.Chan.{Chan}
-use Rattle.vex_schedule.specs.declared.scan.Pass.{Pass}
-use Rattle.vex_schedule.specs.declared.scan.Scan.{Scan}
+use Rattle.scan_list.specs.declared.scan.Chan.{Chan}
+use Rattle.scan_list.specs.declared.scan.Pass.{Pass}
+use Rattle.scan_list.specs.declared.scan.Scan.{Scan}
 use Rattle.job_text.specs.Job.{JobFields}
 use Rattle.job_join.specs.Standing.{Stand, is_among, stands_in}
 

@@ -2,7 +2,7 @@
 use Rattle.std.specs.Prelude.{ℕ, ◌==◌, ◌%◌, ◌&&◌, not, Bool, List, slice_get, Option}
 use Rattle.std.specs.List.{list_any, position}
 use Rattle.vdif_frame.specs.Shape.{samples_per_frame}
-use Rattle.vex_schedule.specs.declared.scan.Scan.{Scan}
+use Rattle.scan_list.specs.declared.scan.Scan.{Scan}
 use Rattle.job_text.specs.Job.{JobFields, StationFields}
 use Rattle.job_join.specs.Standing.{Stand, is_taken, stands_in, rate_of}
 use Rattle.job_join.specs.Channels.{channels_of, chans_in, differ, are_different}

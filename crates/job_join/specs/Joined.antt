@@ -4,8 +4,8 @@ use Rattle.std.specs.Prelude.{ℕ, ◌/◌, nat_lt, unsigned_abs, List, [], ◌�
 use Rattle.std.specs.List.{position}
 use Rattle.vdif_frame.specs.Shape.{samples_per_frame}
 use Rattle.named_list.specs.Named.{named}
-use Rattle.vex_schedule.specs.declared.scan.Chan.{Chan}
-use Rattle.vex_schedule.specs.declared.scan.Scan.{Scan}
+use Rattle.scan_list.specs.declared.scan.Chan.{Chan}
+use Rattle.scan_list.specs.declared.scan.Scan.{Scan}
 use Rattle.job_plan.specs.declared.plan.Recorded.{Recorded}
 use Rattle.job_plan.specs.declared.plan.Band.{Band}
 use Rattle.job_plan.specs.declared.plan.StationPlan.{StationPlan}

@@ -2,7 +2,7 @@
 use Rattle.std.specs.Prelude.{◌≡◌, ℕ, List, [], ◌∷◌, map, max, fold, bytes_eq, is_some, Option, option_map}
 use Rattle.std.specs.List.{list_any}
 use Rattle.named_list.specs.Named.{named, names}
-use Rattle.vex_schedule.specs.declared.scan.Scan.{Scan}
+use Rattle.scan_list.specs.declared.scan.Scan.{Scan}
 use Rattle.job_text.specs.Job.{JobFields}
 use Rattle.job_text.specs.Ranges.{IsJob}
 use Rattle.job_join.specs.declared.fault.JoinFault.{JoinFault}

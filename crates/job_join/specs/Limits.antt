@@ -1,7 +1,7 @@
 -- The greatest sizes of a job.
 use Rattle.std.specs.Prelude.{ℕ, ◌+◌, ◌*◌, ◌/◌, ◌%◌, ◌^◌, ◌==◌, ◌&&◌, ◌||◌, nat_lt, if◌then◌else◌, List, [], ◌∷◌, length, map, filter, filter_map, flat_map, find, fold, slice_get, Option, option_map}
 use Rattle.std.specs.Int.{div_ceil}
-use Rattle.vex_schedule.specs.declared.scan.Scan.{Scan}
+use Rattle.scan_list.specs.declared.scan.Scan.{Scan}
 use Rattle.job_plan.specs.declared.plan.BaselinePlan.{BaselinePlan}
 use Rattle.job_text.specs.Job.{JobFields}
 use Rattle.job_join.specs.declared.fault.Quantity.{Quantity}

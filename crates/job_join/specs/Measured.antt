@@ -1,7 +1,7 @@
 -- The quantities of a job, as the program measures them.
 use Rattle.std.specs.Prelude.{ℕ, ◌*◌, ◌^◌, ◌==◌, ◌+◌, Bool, if◌then◌else◌, List, [], ◌∷◌, length, map, filter_map, slice_get, fold, Option}
 use Rattle.std.specs.Int.{div_ceil}
-use Rattle.vex_schedule.specs.declared.scan.Scan.{Scan}
+use Rattle.scan_list.specs.declared.scan.Scan.{Scan}
 use Rattle.job_plan.specs.declared.plan.BaselinePlan.{BaselinePlan}
 use Rattle.job_text.specs.Job.{JobFields}
 use Rattle.job_join.specs.declared.fault.Quantity.{Quantity}

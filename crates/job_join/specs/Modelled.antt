@@ -1,7 +1,7 @@
 -- Stations without a delay model, or without a clock, at some sample of a scan in which they stand.
 use Rattle.std.specs.Prelude.{ℕ, not, Bool, List, map, find, flat_map, Option, option_map}
 use Rattle.corr_model.specs.Delay.{DelayModel, has_model, has_clock}
-use Rattle.vex_schedule.specs.declared.scan.Scan.{Scan}
+use Rattle.scan_list.specs.declared.scan.Scan.{Scan}
 use Rattle.job_text.specs.Job.{JobFields, StationFields}
 use Rattle.job_join.specs.Standing.{Stand, taken, stands_in, rate_of}
 use Rattle.job_join.specs.Spans.{samples_of}

@@ -1,9 +1,9 @@
 -- How the program holds the stations of a job in the scans of a schedule.
 use Rattle.std.specs.Prelude.{ℕ, ◌==◌, ◌&&◌, Bool, not, List, [], ◌∷◌, map, filter_map, bytes_eq, slice_get, Option, None, Some, option_map, unwrap_or, if◌then◌else◌}
 use Rattle.std.specs.List.{position, list_any}
-use Rattle.vex_schedule.specs.declared.scan.Chan.{Chan}
-use Rattle.vex_schedule.specs.declared.scan.Scan.{Scan}
-use Rattle.vex_schedule.specs.declared.scan.Pass.{Pass}
+use Rattle.scan_list.specs.declared.scan.Chan.{Chan}
+use Rattle.scan_list.specs.declared.scan.Scan.{Scan}
+use Rattle.scan_list.specs.declared.scan.Pass.{Pass}
 use Rattle.job_text.specs.Job.{JobFields, StationFields}
 use Rattle.job_join.specs.declared.stands.Here.{Here}
 use Rattle.job_join.specs.declared.places.Place.{Place}

@@ -2,7 +2,7 @@
 use Rattle.std.specs.Prelude.{◌≡◌, ℕ, ◌==◌, ◌<◌, ◌≤◌, ◌^◌, ◌&&◌, ◌||◌, nat_lt, Bool, true, List, [], ◌∷◌, length, map, filter, flat_map, if◌then◌else◌}
 use Rattle.job_plan.specs.declared.plan.BaselinePlan.{BaselinePlan}
 use Rattle.job_plan.specs.declared.plan.ScanPlan.{ScanPlan}
-use Rattle.vex_schedule.specs.Sound.{IsScan}
+use Rattle.scan_list.specs.Sound.{IsScan}
 use Rattle.job_text.specs.Job.{JobFields}
 use Rattle.job_join.specs.declared.stands.Here.{Here}
 use Rattle.job_join.specs.declared.places.Place.{Place}

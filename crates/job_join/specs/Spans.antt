@@ -1,8 +1,8 @@
 -- Samples of a scan: those of a station's part, and how many there are.
 use Rattle.std.specs.Prelude.{ℕ, ◌*◌, ◌/◌, ℤ, unsigned_abs, max, fold}
 use Rattle.std.specs.Option.{option_map_or}
-use Rattle.vex_schedule.specs.declared.scan.Pass.{Pass}
-use Rattle.vex_schedule.specs.declared.scan.Scan.{Scan}
+use Rattle.scan_list.specs.declared.scan.Pass.{Pass}
+use Rattle.scan_list.specs.declared.scan.Scan.{Scan}
 use Rattle.job_text.specs.Job.{JobFields}
 use Rattle.job_join.specs.Standing.{Stand, stands_in}
 

@@ -1,8 +1,8 @@
 -- The scans that a job takes of a schedule, and its stations in them.
 use Rattle.std.specs.Prelude.{ℕ, Bool, true, not, is_some, List, [], ◌∷◌, filter, filter_map, find, flat_map, bytes_eq, slice_get, Option, option_map, unwrap_or}
 use Rattle.std.specs.List.{list_any, position, enumerate_from}
-use Rattle.vex_schedule.specs.declared.scan.Pass.{Pass}
-use Rattle.vex_schedule.specs.declared.scan.Scan.{Scan}
+use Rattle.scan_list.specs.declared.scan.Pass.{Pass}
+use Rattle.scan_list.specs.declared.scan.Scan.{Scan}
 use Rattle.job_text.specs.Job.{JobFields, StationFields}
 
 -- a name that stands in a list

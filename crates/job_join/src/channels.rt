@@ -11,8 +11,8 @@ use crate::places::Place;
 use crate::stands::Here;
 use job_text::Pairs;
 use named_list::Named;
+use scan_list::{Chan, Pass};
 use std::alloc::{AllocError, Global};
-use vex_schedule::{Chan, Pass};
 
 // Puts the channels of a product behind those that are there.
 fn add(alloc: Global, channels: &mut Named<()>, x: &[u8], y: &[u8]) -> Result<(), AllocError>

@@ -1,6 +1,6 @@
 //! A job and a schedule, joined.
 ghost use Rattle.std.specs.Prelude.{◌≡◌, None, IfOk};
-ghost use Rattle.vex_schedule.specs.Sound.{AreScans};
+ghost use Rattle.scan_list.specs.Sound.{AreScans};
 ghost use Rattle.job_join.specs.Joined.{refusal_of, plan_of, joined, Gives};
 ghost use Rattle.job_join.specs.Joining.{scans_of, IsJoining};
 
@@ -14,8 +14,8 @@ use crate::scans::scan_plans;
 use item_list::ItemList;
 use job_plan::{Plan, Plan0};
 use job_text::Job;
+use scan_list::ScanList;
 use std::alloc::{AllocError, Global};
-use vex_schedule::ScanList;
 
 // The samples in a second.
 fn rate_in(j: &Joining) -> u32

@@ -1,6 +1,6 @@
 //! A job and a schedule, and why they do not go together.
 ghost use Rattle.std.specs.Prelude.{◌≡◌, ◌∷◌, [], option_map, IfOk};
-ghost use Rattle.vex_schedule.specs.Sound.{AreScans};
+ghost use Rattle.scan_list.specs.Sound.{AreScans};
 ghost use Rattle.job_join.specs.Joined.{first_there};
 ghost use Rattle.job_join.specs.Standing.{unknown_scan, unknown_station};
 ghost use Rattle.job_join.specs.Differing.{rate_differs, channel_differs, product_differs, frame_rate};
@@ -15,8 +15,8 @@ use crate::rates::{rate_differs, rate_of};
 use crate::takes::unknown_take;
 use job_text::Job;
 use named_list::Named;
+use scan_list::Scan;
 use std::alloc::{AllocError, Global};
-use vex_schedule::Scan;
 
 /// A job, the scans of a schedule with the job's stations in them, the names of these scans, the keys of the stations of those
 /// that are taken, the channels of the job's products in the order of their first use, and the job's sample rate.

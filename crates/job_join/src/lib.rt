@@ -1,5 +1,5 @@
 //! A job and a schedule, joined: the scans that the job takes, its stations in them, and the plan that comes of both, or the
-//! first cause for which they do not go together. It stands on `job_text` and `vex_schedule` for the two, on `job_plan` for
+//! first cause for which they do not go together. It stands on `job_text` and `scan_list` for the two, on `job_plan` for
 //! the plan, and on `delay_track` for the question whether every sample of a scan has a delay. (VEX 1.5, `$SCHED` and
 //! `$FREQ`.)
 #![tactic(auto)]

@@ -1,7 +1,7 @@
 //! The stations of a job that lack a delay model, or a clock, at some sample of a scan.
 ghost use Rattle.std.specs.Prelude.{◌≡◌, ◌<◌, ◌^◌, not, map, All};
 ghost use Rattle.num_time.specs.Times.{IsSecond};
-ghost use Rattle.vex_schedule.specs.Sound.{AreScans};
+ghost use Rattle.scan_list.specs.Sound.{AreScans};
 ghost use Rattle.job_join.specs.declared.places.Place.{Place};
 ghost use Rattle.job_join.specs.Joining.{scans_of, IsJoining};
 ghost use Rattle.job_join.specs.Modelled.{model_in, no_model, no_clock};
@@ -14,7 +14,7 @@ use crate::reach::{Need, Reach};
 use crate::spans::samples_of;
 use crate::stands::Here;
 use job_text::Job;
-use vex_schedule::Scan;
+use scan_list::Scan;
 
 // Whether a station lacks what is needed at one of so many samples of a scan.
 fn lacks(need: Need, job: &Job, rate: u32, scan: &Scan, samples: u128, here: &Here) -> bool

@@ -2,12 +2,12 @@
 ghost use Rattle.std.specs.Prelude.{◌≡◌, ◌||◌, ℕ, List, bytes_eq, is_some, OnOk, IfOk};
 ghost use Rattle.std.specs.List.{list_any};
 ghost use Rattle.named_list.specs.Named.{named};
-ghost use Rattle.vex_schedule.specs.declared.scan.Scan.{Scan};
-ghost use Rattle.vex_schedule.specs.declared.scan.Pass.{Pass};
+ghost use Rattle.scan_list.specs.declared.scan.Scan.{Scan};
+ghost use Rattle.scan_list.specs.declared.scan.Pass.{Pass};
 
 use named_list::Named;
+use scan_list::{Pass, Scan};
 use std::alloc::{AllocError, Global};
-use vex_schedule::{Pass, Scan};
 
 /// Puts a name into a set.
 #[tactic(auto, using(crate::proofs::Sets::is_some_put))]

@@ -2,7 +2,7 @@
 ghost use Rattle.std.specs.Prelude.{◌≡◌, ◌||◌, ℕ, List, bytes_eq, is_some, not, map, IfOk, OnOk};
 ghost use Rattle.std.specs.List.{list_any, position};
 ghost use Rattle.named_list.specs.Named.{named};
-ghost use Rattle.vex_schedule.specs.Sound.{IsScan, AreScans};
+ghost use Rattle.scan_list.specs.Sound.{IsScan, AreScans};
 ghost use Rattle.job_text.specs.Job.{StationFields};
 ghost use Rattle.job_join.specs.declared.places.Place.{Place};
 ghost use Rattle.job_join.specs.Places.{visit_in, visit_of, has_key};
@@ -13,8 +13,8 @@ use crate::stands::{Here, stands_in, station_numbers};
 use crate::takes::is_taken;
 use job_text::{Job, Station};
 use named_list::Named;
+use scan_list::Scan;
 use std::alloc::{AllocError, Global};
-use vex_schedule::Scan;
 
 /// A scan of the schedule: whether the job takes it, and the job's stations in it, in the job's order.
 #[derive(Drop)]

@@ -18,8 +18,8 @@ use job_plan::{Band, Recorded, StationPlan, StayPlan};
 use job_text::Station;
 use named_list::Named;
 use num_time::Name;
+use scan_list::{Chan, Pass};
 use std::alloc::{AllocError, Global};
-use vex_schedule::{Chan, Pass};
 
 // Where a station records a channel.
 fn recorded_of(station: &Station, name: &[u8]) -> Option<Recorded>

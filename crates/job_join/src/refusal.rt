@@ -1,6 +1,6 @@
 //! Why a job and a schedule do not go together.
 ghost use Rattle.std.specs.Prelude.{◌≡◌, ◌<◌, None, Some, IfErr, OnOk};
-ghost use Rattle.vex_schedule.specs.Sound.{AreScans};
+ghost use Rattle.scan_list.specs.Sound.{AreScans};
 ghost use Rattle.job_join.specs.Joined.{refusal_of};
 ghost use Rattle.job_join.specs.Joining.{scans_of, IsJoining, late_of};
 

@@ -15,8 +15,8 @@ use crate::places::Place;
 use crate::spans::samples_of;
 use item_list::ItemList;
 use job_plan::ScanPlan;
+use scan_list::Scan;
 use std::alloc::{AllocError, Global};
-use vex_schedule::Scan;
 
 // The second at which a scan starts.
 fn second_of(scan: &Scan) -> u32

@@ -4,7 +4,7 @@ ghost use Rattle.job_join.specs.declared.stands.Here.{Here};
 ghost use Rattle.job_join.specs.Spans.{samples_in, first_sample, end_sample};
 
 use crate::stands::Here;
-use vex_schedule::Pass;
+use scan_list::Pass;
 
 // The whole samples in so many microseconds.
 fn samples_in(rate: u32, us: i64) -> u128

@@ -3,7 +3,7 @@ ghost use Rattle.std.specs.Prelude.{◌≡◌, ◌++◌, ℕ, List, None, Some, 
 ghost use Rattle.std.specs.List.{position};
 ghost use Rattle.std.specs.Option.{option_or};
 ghost use Rattle.named_list.specs.Named.{named};
-ghost use Rattle.vex_schedule.specs.Sound.{IsScan};
+ghost use Rattle.scan_list.specs.Sound.{IsScan};
 ghost use Rattle.job_text.specs.Job.{StationFields};
 ghost use Rattle.job_join.specs.Standing.{stands_in};
 ghost use Rattle.job_join.specs.Places.{stand_of, stands_of, found_at};
@@ -11,8 +11,8 @@ ghost use Rattle.job_join.specs.Places.{stand_of, stands_of, found_at};
 use crate::parts::stations;
 use job_text::{Job, Station};
 use named_list::Named;
+use scan_list::{Pass, Scan};
 use std::alloc::{AllocError, Global};
-use vex_schedule::{Pass, Scan};
 
 /// A station of the job in a scan: its number in the job, and its part.
 #[derive(Drop)]

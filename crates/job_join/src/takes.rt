@@ -5,7 +5,7 @@ ghost use Rattle.named_list.specs.Named.{named, names};
 ghost use Rattle.job_join.specs.Standing.{is_taken};
 
 use named_list::Named;
-use vex_schedule::Scan;
+use scan_list::Scan;
 
 /// The first take that is not among these names.
 pub(crate) fn unknown_take(takes: &Named<()>, scans: &Named<()>) -> Option<usize>

@@ -6,10 +6,10 @@ use Rattle.std.proofs.lemmas.Int.{ints}
 use Rattle.std.proofs.lemmas.List.{map_more}
 use Rattle.std.proofs.lemmas.Option.{get_or_from_slice_get}
 use Rattle.std.proofs.lemmas.List.Elements.{All-nil, All-cons, All-head, All-tail}
-use Rattle.vex_schedule.specs.declared.scan.Chan.{Chan as ScanChan}
-use Rattle.vex_schedule.specs.declared.scan.Pass.{Pass}
-use Rattle.vex_schedule.specs.declared.scan.Scan.{Scan as WholeScan}
-use Rattle.vex_schedule.specs.Sound.{IsChan, IsPass, IsScan, AreScans}
+use Rattle.scan_list.specs.declared.scan.Chan.{Chan as ScanChan}
+use Rattle.scan_list.specs.declared.scan.Pass.{Pass}
+use Rattle.scan_list.specs.declared.scan.Scan.{Scan as WholeScan}
+use Rattle.scan_list.specs.Sound.{IsChan, IsPass, IsScan, AreScans}
 use Rattle.job_text.specs.declared.places.ScanSpan.{ScanSpan}
 use Rattle.job_text.specs.declared.places.Band.{Band}
 use Rattle.job_text.specs.Job.{JobFields, StationFields}

@@ -1,8 +1,8 @@
 -- The schedule of a job that states its scans itself.
 use Rattle.std.specs.Prelude.{ℕ, pos, List, map, Some, unwrap_or}
-use Rattle.vex_schedule.specs.declared.scan.Chan.{Chan as ScanChan}
-use Rattle.vex_schedule.specs.declared.scan.Pass.{Pass}
-use Rattle.vex_schedule.specs.declared.scan.Scan.{Scan as WholeScan}
+use Rattle.scan_list.specs.declared.scan.Chan.{Chan as ScanChan}
+use Rattle.scan_list.specs.declared.scan.Pass.{Pass}
+use Rattle.scan_list.specs.declared.scan.Scan.{Scan as WholeScan}
 use Rattle.job_text.specs.declared.places.ScanSpan.{ScanSpan}
 use Rattle.job_text.specs.declared.places.Band.{Band}
 use Rattle.job_text.specs.Job.{JobFields, StationFields}

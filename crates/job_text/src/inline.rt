@@ -8,8 +8,8 @@ use crate::station::Station;
 use item_list::ItemList;
 use named_list::Named;
 use num_time::Name;
+use scan_list::{Chan, ChanList, Pass, Scan, ScanList};
 use std::alloc::{AllocError, Global};
-use vex_schedule::{Chan, ChanList, Pass, Scan, ScanList};
 
 // A band as a channel.
 fn chan_of(alloc: Global, name: &[u8], band: &Band) -> Result<Chan, AllocError>

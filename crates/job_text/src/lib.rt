@@ -1,7 +1,7 @@
 //! The text of a job and the job that it says: its numbers, its stations with their files, channels, clocks
 //! and polynomials, its products, and the scans and bands of a job that states them itself. It stands on
 //! `job_lines` for lines, fields and words, on `num_time`, `entry_list`, `delay_poly` and `station_clock` for
-//! what fields say, on `vex_reader` for things by their names, and on `vex_schedule` for schedules.
+//! what fields say, and on `scan_list` for schedules.
 //!
 //! `specs/Values.antt` says what the fields behind a word say, `specs/Said.antt` what rows say together,
 //! `specs/Faults.antt` the fault of a line behind others, and `specs/Answer.antt` the job of a text or the

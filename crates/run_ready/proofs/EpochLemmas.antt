@@ -6,7 +6,7 @@ use Rattle.std.proofs.lemmas.Bool.Decides.{nat_tests}
 use Rattle.std.proofs.lemmas.List.{length-append}
 use Rattle.std.proofs.lemmas.List.Folds.{fold-map}
 use Rattle.std.proofs.lemmas.List.Sums.{sum_by-cons}
-use Rattle.vex_schedule.specs.declared.scan.Scan.{Scan}
+use Rattle.scan_list.specs.declared.scan.Scan.{Scan}
 use Rattle.piece_plan.specs.Epochs.{JobSizes, scan_epochs, epochs_of}
 use Rattle.piece_plan.proofs.CountLemmas.{length-scan_epochs}
 use Rattle.job_plan.specs.declared.plan.ScanPlan.{ScanPlan}

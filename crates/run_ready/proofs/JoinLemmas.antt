@@ -9,7 +9,7 @@ use Rattle.vex_reader.specs.declared.file.VexFile.{VexFile}
 use Rattle.vex_reader.specs.Counts.{HasAtMostScans}
 use Rattle.named_list.specs.Named.{named}
 use Rattle.vex_schedule.specs.declared.fault.SchedKind.TheVariants.{NoSched}
-use Rattle.vex_schedule.specs.declared.scan.Scan.{Scan}
+use Rattle.scan_list.specs.declared.scan.Scan.{Scan}
 use Rattle.read_steps.specs.Steps.{◌>>=◌}
 use Rattle.vex_schedule.specs.Answers.{given}
 use Rattle.vex_schedule.specs.Schedule.{schedule_of, scans_of}

@@ -1,7 +1,7 @@
 -- What an order comes to where its recordings may be wrong besides its files.
 use Rattle.std.proofs.Common.{◌≡◌, ℕ, true, false, List, Option, None, Some, Result, Ok, Err, refl, sym, ap, subst, inl, inr}
 use Rattle.corr_model.specs.Files.{Files}
-use Rattle.vex_schedule.specs.declared.scan.Scan.{Scan}
+use Rattle.scan_list.specs.declared.scan.Scan.{Scan}
 use Rattle.job_text.specs.Job.{JobFields}
 use Rattle.job_text.specs.Inline.{scans_of}
 use Rattle.job_join.specs.Joined.{joined}

@@ -4,7 +4,7 @@ use Rattle.corr_model.specs.Files.{Files}
 use Rattle.vex_reader.specs.declared.file.VexFile.{VexFile}
 use Rattle.vex_reader.specs.Grammar.{IsFileOf}
 use Rattle.vex_reader.specs.Laws.{HasOneFile, HasOneFault, DoesNotBoth}
-use Rattle.vex_schedule.specs.declared.scan.Scan.{Scan}
+use Rattle.scan_list.specs.declared.scan.Scan.{Scan}
 use Rattle.vex_schedule.specs.declared.fault.SchedFault.{SchedFault}
 use Rattle.vex_schedule.specs.Schedule.{schedule_of}
 use Rattle.job_text.specs.Job.{JobFields}

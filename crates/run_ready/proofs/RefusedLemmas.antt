@@ -2,7 +2,7 @@
 use Rattle.std.proofs.Common.{◌≡◌, ◌⊎◌, ◌∙◌, ℕ, List, map, Option, Some, Err, refl, sym, ap, subst, inl, inr}
 use Rattle.std.specs.Prelude.{option_map}
 use Rattle.vdif_frame.specs.declared.shape.Field.{Field}
-use Rattle.vex_schedule.specs.declared.scan.Scan.{Scan}
+use Rattle.scan_list.specs.declared.scan.Scan.{Scan}
 use Rattle.corr_model.specs.Files.{Files}
 use Rattle.corr_model.specs.Slots.{slots_of}
 use Rattle.job_plan.specs.declared.plan.StationPlan.{StationPlan}

@@ -5,7 +5,7 @@ use Rattle.corr_model.specs.Files.{Files}
 use Rattle.vex_reader.specs.declared.file.VexFile.{VexFile}
 use Rattle.vex_reader.specs.declared.fault.VexFault.{VexFault}
 use Rattle.vex_reader.specs.Grammar.{IsFileOf, IsVexFaultOf}
-use Rattle.vex_schedule.specs.declared.scan.Scan.{Scan}
+use Rattle.scan_list.specs.declared.scan.Scan.{Scan}
 use Rattle.vex_schedule.specs.Schedule.{schedule_of}
 use Rattle.job_text.specs.Job.{JobFields, StationFields}
 use Rattle.job_text.specs.Answer.{job_in}

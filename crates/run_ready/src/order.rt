@@ -21,8 +21,8 @@ use job_text::{Job, inline_schedule};
 use num_time::Name;
 use run_notes::Refusal;
 use run_words::Order;
+use scan_list::ScanList;
 use std::alloc::Global;
-use vex_schedule::ScanList;
 
 // The survey of a job and a schedule with these texts.
 fn joins<F: Shelf>(

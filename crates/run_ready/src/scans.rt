@@ -23,8 +23,9 @@ use job_plan::Plan0;
 use job_text::{Job, read_job};
 use num_time::Name;
 use run_notes::Refusal;
+use scan_list::ScanList;
 use std::alloc::Global;
-use vex_schedule::{ScanList, schedule};
+use vex_schedule::schedule;
 
 // The greatest lengths of a schedule and of a job's text, in bytes.
 const MOST_SCHEDULE_BYTES: u64 = 8_388_608;

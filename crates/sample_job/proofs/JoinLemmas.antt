@@ -5,7 +5,7 @@ use Rattle.job_text.specs.Inline.{chan_of, scan_of, scans_of}
 use Rattle.job_join.specs.Standing.{taken, stands_in, rate_of, unknown_scan, unknown_station}
 use Rattle.job_join.specs.Channels.{channels_of, chans_in}
 use Rattle.job_join.specs.Differing.{rate_differs, channel_differs, product_differs, frame_rate}
-use Rattle.vex_schedule.specs.declared.scan.Scan.{Scan}
+use Rattle.scan_list.specs.declared.scan.Scan.{Scan}
 use Rattle.job_plan.specs.declared.plan.StationPlan.{StationPlan}
 use Rattle.job_text.specs.Job.{JobFields, StationFields}
 use Rattle.job_join.specs.Spans.{end_sample, samples_of}

@@ -1,8 +1,8 @@
 //! Scans, as they are printed.
 
 use crate::files::put_text;
+use scan_list::{Chan, Pass, Scan, ScanList};
 use std::alloc::{AllocError, Global};
-use vex_schedule::{Chan, Pass, Scan, ScanList};
 
 // ` [id hertz side band]`
 fn put_chan(alloc: Global, out: &mut String, chan: &Chan) -> Result<(), AllocError> {

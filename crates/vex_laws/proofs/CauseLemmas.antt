@@ -8,7 +8,7 @@ use Rattle.vex_reader.specs.declared.file.VexFile.{VexFile}
 use Rattle.named_list.specs.Named.{named}
 use Rattle.vex_schedule.specs.declared.fault.SchedKind.TheVariants.{NoSched, DoubleStatement, UnknownRef, BadValue, StationTwice, BadRange}
 use Rattle.vex_schedule.specs.declared.fault.SchedFault.{SchedFault}
-use Rattle.vex_schedule.specs.declared.scan.Chan.{Chan}
+use Rattle.scan_list.specs.declared.scan.Chan.{Chan}
 use Rattle.read_steps.specs.Steps.{in_turn}
 use Rattle.vex_schedule.specs.Answers.{fault, given}
 use Rattle.vex_schedule.specs.Statements.{has_key, only, is_setup}

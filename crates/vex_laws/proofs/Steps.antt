@@ -10,9 +10,9 @@ use Rattle.vex_reader.specs.declared.file.VexFile.{VexFile}
 use Rattle.vex_schedule.specs.declared.fault.SchedKind.{SchedKind}
 use Rattle.vex_schedule.specs.declared.fault.SchedKind.TheVariants.{MissingStatement, DoubleStatement, UnknownRef, BadValue}
 use Rattle.vex_schedule.specs.declared.fault.SchedFault.{SchedFault}
-use Rattle.vex_schedule.specs.declared.scan.Chan.{Chan}
-use Rattle.vex_schedule.specs.declared.scan.Pass.{Pass}
-use Rattle.vex_schedule.specs.declared.scan.Scan.{Scan}
+use Rattle.scan_list.specs.declared.scan.Chan.{Chan}
+use Rattle.scan_list.specs.declared.scan.Pass.{Pass}
+use Rattle.scan_list.specs.declared.scan.Scan.{Scan}
 use Rattle.read_steps.specs.Steps.{◌>>=◌, in_turn}
 use Rattle.read_steps.proofs.StepLemmas.{bind-ok}
 use Rattle.vex_schedule.specs.Answers.{fault, given}

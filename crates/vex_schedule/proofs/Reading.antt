@@ -3,7 +3,7 @@ use Rattle.std.proofs.Common.{◌≡◌, true, false, List, Some, None, Ok, Err,
 use Rattle.std.specs.List.{list_any}
 use Rattle.vex_reader.specs.declared.file.Statement.{Statement}
 use Rattle.vex_schedule.specs.declared.fault.SchedKind.TheVariants.{DoubleStatement, BadValue, StationTwice, BadRange}
-use Rattle.vex_schedule.specs.declared.scan.Chan.{Chan}
+use Rattle.scan_list.specs.declared.scan.Chan.{Chan}
 use Rattle.vex_schedule.specs.declared.stay.Stay.{Stay}
 use Rattle.vex_schedule.specs.Answers.{fault}
 use Rattle.vex_schedule.specs.Values.{chan_in, stay_in}

@@ -9,9 +9,9 @@ use Rattle.vex_reader.specs.declared.file.VexFile.{VexFile}
 use Rattle.named_list.specs.Named.{named}
 use Rattle.vex_schedule.specs.declared.fault.SchedKind.TheVariants.{NoSched, DoubleStatement, UnknownRef, BadValue, StationTwice, BadRange}
 use Rattle.vex_schedule.specs.declared.fault.SchedFault.{SchedFault}
-use Rattle.vex_schedule.specs.declared.scan.Chan.{Chan}
-use Rattle.vex_schedule.specs.declared.scan.Pass.{Pass}
-use Rattle.vex_schedule.specs.declared.scan.Scan.{Scan}
+use Rattle.scan_list.specs.declared.scan.Chan.{Chan}
+use Rattle.scan_list.specs.declared.scan.Pass.{Pass}
+use Rattle.scan_list.specs.declared.scan.Scan.{Scan}
 use Rattle.vex_schedule.specs.declared.stay.Stay.{Stay}
 use Rattle.read_steps.specs.Steps.{◌>>=◌, in_turn}
 use Rattle.vex_schedule.specs.Answers.{fault, given}

@@ -2,7 +2,7 @@
 use Rattle.std.specs.Prelude.{ℕ, ℤ, Bool, not, ◌&&◌, ◌==◌, nat_le, nat_lt, true, false, if◌then◌else◌, List, [], ◌∷◌, length, drop, slice_get, slice_index, codes, bytes_eq, Option, Some, None}
 use Rattle.std.specs.Result.{result_ok}
 use Rattle.num_time.specs.Times.{vex_second_of}
-use Rattle.vex_schedule.specs.declared.scan.Chan.{Chan}
+use Rattle.scan_list.specs.declared.scan.Chan.{Chan}
 use Rattle.vex_schedule.specs.declared.stay.Stay.{Stay}
 use Rattle.vex_schedule.specs.Optional.{◌>>=◌}
 use Rattle.vex_schedule.specs.Quantities.{frequency_of, rate_of, offset_of}

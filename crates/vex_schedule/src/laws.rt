@@ -2,7 +2,7 @@
 ghost use Rattle.std.specs.Prelude.{◌≡◌, ◌↔◌, List, Ok};
 ghost use Rattle.vex_reader.specs.declared.file.Statement.{Statement};
 ghost use Rattle.vex_reader.specs.declared.file.VexFile.{VexFile};
-ghost use Rattle.vex_schedule.specs.declared.scan.Scan.{Scan};
+ghost use Rattle.scan_list.specs.declared.scan.Scan.{Scan};
 ghost use Rattle.vex_schedule.specs.Schedule.{schedule_of};
 ghost use Rattle.vex_schedule.specs.Laws.{AreScansOf, LaterValuesDoNotCount};
 

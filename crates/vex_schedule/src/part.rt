@@ -1,7 +1,7 @@
 //! What a setup gives a station.
 ghost use Rattle.vex_schedule.specs.Sound.{IsSetup};
 
-use crate::chans::ChanList;
+use scan_list::ChanList;
 
 /// The sample rate and the channels of a def of `$FREQ`.
 #[derive(Drop)]

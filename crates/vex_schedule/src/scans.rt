@@ -6,13 +6,12 @@ ghost use Rattle.vex_schedule.specs.Answers.{Gives};
 ghost use Rattle.vex_schedule.specs.Covering.{IsCovering, AreCoverings};
 ghost use Rattle.vex_schedule.specs.Schedule.{start_of, pass_of, passes_of, scan_of, scans_of, schedule_of};
 ghost use Rattle.vex_schedule.specs.Setups.{AreSetups};
-ghost use Rattle.vex_schedule.specs.Sound.{IsStay, IsPass, IsScan, AreScans};
+ghost use Rattle.scan_list.specs.Sound.{IsPass, IsScan, AreScans};
+ghost use Rattle.vex_schedule.specs.Sound.{IsStay};
 
 use crate::covering::{Covering, coverings_of};
 use crate::fault::{SchedFault, SchedKind};
-use crate::list::ScanList;
 use crate::part::Setup;
-use crate::scan::{Pass, Scan};
 use crate::setup::{mode_of, setup_of, setups_of};
 use crate::statements::only_with;
 use crate::stay::{Stay, stays_of};
@@ -20,6 +19,7 @@ use crate::values::{is_name, start_in};
 use item_list::ItemList;
 use named_list::Named;
 use num_time::Name;
+use scan_list::{Pass, Scan, ScanList};
 use std::alloc::Global;
 use vex_reader::{Item, VexFile};
 

@@ -2,12 +2,12 @@
 ghost use Rattle.std.specs.Prelude.{◌≡◌, ◌<◌, ◌^◌, slice_get, bytes_eq, IfOk, IfSome, option_copied};
 ghost use Rattle.num_time.specs.Times.{IsSecond};
 ghost use Rattle.vex_schedule.specs.Values.{sole, is_word, word_of, is_name, only_word, start_in, rate_in, word_at, offset_at, frequency_at, stay_in, side_at, without_sign, id_at, chan_in};
-ghost use Rattle.vex_schedule.specs.Sound.{IsChan};
+ghost use Rattle.scan_list.specs.Sound.{IsChan};
 
 use crate::quantities::{frequency, offset, rate};
-use crate::scan::Chan;
 use crate::stay::Stay;
 use num_time::{Name, vex_second};
+use scan_list::Chan;
 use std::alloc::{AllocError, Global};
 use vex_reader::Value;
 

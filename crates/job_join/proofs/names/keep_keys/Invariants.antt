@@ -1,7 +1,7 @@
 use Rattle.std.proofs.Common.{◌≡◌, ◌||◌, ℕ, List, take, bytes_eq, is_some}
 use Rattle.std.specs.List.{list_any}
 use Rattle.named_list.specs.Named.{named}
-use Rattle.vex_schedule.specs.declared.scan.Pass.{Pass}
+use Rattle.scan_list.specs.declared.scan.Pass.{Pass}
 use Rattle.job_join.proofs.names.keep_keys.Given as goal
 
 abbrev pub invariant-loop-pass : goal.invariant-loop-pass

@@ -1,6 +1,6 @@
 use Rattle.std.proofs.Common.{false, List}
 use Rattle.std.proofs.lemmas.Result.{err_from_is_err_and, IfOk-weaker}
-use Rattle.vex_schedule.specs.declared.scan.Scan.{Scan}
+use Rattle.scan_list.specs.declared.scan.Scan.{Scan}
 use Rattle.job_text.specs.Job.{JobFields}
 use Rattle.run_ready.specs.Steps.{Then}
 use Rattle.run_ready.specs.Outcome.{ScheduleOf, JobOf, Joins}

@@ -3,7 +3,7 @@ use Rattle.std.proofs.lemmas.List.{length-map}
 use Rattle.std.proofs.lemmas.Result.{err_from_is_err_and, IfOk-weaker}
 use Rattle.dev_traits.proofs.ToldLemmas.{WhereTold-weaker}
 use Rattle.frame_index.proofs.ToldLemmas.{WhereTold-always}
-use Rattle.vex_schedule.specs.declared.scan.Scan.{Scan}
+use Rattle.scan_list.specs.declared.scan.Scan.{Scan}
 use Rattle.job_text.specs.Inline.{scans_of}
 use Rattle.run_notes.specs.Refusals.{IsCause}
 use Rattle.run_ready.specs.Outcome.{JobOf, Joins}

@@ -1,7 +1,7 @@
 use Rattle.std.proofs.Common.{◌≡◌, map, take, drop, All}
 use Rattle.read_steps.specs.Steps.{in_turn}
 use Rattle.vex_schedule.specs.Schedule.{pass_of, passes_of}
-use Rattle.vex_schedule.specs.Sound.{IsPass}
+use Rattle.scan_list.specs.Sound.{IsPass}
 use Rattle.vex_schedule.proofs.scans.passes_of.Given as goal
 
 abbrev pub invariant-loop-stay : goal.invariant-loop-stay

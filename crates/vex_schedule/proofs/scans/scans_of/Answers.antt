@@ -4,7 +4,7 @@ use Rattle.std.proofs.lemmas.List.Elements.{All-push}
 use Rattle.std.proofs.lemmas.Result.{err_from_is_err_and}
 use Rattle.vex_reader.specs.declared.file.Item.{Item}
 use Rattle.vex_schedule.specs.Schedule.{scan_of, scans_of}
-use Rattle.vex_schedule.specs.Sound.{IsScan}
+use Rattle.scan_list.specs.Sound.{IsScan}
 use Rattle.vex_schedule.proofs.Lists.{drop-there, map-take_more}
 use Rattle.read_steps.proofs.StepLemmas.{in_turn-read, in_turn-ends}
 use Rattle.vex_schedule.specs.Answers.{out_of_memory}

@@ -2,7 +2,7 @@ use Rattle.std.proofs.Common.{◌≡◌, map, take, drop, All}
 use Rattle.named_list.specs.Named.{names}
 use Rattle.read_steps.specs.Steps.{in_turn}
 use Rattle.vex_schedule.specs.Schedule.{scan_of, scans_of}
-use Rattle.vex_schedule.specs.Sound.{IsScan}
+use Rattle.scan_list.specs.Sound.{IsScan}
 use Rattle.vex_schedule.proofs.scans.scans_of.Given as goal
 
 abbrev pub invariant-loop-i : goal.invariant-loop-i

@@ -1,7 +1,7 @@
 use Rattle.std.proofs.Common.{rules, ◌≡◌, Some, true, false, bytes_eq, arith, is_some, ◌∙◌, inr}
 use Rattle.std.specs.List.{list_any}
 use Rattle.named_list.specs.Named.{named}
-use Rattle.vex_schedule.specs.declared.scan.Chan.{Chan}
+use Rattle.scan_list.specs.declared.scan.Chan.{Chan}
 use Rattle.vex_schedule.specs.Values.{chan_in}
 use Rattle.vex_schedule.proofs.Names.{beside}
 use Rattle.vex_schedule.proofs.Reading.{chan_of-double, chan_of-new}

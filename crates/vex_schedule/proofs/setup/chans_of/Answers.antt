@@ -1,9 +1,9 @@
 use Rattle.std.proofs.Common.{rules, filter, codes, ap, is_some, ◌∙◌}
 use Rattle.std.proofs.lemmas.List.Elements.{All-push}
-use Rattle.vex_schedule.specs.declared.scan.Chan.{Chan}
+use Rattle.scan_list.specs.declared.scan.Chan.{Chan}
 use Rattle.vex_schedule.specs.Statements.{has_key}
 use Rattle.vex_schedule.specs.Schedule.{chan_of, chans_of}
-use Rattle.vex_schedule.specs.Sound.{IsChan}
+use Rattle.scan_list.specs.Sound.{IsChan}
 use Rattle.vex_schedule.proofs.Names.{names-push, beside, beside-push}
 use Rattle.read_steps.proofs.StepLemmas.{in_turn-read}
 use Rattle.vex_schedule.proofs.setup.chans_of.Goals as goal

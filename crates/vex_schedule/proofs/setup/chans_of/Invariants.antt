@@ -3,7 +3,7 @@ use Rattle.named_list.specs.Named.{names}
 use Rattle.read_steps.specs.Steps.{in_turn}
 use Rattle.vex_schedule.specs.Statements.{has_key}
 use Rattle.vex_schedule.specs.Schedule.{chan_of, chans_of}
-use Rattle.vex_schedule.specs.Sound.{IsChan}
+use Rattle.scan_list.specs.Sound.{IsChan}
 use Rattle.vex_schedule.proofs.setup.chans_of.Given as goal
 
 abbrev pub invariant-loop-statement : goal.invariant-loop-statement

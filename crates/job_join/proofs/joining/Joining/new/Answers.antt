@@ -1,6 +1,6 @@
 use Rattle.std.proofs.Common.{◌≡◌, ◌∷◌, [], ℕ, List, map, flat_map, bytes_eq, ap, sym, ◌∙◌}
 use Rattle.std.specs.List.{list_any}
-use Rattle.vex_schedule.specs.declared.scan.Scan.{Scan}
+use Rattle.scan_list.specs.declared.scan.Scan.{Scan}
 use Rattle.job_join.specs.declared.places.Place.{Place}
 use Rattle.job_join.specs.Standing.{rate_of}
 use Rattle.job_join.specs.Channels.{channels_of, first_uses}

@@ -15,7 +15,7 @@ pub struct ChanList {
 
 impl Model for ChanList {
     ghost use Rattle.std.specs.Prelude.{List};
-    ghost use Rattle.vex_schedule.specs.declared.scan.Chan.{Chan};
+    ghost use Rattle.scan_list.specs.declared.scan.Chan.{Chan};
 
     ghost Value = { List Chan };
 

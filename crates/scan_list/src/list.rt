@@ -1,5 +1,5 @@
 //! Schedules.
-ghost use Rattle.vex_schedule.specs.Sound.{AreScans};
+ghost use Rattle.scan_list.specs.Sound.{AreScans};
 
 use crate::scan::Scan;
 use item_list::ItemList;

@@ -19,7 +19,7 @@ mod surveys;
 mod texts;
 
 pub use order::survey;
-pub use ready::{Ready, prepare};
+pub use ready::prepare;
 pub use recordings::StationFiles;
 pub use surveys::Survey;
 pub use texts::load_text;

@@ -1,44 +1,25 @@
 //! What a command has before its output.
-ghost use Rattle.std.specs.Prelude.{◌≡◌, ◌≤◌, ◌<◌, ◌^◌, IfOk, IfErr, OnOk, IsSome, Ok, None, length};
+ghost use Rattle.std.specs.Prelude.{◌≡◌, IfOk, IfErr, OnOk, IsSome, Ok, None};
 ghost use Rattle.dev_traits.specs.Told.{WhereTold};
 ghost use Rattle.run_words.specs.Orders.{AreTexts};
 ghost use Rattle.run_notes.specs.Refusals.{IsCause};
 ghost use Rattle.run_notes.specs.Counted.{CountsReads};
-ghost use Rattle.piece_plan.specs.Epochs.{epochs_of};
-ghost use Rattle.job_epochs.specs.Sizes.{sizes_of};
 ghost use Rattle.run_ready.specs.Outcome.{job_names, PlanOf};
 ghost use Rattle.run_ready.specs.Due.{IsDue};
 ghost use Rattle.run_ready.specs.Recordings.{first_foreign};
 ghost use Rattle.run_ready.specs.Sizes.{AreShelved};
 ghost use Rattle.run_ready.specs.Identities.{identity_under};
 ghost use Rattle.run_ready.specs.Stage.{IsOfFiles};
-ghost use Rattle.station_stream.specs.Recorded.{AreRecorded, AreNamed};
+ghost use Rattle.station_stream.specs.Recorded.{AreRecorded};
 
 use crate::indexes::index_all;
 use crate::order::survey;
 use crate::surveys::Survey;
-use checkpoint_journal::Identity;
 use dev_traits::Shelf;
-use job_plan::Plan0;
-use piece_plan::JobPlan;
+use ready_job::Ready;
 use run_notes::Refusal;
 use run_words::Order;
-use station_stream::Recording;
 use std::alloc::Global;
-
-/// A plan, its epochs, the recordings of its stations, in their order, and the identity of its job.
-#[derive(Drop)]
-pub struct Ready {
-    pub plan: Plan0,
-    pub epochs: JobPlan,
-    pub recordings: Vec<Recording>,
-    pub identity: Identity,
-    pub ghost named: { AreNamed plan.stations recordings.items },
-    pub ghost few: { length plan.scans ≤ 8388608 },
-    pub ghost cut: { epochs ≡ sizes_of plan },
-    pub ghost few_epochs: { length (epochs_of epochs) ≤ 4294967296 },
-    pub ghost short: { length identity < 2 ^ 62 },
-}
 
 // What was surveyed, with each station's recording.
 fn indexed<F: Shelf>(alloc: Global, shelf: &mut F, survey: Survey) -> Result<Ready, Refusal>

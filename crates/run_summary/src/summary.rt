@@ -10,7 +10,7 @@ ghost use Rattle.run_summary.specs.Summaries.{check_text, counts_line, kept_line
 use dev_traits::{Failed, Sink};
 use frame_index::Counts;
 use job_plan::StationPlan;
-use run_ready::Ready;
+use ready_job::Ready;
 use sink_text::{Piece, Stretch, append_pieces};
 use station_stream::Recording;
 

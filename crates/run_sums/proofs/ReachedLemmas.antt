@@ -9,7 +9,7 @@ use Rattle.piece_plan.specs.declared.epoch.EpochPlan.{EpochPlan}
 use Rattle.job_plan.specs.declared.plan.ScanPlan.{ScanPlan}
 use Rattle.job_plan.specs.declared.plan.Plan.{Plan}
 use Rattle.epoch_run.specs.Planes.{planed}
-use Rattle.run_ready.specs.declared.ready.Ready.{Ready}
+use Rattle.ready_job.specs.declared.ready.Ready.{Ready}
 use Rattle.run_sums.specs.declared.values.EpochValues.{EpochValues}
 use Rattle.run_sums.specs.Found.{IsFound}
 use Rattle.run_sums.specs.Pairs.{pairs_in}

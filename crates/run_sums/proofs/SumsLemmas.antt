@@ -30,7 +30,7 @@ use Rattle.job_epochs.specs.Sizes.{sizes_of}
 use Rattle.epoch_run.specs.Planes.{planed}
 use Rattle.epoch_run.specs.Sums.{pair_cells, cells_in_epoch}
 use Rattle.run_sums.specs.Found.{IsEpochOf, IsFound}
-use Rattle.run_ready.specs.declared.ready.Ready.{Ready}
+use Rattle.ready_job.specs.declared.ready.Ready.{Ready}
 use Rattle.run_sums.specs.declared.values.EpochValues.{EpochValues}
 use Rattle.run_sums.specs.Reach.{AreReached, HaveGroups, IsReached}
 use Rattle.run_sums.specs.Pairs.{placed_pair, pairs_in}

@@ -5,7 +5,7 @@ use Rattle.corr_model.specs.Files.{Files}
 use Rattle.atomic_sums.specs.Sums.{EpochCells}
 use Rattle.checkpoint_journal.specs.Image.{cells_of_epoch}
 use Rattle.job_epochs.specs.Sums.{sums_of}
-use Rattle.run_ready.specs.declared.ready.Ready.{Ready}
+use Rattle.ready_job.specs.declared.ready.Ready.{Ready}
 use Rattle.run_sums.specs.declared.ahead.Ahead.{Ahead}
 use Rattle.run_sums.specs.Reach.{IsReached}
 

@@ -17,8 +17,8 @@ use crate::sums::sum;
 use crate::values::EpochValues;
 use atomic_sums::EpochSums;
 use dev_traits::{Gate, Shelf};
+use ready_job::Ready;
 use run_notes::Refusal;
-use run_ready::Ready;
 use std::alloc::{AllocError, Global};
 use std::thread::{Threads, join_mut};
 

@@ -14,8 +14,8 @@ use crate::spare::Spare;
 use crate::values::EpochValues;
 use crate::window::{reach_from, reach_to};
 use dev_traits::Shelf;
+use ready_job::Ready;
 use run_notes::Refusal;
-use run_ready::Ready;
 use std::alloc::Global;
 
 /// Reads the values of the samples that the lags of epoch `i` reach, part by part, and makes their planes, in room of `spare` where

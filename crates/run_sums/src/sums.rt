@@ -14,7 +14,7 @@ use crate::values::EpochValues;
 use atomic_sums::EpochSums;
 use dev_traits::Gate;
 use epoch_run::sum_planes;
-use run_ready::Ready;
+use ready_job::Ready;
 use std::alloc::{AllocError, Global};
 use std::thread::Threads;
 

@@ -13,7 +13,7 @@ use Rattle.vis_records.specs.Content.{Content}
 use Rattle.vis_records.specs.Reading.{record_file, fault_of}
 use Rattle.vis_records.specs.Dumped.{dump_text}
 use Rattle.run_notes.specs.declared.refusal.Refusal.{Refusal}
-use Rattle.run_notes.specs.declared.refusal.Refusal.TheVariants.{Memory, Due as DueRefusal, Read, Journal, Write}
+use Rattle.run_notes.specs.declared.refusal.Refusal.TheVariants.{Memory, Words, Due as DueRefusal, Other, Read, Journal, Write}
 use Rattle.run_notes.specs.Refusals.{Outcomes, IsCause, MatchRead, MatchWrite}
 use Rattle.run_notes.specs.Counted.{CountsReads, CountsWrites}
 use Rattle.run_ready.specs.Stage.{IsOfFiles, IsOfTexts}
@@ -22,7 +22,9 @@ use Rattle.run_dump.specs.Shown.{ContentOf, refusal_by, records_refusal, IsPartO
 -- what is refused for a file is no fault of the output
 pub MatchWrite-files : (r : Refusal) (P Q : Type 0) → IsOfFiles r → Q → MatchWrite r P Q
 MatchWrite-files Memory P Q stage q = q
+MatchWrite-files (Words fault) P Q stage q = q
 MatchWrite-files (DueRefusal due) P Q stage q = q
+MatchWrite-files (Other d) P Q stage q = q
 MatchWrite-files Read P Q stage q = q
 MatchWrite-files (Journal kept) P Q stage q = absurd stage
 MatchWrite-files Write P Q stage q = absurd stage

@@ -1,15 +1,14 @@
--- Refusals: their answers, and what may cause them. There are three classes: want of memory, a verdict, which is due where it
--- is the first that stands, and the fault of a device.
+-- Refusals: their answers, and what may cause them. There are three classes: want of memory; a verdict on the words, on the files or
+-- on the journal, which is due where it is the first that stands; and the fault of a device.
 use Rattle.std.specs.Prelude.{◌≡◌, ◌⊎◌, ◌==◌, if◌then◌else◌, ⊤, ℕ, List, [], Option, Some, None, Result, Ok, Err, MatchResult}
 use Rattle.run_notes.specs.declared.refusal.Due.{Due}
-use Rattle.run_notes.specs.declared.refusal.Due.TheVariants.{Words, Vex, Schedule, Job, Join, Limit, NoFile, Recording, Records, Other}
+use Rattle.run_notes.specs.declared.refusal.Due.TheVariants.{Vex, Schedule, Job, Join, Limit, NoFile, Recording, Records}
 use Rattle.run_notes.specs.declared.refusal.Refusal.{Refusal}
-use Rattle.run_notes.specs.declared.refusal.Refusal.TheVariants.{Memory, Due as DueRefusal, Read, Journal, Write}
+use Rattle.run_notes.specs.declared.refusal.Refusal.TheVariants.{Memory, Words, Due as DueRefusal, Other, Read, Journal, Write}
 use Rattle.run_notes.specs.Answers.{Answer, memory_answer, words_answer, vex_answer, schedule_answer, job_answer, join_answer, limit_answer, no_file_answer, recording_answer, records_answer, other_answer, read_answer, journal_answer, write_answer}
 
--- the answer of a verdict
+-- the answer of what is wrong with the files of a call
 abbrev pub due_answer : Due → Answer
-due_answer (Words fault) = words_answer fault
 due_answer (Vex fault) = vex_answer fault
 due_answer (Schedule fault) = schedule_answer fault
 due_answer (Job fault) = job_answer fault
@@ -18,11 +17,12 @@ due_answer (Limit quantity value) = limit_answer quantity value
 due_answer (NoFile name) = no_file_answer name
 due_answer (Recording key field) = recording_answer key field
 due_answer (Records fault) = records_answer fault
-due_answer (Other d) = other_answer d
 
 abbrev pub answer_of : Refusal → Answer
 answer_of Memory = memory_answer
+answer_of (Words fault) = words_answer fault
 answer_of (DueRefusal due) = due_answer due
+answer_of (Other d) = other_answer d
 answer_of Read = read_answer
 answer_of (Journal kept) = journal_answer kept
 answer_of Write = write_answer
@@ -35,14 +35,18 @@ Outcomes A = Result A Answer → Type 0
 -- want of memory and a read fault may come at any time.
 abbrev pub IsCause : {A : Type 0} → Refusal → Outcomes A → Type 0
 IsCause {A} Memory outcomes = ⊤
+IsCause {A} (Words fault) outcomes = outcomes (Err (words_answer fault))
 IsCause {A} (DueRefusal due) outcomes = outcomes (Err (due_answer due))
+IsCause {A} (Other d) outcomes = outcomes (Err (other_answer d))
 IsCause {A} Read outcomes = ⊤
 IsCause {A} (Journal kept) outcomes = (x : A) × outcomes (Ok x)
 IsCause {A} Write outcomes = (x : A) × outcomes (Ok x)
 
 -- want of memory, or the fault of a device
 abbrev pub IsNoVerdict : Refusal → Type 0
+IsNoVerdict (Words fault) = ⊥
 IsNoVerdict (DueRefusal due) = ⊥
+IsNoVerdict (Other d) = ⊥
 IsNoVerdict _ = ⊤
 
 -- one fact for a fault of the output, another for the rest

@@ -4,12 +4,13 @@ ghost use Rattle.hex.specs.Hex.{encode_lower};
 ghost use Rattle.sink_text.specs.Appends.{Appends};
 ghost use Rattle.sink_text.specs.Written.{Puts};
 ghost use Rattle.run_notes.specs.Refusals.{answer_of, due_answer};
-ghost use Rattle.run_notes.specs.Answers.{byte_answer, byte_or_none, other_answer};
+ghost use Rattle.run_notes.specs.Answers.{words_answer, byte_answer, byte_or_none, other_answer};
 
 use crate::refusal::{Due, Refusal};
 use checkpoint_journal::Differs;
 use dev_traits::{Failed, Sink};
 use hex::encode_to_slice;
+use run_words::WordsFault;
 use sink_text::{Piece, Stretch, append_pieces};
 
 /// The status that a call answers where it is refused so.
@@ -18,25 +19,25 @@ pub fn status(refusal: &Refusal) -> u8
 {
     match refusal {
         Refusal::Memory => 1,
+        Refusal::Words(_) => 2,
         Refusal::Due(due) => due_status(due),
+        Refusal::Other(_) => 10,
         Refusal::Read => 7,
         Refusal::Journal(_) => 8,
         Refusal::Write => 9,
     }
 }
 
-// The status of a verdict.
+// The status of what is wrong with the files.
 fn due_status(due: &Due) -> u8
     ensures { result ≡ (due_answer due.now).status }
 {
     match due {
-        Due::Words(_) => 2,
         Due::Vex(_) | Due::Schedule(_) => 3,
         Due::Job(_) | Due::Join(_, _) => 4,
         Due::Recording(_, _) | Due::Records(_) => 5,
         Due::Limit(_, _) => 6,
         Due::NoFile(_) => 11,
-        Due::Other(_) => 10,
     }
 }
 
@@ -46,7 +47,9 @@ pub fn write_note<N: Sink>(refusal: &Refusal, notes: &mut N) -> Result<(), Faile
 {
     match refusal {
         Refusal::Memory => append_pieces(&[Piece::Text("vlbi: out of memory\n")], notes),
+        Refusal::Words(fault) => write_words(fault, notes),
         Refusal::Due(due) => write_due(due, notes),
+        Refusal::Other(differs) => write_other(differs, notes),
         Refusal::Read => append_pieces(&[Piece::Text("vlbi: read fault\n")], notes),
         Refusal::Journal(None) => append_pieces(&[Piece::Text("vlbi: journal fault\n")], notes),
         Refusal::Journal(Some(kept)) => append_pieces(
@@ -61,19 +64,25 @@ pub fn write_note<N: Sink>(refusal: &Refusal, notes: &mut N) -> Result<(), Faile
     }
 }
 
-// Writes a verdict's line.
+// Writes the line of words that are not a command's.
+fn write_words<N: Sink>(fault: &WordsFault, notes: &mut N) -> Result<(), Failed>
+    ensures { Appends (N.told notes.old) (N.told notes.new) (words_answer fault.now).note (N.faults notes.old) (N.faults notes.new) result }
+{
+    append_pieces(
+        &[
+            Piece::Text("vlbi: words: "),
+            Piece::Text(fault.name()),
+            Piece::Text("\n"),
+        ],
+        notes,
+    )
+}
+
+// Writes the line of what is wrong with the files.
 fn write_due<N: Sink>(due: &Due, notes: &mut N) -> Result<(), Failed>
     ensures { Appends (N.told notes.old) (N.told notes.new) (due_answer due.now).note (N.faults notes.old) (N.faults notes.new) result }
 {
     match due {
-        Due::Words(fault) => append_pieces(
-            &[
-                Piece::Text("vlbi: words: "),
-                Piece::Text(fault.name()),
-                Piece::Text("\n"),
-            ],
-            notes,
-        ),
         Due::Vex(fault) => write_at_byte(fault.kind.name(), fault.at, notes),
         Due::Schedule(fault) => write_at_byte(fault.kind.name(), fault.at, notes),
         Due::Job(fault) => append_pieces(
@@ -134,7 +143,6 @@ fn write_due<N: Sink>(due: &Due, notes: &mut N) -> Result<(), Failed>
             ],
             notes,
         ),
-        Due::Other(differs) => write_other(differs, notes),
     }
 }
 

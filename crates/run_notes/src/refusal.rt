@@ -12,11 +12,9 @@ use vex_reader::VexFault;
 use vex_schedule::SchedFault;
 use vis_records::VisFault;
 
-/// A verdict on what a call was given: the first thing that is wrong with it.
+/// A verdict on the files that a call was given: the first thing that is wrong with them.
 #[derive(Debug, Drop)]
 pub enum Due {
-    /// The words are not a command's.
-    Words(WordsFault),
     /// The schedule's text is no VEX file.
     Vex(VexFault),
     /// The VEX file has no schedule.
@@ -34,8 +32,6 @@ pub enum Due {
     Recording(Name, Field),
     /// The file that is shown is no record file.
     Records(VisFault),
-    /// The journal is neither blank nor one of this job: where it differs.
-    Other(Differs),
 }
 
 /// Why a call did not do what it was asked for.
@@ -43,8 +39,12 @@ pub enum Due {
 pub enum Refusal {
     /// Out of memory.
     Memory,
-    /// What the call was given is not accepted.
+    /// The words are not a command's.
+    Words(WordsFault),
+    /// The files are not accepted.
     Due(Due),
+    /// The journal is neither blank nor one of this job: where it differs.
+    Other(Differs),
     /// A read of the shelf failed.
     Read,
     /// A call of the journal's disk failed: the number of epochs that are kept, once it is known.

@@ -8,7 +8,7 @@ use Rattle.corr_model.specs.Files.{Files}
 use Rattle.job_plan.specs.declared.plan.StationPlan.{StationPlan}
 use Rattle.run_notes.specs.Answers.{Answer, no_file_answer}
 use Rattle.run_notes.specs.declared.refusal.Refusal.{Refusal}
-use Rattle.run_notes.specs.declared.refusal.Refusal.TheVariants.{Memory, Due as DueRefusal, Read, Journal, Write}
+use Rattle.run_notes.specs.declared.refusal.Refusal.TheVariants.{Memory, Words, Due as DueRefusal, Other, Read, Journal, Write}
 use Rattle.run_ready.specs.Steps.{or_else}
 use Rattle.run_ready.specs.Due.{IsDue}
 use Rattle.run_ready.specs.Sizes.{no_file, no_file_of, no_file_for}
@@ -16,7 +16,9 @@ use Rattle.run_ready.specs.Sizes.{no_file, no_file_of, no_file_for}
 -- what is due by the first answer is due by the first of two
 pub IsDue-or_else : (r : Refusal) (v w : Option Answer) → IsDue r v → IsDue r (or_else v w)
 IsDue-or_else Memory v w due = tt
+IsDue-or_else (Words fault) v w due = ap (λ o. or_else o w) due
 IsDue-or_else (DueRefusal d) v w due = ap (λ o. or_else o w) due
+IsDue-or_else (Other x) v w due = ap (λ o. or_else o w) due
 IsDue-or_else Read v w due = tt
 IsDue-or_else (Journal kept) v w due = due
 IsDue-or_else Write v w due = due

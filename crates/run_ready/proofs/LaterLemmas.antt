@@ -8,10 +8,10 @@ use Rattle.job_join.specs.Joined.{joined}
 use Rattle.job_plan.specs.declared.plan.Plan.{Plan}
 use Rattle.run_words.specs.declared.order.Order.{Order}
 use Rattle.run_words.specs.declared.order.Order.TheVariants.{Run, Plain, Check, Status, Dump, Gen}
-use Rattle.run_notes.specs.Answers.{Answer}
+use Rattle.run_notes.specs.Answers.{Answer, words_answer, other_answer}
 use Rattle.run_notes.specs.Refusals.{Outcomes, IsCause, due_answer}
 use Rattle.run_notes.specs.declared.refusal.Refusal.{Refusal}
-use Rattle.run_notes.specs.declared.refusal.Refusal.TheVariants.{Memory, Due as DueRefusal, Read, Journal, Write}
+use Rattle.run_notes.specs.declared.refusal.Refusal.TheVariants.{Memory, Words, Due as DueRefusal, Other, Read, Journal, Write}
 use Rattle.run_ready.specs.Due.{IsDue}
 use Rattle.run_ready.specs.Steps.{Is, Then, answered, unless, or_else}
 use Rattle.run_ready.specs.Stage.{IsOfFiles}
@@ -92,9 +92,11 @@ PlanOf-plan files order plan o held is =
 -- the cause that a survey is refused for
 pub IsCause-surveyed : (files : Files) (order : Order) (r : Refusal) → IsOfFiles r → IsCause r (SurveyOf files order) → IsCause r (PlanOf files order)
 IsCause-surveyed files order Memory stage cause = tt
+IsCause-surveyed files order (Words fault) stage cause = absurd stage
 IsCause-surveyed files order (DueRefusal due) stage cause =
     PlanBy-turn files (files_answer files) (recordings_answer files) order (Err (due_answer due)) (Err (due_answer due))
     (λ answer e. e) (turns-answer files (due_answer due)) cause
+IsCause-surveyed files order (Other d) stage cause = absurd stage
 IsCause-surveyed files order Read stage cause = tt
 IsCause-surveyed files order (Journal kept) stage cause = absurd stage
 IsCause-surveyed files order Write stage cause = absurd stage
@@ -103,7 +105,9 @@ IsCause-surveyed files order Write stage cause = absurd stage
 pub IsCause-foreign : (files : Files) (order : Order) (plan : Plan) (r : Refusal) → SurveyOf files order (Ok plan)
     → IsDue r (first_foreign files plan.stations) → IsCause r (PlanOf files order)
 IsCause-foreign files order plan Memory is due = tt
+IsCause-foreign files order plan (Words fault) is due = PlanOf-plan files order plan (Some (words_answer fault)) due is
 IsCause-foreign files order plan (DueRefusal d) is due = PlanOf-plan files order plan (Some (due_answer d)) due is
+IsCause-foreign files order plan (Other x) is due = PlanOf-plan files order plan (Some (other_answer x)) due is
 IsCause-foreign files order plan Read is due = tt
 IsCause-foreign files order plan (Journal kept) is due = absurd due
 IsCause-foreign files order plan Write is due = absurd due

@@ -3,11 +3,10 @@ use Rattle.std.proofs.Common.{◌≡◌, Option, Some, None, Result, Ok, Err, sy
 use Rattle.std.proofs.Common.{inl, inr}
 use Rattle.std.specs.Prelude.{IfOk, IfErr}
 use Rattle.dev_traits.specs.Told.{WhereTold}
-use Rattle.run_notes.specs.Answers.{Answer}
+use Rattle.run_notes.specs.Answers.{Answer, words_answer, other_answer}
 use Rattle.run_notes.specs.Refusals.{Outcomes, IsCause, MatchRead, due_answer}
-use Rattle.run_notes.specs.declared.refusal.Due.TheVariants.{Words, Vex, Schedule, Job, Join, Limit, NoFile, Recording, Records, Other}
 use Rattle.run_notes.specs.declared.refusal.Refusal.{Refusal}
-use Rattle.run_notes.specs.declared.refusal.Refusal.TheVariants.{Memory, Due as DueRefusal, Read, Journal, Write}
+use Rattle.run_notes.specs.declared.refusal.Refusal.TheVariants.{Memory, Words, Due as DueRefusal, Other, Read, Journal, Write}
 use Rattle.run_ready.specs.Steps.{Is, Then, unless}
 use Rattle.run_ready.specs.Due.{IsDue}
 use Rattle.run_ready.specs.Stage.{IsOfFiles, IsOfTexts}
@@ -15,7 +14,9 @@ use Rattle.run_ready.specs.Stage.{IsOfFiles, IsOfTexts}
 -- a cause in the first step is one of both
 pub IsCause-first : {A B : Type 0} (r : Refusal) (first : Outcomes A) (next : A → Outcomes B) → IsOfFiles r → IsCause r first → IsCause r (Then first next)
 IsCause-first Memory first next stage cause = tt
+IsCause-first (Words fault) first next stage cause = inl cause
 IsCause-first (DueRefusal due) first next stage cause = inl cause
+IsCause-first (Other d) first next stage cause = inl cause
 IsCause-first Read first next stage cause = tt
 IsCause-first (Journal kept) first next stage cause = absurd stage
 IsCause-first Write first next stage cause = absurd stage
@@ -23,7 +24,9 @@ IsCause-first Write first next stage cause = absurd stage
 -- and so is one in the second step, behind what the first comes to
 pub IsCause-next : {A B : Type 0} (r : Refusal) (first : Outcomes A) (next : A → Outcomes B) (a : A) → IsOfFiles r → first (Ok a) → IsCause r (next a) → IsCause r (Then first next)
 IsCause-next Memory first next a stage is cause = tt
+IsCause-next (Words fault) first next a stage is cause = inr (a, is, cause)
 IsCause-next (DueRefusal due) first next a stage is cause = inr (a, is, cause)
+IsCause-next (Other d) first next a stage is cause = inr (a, is, cause)
 IsCause-next Read first next a stage is cause = tt
 IsCause-next (Journal kept) first next a stage is cause = absurd stage
 IsCause-next Write first next a stage is cause = absurd stage
@@ -31,7 +34,9 @@ IsCause-next Write first next a stage is cause = absurd stage
 -- what an answer makes due is a cause that there is not the thing
 pub IsCause-unless : {A : Type 0} (r : Refusal) (v : Option Answer) (x : A) → IsDue r v → IsCause r (Is (unless v x))
 IsCause-unless Memory v x due = tt
+IsCause-unless (Words fault) v x due = ap (λ o. unless o x) (sym due)
 IsCause-unless (DueRefusal d) v x due = ap (λ o. unless o x) (sym due)
+IsCause-unless (Other x) v x due = ap (λ o. unless o x) (sym due)
 IsCause-unless Read v x due = tt
 IsCause-unless (Journal kept) v x due = absurd due
 IsCause-unless Write v x due = absurd due
@@ -39,23 +44,18 @@ IsCause-unless Write v x due = absurd due
 -- what texts may be refused for is of the files, and no read fault
 pub IsOfFiles-texts : (r : Refusal) → IsOfTexts r → IsOfFiles r
 IsOfFiles-texts Memory stage = tt
-IsOfFiles-texts (DueRefusal (Words fault)) stage = absurd stage
-IsOfFiles-texts (DueRefusal (Vex fault)) stage = tt
-IsOfFiles-texts (DueRefusal (Schedule fault)) stage = tt
-IsOfFiles-texts (DueRefusal (Job fault)) stage = tt
-IsOfFiles-texts (DueRefusal (Join fault name)) stage = tt
-IsOfFiles-texts (DueRefusal (Limit quantity value)) stage = tt
-IsOfFiles-texts (DueRefusal (NoFile name)) stage = tt
-IsOfFiles-texts (DueRefusal (Recording key field)) stage = tt
-IsOfFiles-texts (DueRefusal (Records fault)) stage = tt
-IsOfFiles-texts (DueRefusal (Other d)) stage = absurd stage
+IsOfFiles-texts (Words fault) stage = absurd stage
+IsOfFiles-texts (DueRefusal due) stage = tt
+IsOfFiles-texts (Other d) stage = absurd stage
 IsOfFiles-texts Read stage = absurd stage
 IsOfFiles-texts (Journal kept) stage = absurd stage
 IsOfFiles-texts Write stage = absurd stage
 
 pub MatchRead-texts : (r : Refusal) (P Q : Type 0) → IsOfTexts r → Q → MatchRead r P Q
 MatchRead-texts Memory P Q stage q = q
+MatchRead-texts (Words fault) P Q stage q = q
 MatchRead-texts (DueRefusal due) P Q stage q = q
+MatchRead-texts (Other d) P Q stage q = q
 MatchRead-texts Read P Q stage q = absurd stage
 MatchRead-texts (Journal kept) P Q stage q = absurd stage
 MatchRead-texts Write P Q stage q = absurd stage
@@ -63,7 +63,9 @@ MatchRead-texts Write P Q stage q = absurd stage
 -- a cause among some outcomes is one among more
 pub IsCause-among : {A : Type 0} (r : Refusal) (some more : Outcomes A) → ((x : Result A Answer) → some x → more x) → IsCause r some → IsCause r more
 IsCause-among Memory some more follows cause = tt
+IsCause-among (Words fault) some more follows cause = follows (Err (words_answer fault)) cause
 IsCause-among (DueRefusal due) some more follows cause = follows (Err (due_answer due)) cause
+IsCause-among (Other d) some more follows cause = follows (Err (other_answer d)) cause
 IsCause-among Read some more follows cause = tt
 IsCause-among (Journal kept) some more follows cause = (cause.0, follows (Ok cause.0) cause.1)
 IsCause-among Write some more follows cause = (cause.0, follows (Ok cause.0) cause.1)

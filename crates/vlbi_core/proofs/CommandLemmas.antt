@@ -11,9 +11,8 @@ use Rattle.checkpoint_journal.proofs.RunLemmas.{looks_none}
 use Rattle.run_words.specs.declared.fault.WordsFault.{WordsFault}
 use Rattle.run_words.specs.declared.order.Order.{Order}
 use Rattle.run_words.specs.declared.order.Order.TheVariants.{Run, Plain, Check, Status, Dump, Gen}
-use Rattle.run_notes.specs.declared.refusal.Due.TheVariants.{Words, Vex, Schedule, Job, Join, Limit, NoFile, Recording, Records, Other}
 use Rattle.run_notes.specs.declared.refusal.Refusal.{Refusal}
-use Rattle.run_notes.specs.declared.refusal.Refusal.TheVariants.{Memory, Due as DueRefusal, Read, Journal, Write}
+use Rattle.run_notes.specs.declared.refusal.Refusal.TheVariants.{Memory, Words, Due as DueRefusal, Other, Read, Journal, Write}
 use Rattle.run_notes.specs.Answers.{Answer, words_answer}
 use Rattle.run_notes.specs.Refusals.{Outcomes, IsCause}
 use Rattle.run_notes.specs.Counted.{CountsReads, CountsReadsBeside}
@@ -67,7 +66,9 @@ alone-not task call alone same run = not_both (is_run call.order) run (subst IsA
 pub reads-beside : {T : Type 0} (before now : ℕ) (result : Result T Refusal) → CountsReads before now result → CountsReadsBeside before now result
 reads-beside before now (Ok x) reads = reads
 reads-beside before now (Err Memory) reads = reads
+reads-beside before now (Err (Words fault)) reads = reads
 reads-beside before now (Err (DueRefusal due)) reads = reads
+reads-beside before now (Err (Other d)) reads = reads
 reads-beside before now (Err Read) reads = reads
 reads-beside before now (Err (Journal kept)) reads = omega (arith, reads)
 reads-beside before now (Err Write) reads = reads
@@ -85,16 +86,9 @@ run-not-alone (Gen seed seconds workers piece) run alone = run
 shows-stage : (result : Result (Unit {0}) Refusal) → IfErr result ShowsStage → IfErr result IsOfFilesOrOutput
 shows-stage (Ok x) stage = tt
 shows-stage (Err Memory) stage = tt
-shows-stage (Err (DueRefusal (Words fault))) stage = absurd stage
-shows-stage (Err (DueRefusal (Vex fault))) stage = tt
-shows-stage (Err (DueRefusal (Schedule fault))) stage = tt
-shows-stage (Err (DueRefusal (Job fault))) stage = tt
-shows-stage (Err (DueRefusal (Join fault name))) stage = tt
-shows-stage (Err (DueRefusal (Limit quantity value))) stage = tt
-shows-stage (Err (DueRefusal (NoFile name))) stage = tt
-shows-stage (Err (DueRefusal (Recording key field))) stage = tt
-shows-stage (Err (DueRefusal (Records fault))) stage = tt
-shows-stage (Err (DueRefusal (Other d))) stage = absurd stage
+shows-stage (Err (Words fault)) stage = absurd stage
+shows-stage (Err (DueRefusal due)) stage = tt
+shows-stage (Err (Other d)) stage = absurd stage
 shows-stage (Err Read) stage = tt
 shows-stage (Err (Journal kept)) stage = absurd stage
 shows-stage (Err Write) stage = tt
@@ -103,7 +97,9 @@ shows-tells : (outcomes : Outcomes Content) (old new : Option (List ℕ)) (resul
     → Tells outcomes dump_text old new result
 shows-tells outcomes old new (Ok x) stage shows = record { done = shows.done; cause = tt; part = tt }
 shows-tells outcomes old new (Err Memory) stage shows = record { done = tt; cause = tt; part = inl shows.part }
+shows-tells outcomes old new (Err (Words fault)) stage shows = record { done = tt; cause = shows.cause; part = shows.part }
 shows-tells outcomes old new (Err (DueRefusal due)) stage shows = record { done = tt; cause = shows.cause; part = shows.part }
+shows-tells outcomes old new (Err (Other d)) stage shows = record { done = tt; cause = shows.cause; part = shows.part }
 shows-tells outcomes old new (Err Read) stage shows = record { done = tt; cause = tt; part = inl shows.part }
 shows-tells outcomes old new (Err (Journal kept)) stage shows = absurd stage
 shows-tells outcomes old new (Err Write) stage shows = record { done = tt; cause = shows.cause; part = shows.part }
@@ -116,16 +112,9 @@ is_some_at o bodies e = subst (λ (q : Option (List (List ℕ))). IsSome q) (sym
 words-cause : (wanted : Result Order WordsFault) (files : Files) (images : List ℕ → Type 0) (before after old new : Option (List ℕ)) (r : Refusal)
     → IsOfWords wanted r → IsCauseOf r (OutcomeFrom wanted files) files images before after old new
 words-cause wanted files images before after old new Memory of = tt
-words-cause wanted files images before after old new (DueRefusal (Words fault)) of = inl (sym (ap (answered words_answer) of))
-words-cause wanted files images before after old new (DueRefusal (Vex fault)) of = absurd of
-words-cause wanted files images before after old new (DueRefusal (Schedule fault)) of = absurd of
-words-cause wanted files images before after old new (DueRefusal (Job fault)) of = absurd of
-words-cause wanted files images before after old new (DueRefusal (Join fault name)) of = absurd of
-words-cause wanted files images before after old new (DueRefusal (Limit quantity value)) of = absurd of
-words-cause wanted files images before after old new (DueRefusal (NoFile name)) of = absurd of
-words-cause wanted files images before after old new (DueRefusal (Recording key field)) of = absurd of
-words-cause wanted files images before after old new (DueRefusal (Records fault)) of = absurd of
-words-cause wanted files images before after old new (DueRefusal (Other d)) of = absurd of
+words-cause wanted files images before after old new (Words fault) of = inl (sym (ap (answered words_answer) of))
+words-cause wanted files images before after old new (DueRefusal due) of = absurd of
+words-cause wanted files images before after old new (Other d) of = absurd of
 words-cause wanted files images before after old new Read of = absurd of
 words-cause wanted files images before after old new (Journal kept) of = absurd of
 words-cause wanted files images before after old new Write of = absurd of
@@ -133,16 +122,9 @@ words-cause wanted files images before after old new Write of = absurd of
 files-cause : (files : Files) (order : Order) → IsJobOf files order → (images : List ℕ → Type 0) (before after old new : Option (List ℕ)) (r : Refusal)
     → IsOfFiles r → IsCause r (PlanFor files order) → IsCauseOf r (OutcomeFrom (Ok order) files) files images before after old new
 files-cause files order of_job images before after old new Memory stage cause = tt
-files-cause files order of_job images before after old new (DueRefusal (Words fault)) stage cause = absurd stage
-files-cause files order of_job images before after old new (DueRefusal (Vex fault)) stage cause = inr (order, refl, of_job _ cause)
-files-cause files order of_job images before after old new (DueRefusal (Schedule fault)) stage cause = inr (order, refl, of_job _ cause)
-files-cause files order of_job images before after old new (DueRefusal (Job fault)) stage cause = inr (order, refl, of_job _ cause)
-files-cause files order of_job images before after old new (DueRefusal (Join fault name)) stage cause = inr (order, refl, of_job _ cause)
-files-cause files order of_job images before after old new (DueRefusal (Limit quantity value)) stage cause = inr (order, refl, of_job _ cause)
-files-cause files order of_job images before after old new (DueRefusal (NoFile name)) stage cause = inr (order, refl, of_job _ cause)
-files-cause files order of_job images before after old new (DueRefusal (Recording key field)) stage cause = inr (order, refl, of_job _ cause)
-files-cause files order of_job images before after old new (DueRefusal (Records fault)) stage cause = inr (order, refl, of_job _ cause)
-files-cause files order of_job images before after old new (DueRefusal (Other d)) stage cause = absurd stage
+files-cause files order of_job images before after old new (Words fault) stage cause = absurd stage
+files-cause files order of_job images before after old new (DueRefusal due) stage cause = inr (order, refl, of_job _ cause)
+files-cause files order of_job images before after old new (Other d) stage cause = absurd stage
 files-cause files order of_job images before after old new Read stage cause = tt
 files-cause files order of_job images before after old new (Journal kept) stage cause = absurd stage
 files-cause files order of_job images before after old new Write stage cause = absurd stage
@@ -155,51 +137,54 @@ NoWrite _ = Unit {0}
 nothing-partly : (outcomes : Outcomes Task) (files : Files) (before after old : Option (List ℕ)) (r : Refusal) → NoWrite r
     → IsPartly r outcomes files before after old old
 nothing-partly outcomes files before after old Memory no_write = inl refl
+nothing-partly outcomes files before after old (Words fault) no_write = refl
 nothing-partly outcomes files before after old (DueRefusal due) no_write = refl
+nothing-partly outcomes files before after old (Other d) no_write = refl
 nothing-partly outcomes files before after old Read no_write = inl refl
 nothing-partly outcomes files before after old (Journal kept) no_write = inl refl
 nothing-partly outcomes files before after old Write no_write = absurd no_write
 
 words-NoWrite : (wanted : Result Order WordsFault) (r : Refusal) → IsOfWords wanted r → NoWrite r
 words-NoWrite wanted Memory of = tt
+words-NoWrite wanted (Words fault) of = tt
 words-NoWrite wanted (DueRefusal due) of = tt
+words-NoWrite wanted (Other d) of = tt
 words-NoWrite wanted Read of = absurd of
 words-NoWrite wanted (Journal kept) of = absurd of
 words-NoWrite wanted Write of = absurd of
 
 files-NoWrite : (r : Refusal) → IsOfFiles r → NoWrite r
 files-NoWrite Memory stage = tt
+files-NoWrite (Words fault) stage = tt
 files-NoWrite (DueRefusal due) stage = tt
+files-NoWrite (Other d) stage = tt
 files-NoWrite Read stage = tt
 files-NoWrite (Journal kept) stage = absurd stage
 files-NoWrite Write stage = absurd stage
 
 pub files-behind : (r : Refusal) → IsOfFiles r → IsBehindWords r
 files-behind Memory stage = tt
-files-behind (DueRefusal (Words fault)) stage = absurd stage
-files-behind (DueRefusal (Vex fault)) stage = tt
-files-behind (DueRefusal (Schedule fault)) stage = tt
-files-behind (DueRefusal (Job fault)) stage = tt
-files-behind (DueRefusal (Join fault name)) stage = tt
-files-behind (DueRefusal (Limit quantity value)) stage = tt
-files-behind (DueRefusal (NoFile name)) stage = tt
-files-behind (DueRefusal (Recording key field)) stage = tt
-files-behind (DueRefusal (Records fault)) stage = tt
-files-behind (DueRefusal (Other d)) stage = absurd stage
+files-behind (Words fault) stage = absurd stage
+files-behind (DueRefusal due) stage = tt
+files-behind (Other d) stage = absurd stage
 files-behind Read stage = tt
 files-behind (Journal kept) stage = absurd stage
 files-behind Write stage = absurd stage
 
 pub due-same : (old : Option (List ℕ)) (r : Refusal) → MatchDue r (old ≡ old)
 due-same old Memory = tt
+due-same old (Words fault) = refl
 due-same old (DueRefusal due) = refl
+due-same old (Other d) = refl
 due-same old Read = tt
 due-same old (Journal kept) = tt
 due-same old Write = tt
 
 pub early-same : (old : Option (List ℕ)) (r : Refusal) → MatchEarly r (old ≡ old)
 early-same old Memory = refl
+early-same old (Words fault) = tt
 early-same old (DueRefusal due) = tt
+early-same old (Other d) = tt
 early-same old Read = refl
 early-same old (Journal kept) = tt
 early-same old Write = tt
@@ -208,16 +193,9 @@ module _ {D : Type 0} (seen : D → Option (List ℕ)) (moment : D → ℕ) (may
   -- ---- before anything is touched
   verdict-none : (d : D) (r : Refusal) → MatchVerdict r (seen d ≡ seen d) (Looks seen moment may_leave d d)
   verdict-none d Memory = tt
-  verdict-none d (DueRefusal (Words fault)) = looks_none seen moment may_leave d
-  verdict-none d (DueRefusal (Vex fault)) = looks_none seen moment may_leave d
-  verdict-none d (DueRefusal (Schedule fault)) = looks_none seen moment may_leave d
-  verdict-none d (DueRefusal (Job fault)) = looks_none seen moment may_leave d
-  verdict-none d (DueRefusal (Join fault name)) = looks_none seen moment may_leave d
-  verdict-none d (DueRefusal (Limit quantity value)) = looks_none seen moment may_leave d
-  verdict-none d (DueRefusal (NoFile name)) = looks_none seen moment may_leave d
-  verdict-none d (DueRefusal (Recording key field)) = looks_none seen moment may_leave d
-  verdict-none d (DueRefusal (Records fault)) = looks_none seen moment may_leave d
-  verdict-none d (DueRefusal (Other x)) = refl
+  verdict-none d (Words fault) = looks_none seen moment may_leave d
+  verdict-none d (DueRefusal due) = looks_none seen moment may_leave d
+  verdict-none d (Other x) = refl
   verdict-none d Read = tt
   verdict-none d (Journal kept) = tt
   verdict-none d Write = tt
@@ -283,16 +261,9 @@ module _ {D : Type 0} (seen : D → Option (List ℕ)) (moment : D → ℕ) (may
     tells-cause : (old new : Option (List ℕ)) (r : Refusal) → IsOfFilesOrOutput r → IsCause r outcomes
         → IsCauseOf r (OutcomeFrom (Ok order) files) files (may_leave d (moment d)) (seen d) (seen d) old new
     tells-cause old new Memory stage cause = tt
-    tells-cause old new (DueRefusal (Words fault)) stage cause = absurd stage
-    tells-cause old new (DueRefusal (Vex fault)) stage cause = refuses _ cause
-    tells-cause old new (DueRefusal (Schedule fault)) stage cause = refuses _ cause
-    tells-cause old new (DueRefusal (Job fault)) stage cause = refuses _ cause
-    tells-cause old new (DueRefusal (Join fault name)) stage cause = refuses _ cause
-    tells-cause old new (DueRefusal (Limit quantity value)) stage cause = refuses _ cause
-    tells-cause old new (DueRefusal (NoFile name)) stage cause = refuses _ cause
-    tells-cause old new (DueRefusal (Recording key field)) stage cause = refuses _ cause
-    tells-cause old new (DueRefusal (Records fault)) stage cause = refuses _ cause
-    tells-cause old new (DueRefusal (Other x)) stage cause = absurd stage
+    tells-cause old new (Words fault) stage cause = absurd stage
+    tells-cause old new (DueRefusal due) stage cause = refuses _ cause
+    tells-cause old new (Other x) stage cause = absurd stage
     tells-cause old new Read stage cause = tt
     tells-cause old new (Journal kept) stage cause = absurd stage
     tells-cause old new Write stage cause = record {
@@ -305,7 +276,9 @@ module _ {D : Type 0} (seen : D → Option (List ℕ)) (moment : D → ℕ) (may
         → IsPartly r (OutcomeFrom (Ok order) files) files (seen d) (seen d) old new
     tells-part old new Memory (inl same) = inl same
     tells-part old new Memory (inr p) = inr (part-tells old new p)
+    tells-part old new (Words fault) same = same
     tells-part old new (DueRefusal due) same = same
+    tells-part old new (Other d) same = same
     tells-part old new Read (inl same) = inl same
     tells-part old new Read (inr p) = inr (part-tells old new p)
     tells-part old new (Journal kept) part = absurd part

@@ -16,9 +16,8 @@ use Rattle.checkpoint_journal.specs.Runs.{Looks, Changes, Spares, StepTold}
 use Rattle.checkpoint_journal.proofs.RunLemmas.{changes_looks, changes_both, durable_looks, told_value}
 use Rattle.run_words.specs.declared.order.Order.{Order}
 use Rattle.run_words.specs.declared.order.Order.TheVariants.{Run, Plain, Check, Status, Dump, Gen}
-use Rattle.run_notes.specs.declared.refusal.Due.TheVariants.{Words, Vex, Schedule, Job, Join, Limit, NoFile, Recording, Records, Other}
 use Rattle.run_notes.specs.declared.refusal.Refusal.{Refusal}
-use Rattle.run_notes.specs.declared.refusal.Refusal.TheVariants.{Memory, Due as DueRefusal, Read, Journal, Write}
+use Rattle.run_notes.specs.declared.refusal.Refusal.TheVariants.{Memory, Words, Due as DueRefusal, Other, Read, Journal, Write}
 use Rattle.run_notes.specs.Refusals.{Outcomes}
 use Rattle.run_ready.specs.Outcome.{PlanOf}
 use Rattle.run_ready.specs.Identities.{identity_under}
@@ -60,16 +59,9 @@ module _ {D : Type 0} (seen : D → Option (List ℕ)) (moment : D → ℕ) (may
         → KeepsNamed (identity_under files (Run job vex workers piece) plan) (body_sizes (sizes_of plan)) (may_leave after (moment after)) r
         → IsCauseOf r (OutcomeFrom (Ok (Run job vex workers piece)) files) files (may_leave after (moment after)) (seen before) (seen after) old old
     resumed-cause before after old Memory of named = tt
-    resumed-cause before after old (DueRefusal (Words fault)) of named = absurd of
-    resumed-cause before after old (DueRefusal (Vex fault)) of named = absurd of
-    resumed-cause before after old (DueRefusal (Schedule fault)) of named = absurd of
-    resumed-cause before after old (DueRefusal (Job fault)) of named = absurd of
-    resumed-cause before after old (DueRefusal (Join fault name)) of named = absurd of
-    resumed-cause before after old (DueRefusal (Limit quantity value)) of named = absurd of
-    resumed-cause before after old (DueRefusal (NoFile name)) of named = absurd of
-    resumed-cause before after old (DueRefusal (Recording key field)) of named = absurd of
-    resumed-cause before after old (DueRefusal (Records fault)) of named = absurd of
-    resumed-cause before after old (DueRefusal (Other d)) of named = record {
+    resumed-cause before after old (Words fault) of named = absurd of
+    resumed-cause before after old (DueRefusal due) of named = absurd of
+    resumed-cause before after old (Other d) of named = record {
       call = call_of (Run job vex workers piece) plan;
       outcome = planned files (Run job vex workers piece) plan (λ o p. p) there;
       uses = refl;
@@ -95,7 +87,9 @@ module _ {D : Type 0} (seen : D → Option (List ℕ)) (moment : D → ℕ) (may
     resumed-part : (outcomes : Outcomes Task) (before before' after after' old : Option (List ℕ)) (id sizes : List ℕ) (r : Refusal)
         → IsRefusedFor id sizes before after r → IsPartly r outcomes files before' after' old old
     resumed-part outcomes before before' after after' old id sizes Memory of = inl refl
+    resumed-part outcomes before before' after after' old id sizes (Words fault) of = refl
     resumed-part outcomes before before' after after' old id sizes (DueRefusal due) of = refl
+    resumed-part outcomes before before' after after' old id sizes (Other d) of = refl
     resumed-part outcomes before before' after after' old id sizes Read of = inl refl
     resumed-part outcomes before before' after after' old id sizes (Journal kept) of = inl refl
     resumed-part outcomes before before' after after' old id sizes Write of = absurd of
@@ -134,32 +128,18 @@ module _ {D : Type 0} (seen : D → Option (List ℕ)) (moment : D → ℕ) (may
   resumed-verdict : (id sizes : List ℕ) (before after : D) (r : Refusal) → IsRefusedFor id sizes (seen before) (seen after) r
       → MatchVerdict r (seen after ≡ seen before) (Looks seen moment may_leave before after)
   resumed-verdict id sizes before after Memory of = tt
-  resumed-verdict id sizes before after (DueRefusal (Words fault)) of = absurd of
-  resumed-verdict id sizes before after (DueRefusal (Vex fault)) of = absurd of
-  resumed-verdict id sizes before after (DueRefusal (Schedule fault)) of = absurd of
-  resumed-verdict id sizes before after (DueRefusal (Job fault)) of = absurd of
-  resumed-verdict id sizes before after (DueRefusal (Join fault name)) of = absurd of
-  resumed-verdict id sizes before after (DueRefusal (Limit quantity value)) of = absurd of
-  resumed-verdict id sizes before after (DueRefusal (NoFile name)) of = absurd of
-  resumed-verdict id sizes before after (DueRefusal (Recording key field)) of = absurd of
-  resumed-verdict id sizes before after (DueRefusal (Records fault)) of = absurd of
-  resumed-verdict id sizes before after (DueRefusal (Other d)) of = of.1
+  resumed-verdict id sizes before after (Words fault) of = absurd of
+  resumed-verdict id sizes before after (DueRefusal due) of = absurd of
+  resumed-verdict id sizes before after (Other d) of = of.1
   resumed-verdict id sizes before after Read of = tt
   resumed-verdict id sizes before after (Journal kept) of = tt
   resumed-verdict id sizes before after Write of = absurd of
 
   pub resumed-behind : (id sizes : List ℕ) (before after : Option (List ℕ)) (r : Refusal) → IsRefusedFor id sizes before after r → IsBehindWords r
   resumed-behind id sizes before after Memory of = tt
-  resumed-behind id sizes before after (DueRefusal (Words fault)) of = absurd of
-  resumed-behind id sizes before after (DueRefusal (Vex fault)) of = tt
-  resumed-behind id sizes before after (DueRefusal (Schedule fault)) of = tt
-  resumed-behind id sizes before after (DueRefusal (Job fault)) of = tt
-  resumed-behind id sizes before after (DueRefusal (Join fault name)) of = tt
-  resumed-behind id sizes before after (DueRefusal (Limit quantity value)) of = tt
-  resumed-behind id sizes before after (DueRefusal (NoFile name)) of = tt
-  resumed-behind id sizes before after (DueRefusal (Recording key field)) of = tt
-  resumed-behind id sizes before after (DueRefusal (Records fault)) of = tt
-  resumed-behind id sizes before after (DueRefusal (Other d)) of = tt
+  resumed-behind id sizes before after (Words fault) of = absurd of
+  resumed-behind id sizes before after (DueRefusal due) of = tt
+  resumed-behind id sizes before after (Other d) of = tt
   resumed-behind id sizes before after Read of = tt
   resumed-behind id sizes before after (Journal kept) of = tt
   resumed-behind id sizes before after Write of = tt
@@ -297,7 +277,9 @@ module _ {D : Type 0} (seen : D → Option (List ℕ)) (moment : D → ℕ) (may
     emitted-cause : (r : Refusal) → Emitted (Some files) plan (identity_under files (Run job vex workers piece) plan) (sizes_of plan) journal before mid after old new (Err r)
         → IsCauseOf r (OutcomeFrom (Ok (Run job vex workers piece)) files) files (may_leave after (moment after)) (seen before) (seen after) old new
     emitted-cause Memory h = tt
+    emitted-cause (Words fault) h = absurd h.refused
     emitted-cause (DueRefusal due) h = absurd h.refused
+    emitted-cause (Other d) h = absurd h.refused
     emitted-cause Read h = tt
     emitted-cause (Journal kept) h = record {
       call = call_of (Run job vex workers piece) plan;
@@ -326,7 +308,9 @@ module _ {D : Type 0} (seen : D → Option (List ℕ)) (moment : D → ℕ) (may
     emitted-part : (r : Refusal) → Emitted (Some files) plan (identity_under files (Run job vex workers piece) plan) (sizes_of plan) journal before mid after old new (Err r)
         → IsPartly r (OutcomeFrom (Ok (Run job vex workers piece)) files) files (seen before) (seen after) old new
     emitted-part Memory h = inl h.refused
+    emitted-part (Words fault) h = absurd h.refused
     emitted-part (DueRefusal due) h = absurd h.refused
+    emitted-part (Other d) h = absurd h.refused
     emitted-part Read h = absurd h.refused
     emitted-part (Journal kept) h = inr (text-part (Journal kept) (emitted-text (Err (Journal kept)) h))
     emitted-part Write h = text-part Write (emitted-text (Err Write) h)
@@ -377,7 +361,9 @@ module _ {D : Type 0} (seen : D → Option (List ℕ)) (moment : D → ℕ) (may
   pub emitted-behind : (epochs : ℕ) (old new : Option (List ℕ)) (result : Result (Unit {0}) Refusal) → IfErr result (IsOfRecords epochs old new) → IfErr result IsBehindWords
   emitted-behind epochs old new (Ok x) of = tt
   emitted-behind epochs old new (Err Memory) of = tt
+  emitted-behind epochs old new (Err (Words fault)) of = absurd of
   emitted-behind epochs old new (Err (DueRefusal due)) of = absurd of
+  emitted-behind epochs old new (Err (Other d)) of = absurd of
   emitted-behind epochs old new (Err Read) of = tt
   emitted-behind epochs old new (Err (Journal kept)) of = tt
   emitted-behind epochs old new (Err Write) of = tt
@@ -394,7 +380,9 @@ module _ {D : Type 0} (seen : D → Option (List ℕ)) (moment : D → ℕ) (may
       nothing : (q : Result (Unit {0}) Refusal) → IfErr q (IsOfRecords epochs old new) → IfErr q (λ r. MatchDue r (new ≡ old))
       nothing (Ok x) of = tt
       nothing (Err Memory) of = tt
+      nothing (Err (Words fault)) of = absurd of
       nothing (Err (DueRefusal due)) of = absurd of
+      nothing (Err (Other d)) of = absurd of
       nothing (Err Read) of = tt
       nothing (Err (Journal kept)) of = tt
       nothing (Err Write) of = tt
@@ -402,7 +390,9 @@ module _ {D : Type 0} (seen : D → Option (List ℕ)) (moment : D → ℕ) (may
       whole : (q : Result (Unit {0}) Refusal) → IfErr q (IsOfRecords epochs old new) → IfErr q (λ r. MatchEarly r (new ≡ old))
       whole (Ok x) of = tt
       whole (Err Memory) of = of
+      whole (Err (Words fault)) of = tt
       whole (Err (DueRefusal due)) of = tt
+      whole (Err (Other d)) of = tt
       whole (Err Read) of = absurd of
       whole (Err (Journal kept)) of = tt
       whole (Err Write) of = tt
@@ -410,7 +400,9 @@ module _ {D : Type 0} (seen : D → Option (List ℕ)) (moment : D → ℕ) (may
       verdict : (q : Result (Unit {0}) Refusal) → IfErr q (IsOfRecords epochs old new) → IfErr q (λ r. MatchVerdict r (seen after ≡ seen before) (Looks seen moment may_leave before after))
       verdict (Ok x) of = tt
       verdict (Err Memory) of = tt
+      verdict (Err (Words fault)) of = absurd of
       verdict (Err (DueRefusal due)) of = absurd of
+      verdict (Err (Other d)) of = absurd of
       verdict (Err Read) of = tt
       verdict (Err (Journal kept)) of = tt
       verdict (Err Write) of = tt

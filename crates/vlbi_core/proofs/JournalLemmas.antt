@@ -12,9 +12,8 @@ use Rattle.checkpoint_journal.specs.Finding.{ReadsMany}
 use Rattle.checkpoint_journal.specs.Runs.{Looks}
 use Rattle.run_words.specs.declared.order.Order.{Order}
 use Rattle.run_words.specs.declared.order.Order.TheVariants.{Run, Plain, Check, Status, Dump, Gen}
-use Rattle.run_notes.specs.declared.refusal.Due.TheVariants.{Words, Vex, Schedule, Job, Join, Limit, NoFile, Recording, Records, Other}
 use Rattle.run_notes.specs.declared.refusal.Refusal.{Refusal}
-use Rattle.run_notes.specs.declared.refusal.Refusal.TheVariants.{Memory, Due as DueRefusal, Read, Journal, Write}
+use Rattle.run_notes.specs.declared.refusal.Refusal.TheVariants.{Memory, Words, Due as DueRefusal, Other, Read, Journal, Write}
 use Rattle.run_notes.specs.Refusals.{Outcomes}
 use Rattle.run_ready.specs.Outcome.{SurveyOf}
 use Rattle.run_ready.specs.Identities.{identity_under}
@@ -31,39 +30,27 @@ use Rattle.vlbi_core.proofs.CommandLemmas.{call_of, planned, one-job, not_both, 
 
 pub looked-for : (id sizes : List ℕ) (before after : Option (List ℕ)) (r : Refusal) → IsRefusedFor id sizes before after r → IsLookedFor id sizes before (looked r)
 looked-for id sizes before after Memory of = tt
-looked-for id sizes before after (DueRefusal (Words fault)) of = absurd of
-looked-for id sizes before after (DueRefusal (Vex fault)) of = absurd of
-looked-for id sizes before after (DueRefusal (Schedule fault)) of = absurd of
-looked-for id sizes before after (DueRefusal (Job fault)) of = absurd of
-looked-for id sizes before after (DueRefusal (Join fault name)) of = absurd of
-looked-for id sizes before after (DueRefusal (Limit quantity value)) of = absurd of
-looked-for id sizes before after (DueRefusal (NoFile name)) of = absurd of
-looked-for id sizes before after (DueRefusal (Recording key field)) of = absurd of
-looked-for id sizes before after (DueRefusal (Records fault)) of = absurd of
-looked-for id sizes before after (DueRefusal (Other d)) of = of.0
+looked-for id sizes before after (Words fault) of = absurd of
+looked-for id sizes before after (DueRefusal due) of = absurd of
+looked-for id sizes before after (Other d) of = of.0
 looked-for id sizes before after Read of = tt
 looked-for id sizes before after (Journal kept) of = tt
 looked-for id sizes before after Write of = absurd of
 
 pub looked-behind : (id sizes : List ℕ) (before : Option (List ℕ)) (r : Refusal) → IsLookedFor id sizes before r → IsBehindWords r
 looked-behind id sizes before Memory of = tt
-looked-behind id sizes before (DueRefusal (Words fault)) of = absurd of
-looked-behind id sizes before (DueRefusal (Vex fault)) of = tt
-looked-behind id sizes before (DueRefusal (Schedule fault)) of = tt
-looked-behind id sizes before (DueRefusal (Job fault)) of = tt
-looked-behind id sizes before (DueRefusal (Join fault name)) of = tt
-looked-behind id sizes before (DueRefusal (Limit quantity value)) of = tt
-looked-behind id sizes before (DueRefusal (NoFile name)) of = tt
-looked-behind id sizes before (DueRefusal (Recording key field)) of = tt
-looked-behind id sizes before (DueRefusal (Records fault)) of = tt
-looked-behind id sizes before (DueRefusal (Other d)) of = tt
+looked-behind id sizes before (Words fault) of = absurd of
+looked-behind id sizes before (DueRefusal due) of = tt
+looked-behind id sizes before (Other d) of = tt
 looked-behind id sizes before Read of = tt
 looked-behind id sizes before (Journal kept) of = tt
 looked-behind id sizes before Write of = tt
 
 pub looked-unnumbered : (id sizes : List ℕ) (before : Option (List ℕ)) (r : Refusal) → IsLookedFor id sizes before r → IsUnnumbered r
 looked-unnumbered id sizes before Memory of = tt
+looked-unnumbered id sizes before (Words fault) of = tt
 looked-unnumbered id sizes before (DueRefusal due) of = tt
+looked-unnumbered id sizes before (Other d) of = tt
 looked-unnumbered id sizes before Read of = tt
 looked-unnumbered id sizes before (Journal None) of = tt
 looked-unnumbered id sizes before (Journal (Some k)) of = absurd of
@@ -75,16 +62,9 @@ module _ {D : Type 0} (seen : D → Option (List ℕ)) (moment : D → ℕ) (may
       → IsLookedFor (identity_under files (Status job vex) plan) (body_sizes (sizes_of plan)) before r
       → IsCauseOf r (OutcomeFrom (Ok (Status job vex)) files) files images before after old old
   looked-cause files job vex plan images before after old Memory there of = tt
-  looked-cause files job vex plan images before after old (DueRefusal (Words fault)) there of = absurd of
-  looked-cause files job vex plan images before after old (DueRefusal (Vex fault)) there of = absurd of
-  looked-cause files job vex plan images before after old (DueRefusal (Schedule fault)) there of = absurd of
-  looked-cause files job vex plan images before after old (DueRefusal (Job fault)) there of = absurd of
-  looked-cause files job vex plan images before after old (DueRefusal (Join fault name)) there of = absurd of
-  looked-cause files job vex plan images before after old (DueRefusal (Limit quantity value)) there of = absurd of
-  looked-cause files job vex plan images before after old (DueRefusal (NoFile name)) there of = absurd of
-  looked-cause files job vex plan images before after old (DueRefusal (Recording key field)) there of = absurd of
-  looked-cause files job vex plan images before after old (DueRefusal (Records fault)) there of = absurd of
-  looked-cause files job vex plan images before after old (DueRefusal (Other d)) there of = record {
+  looked-cause files job vex plan images before after old (Words fault) there of = absurd of
+  looked-cause files job vex plan images before after old (DueRefusal due) there of = absurd of
+  looked-cause files job vex plan images before after old (Other d) there of = record {
     call = call_of (Status job vex) plan;
     outcome = planned files (Status job vex) plan (λ o p. p) there;
     uses = refl;
@@ -104,7 +84,9 @@ module _ {D : Type 0} (seen : D → Option (List ℕ)) (moment : D → ℕ) (may
   looked-part : (outcomes : Outcomes Task) (files : Files) (id sizes : List ℕ) (before before' after old : Option (List ℕ)) (r : Refusal)
       → IsLookedFor id sizes before r → IsPartly r outcomes files before' after old old
   looked-part outcomes files id sizes before before' after old Memory of = inl refl
+  looked-part outcomes files id sizes before before' after old (Words fault) of = refl
   looked-part outcomes files id sizes before before' after old (DueRefusal due) of = refl
+  looked-part outcomes files id sizes before before' after old (Other d) of = refl
   looked-part outcomes files id sizes before before' after old Read of = inl refl
   looked-part outcomes files id sizes before before' after old (Journal kept) of = inl refl
   looked-part outcomes files id sizes before before' after old Write of = absurd of
@@ -218,16 +200,9 @@ module _ {D : Type 0} (seen : D → Option (List ℕ)) (moment : D → ℕ) (may
 
   verdict-looks : (before after : D) (r : Refusal) → Looks seen moment may_leave before after → MatchVerdict r (seen after ≡ seen before) (Looks seen moment may_leave before after)
   verdict-looks before after Memory looks = tt
-  verdict-looks before after (DueRefusal (Words fault)) looks = looks
-  verdict-looks before after (DueRefusal (Vex fault)) looks = looks
-  verdict-looks before after (DueRefusal (Schedule fault)) looks = looks
-  verdict-looks before after (DueRefusal (Job fault)) looks = looks
-  verdict-looks before after (DueRefusal (Join fault name)) looks = looks
-  verdict-looks before after (DueRefusal (Limit quantity value)) looks = looks
-  verdict-looks before after (DueRefusal (NoFile name)) looks = looks
-  verdict-looks before after (DueRefusal (Recording key field)) looks = looks
-  verdict-looks before after (DueRefusal (Records fault)) looks = looks
-  verdict-looks before after (DueRefusal (Other x)) looks = looks.same
+  verdict-looks before after (Words fault) looks = looks
+  verdict-looks before after (DueRefusal due) looks = looks
+  verdict-looks before after (Other x) looks = looks.same
   verdict-looks before after Read looks = tt
   verdict-looks before after (Journal kept) looks = tt
   verdict-looks before after Write looks = tt

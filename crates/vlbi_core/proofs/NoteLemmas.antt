@@ -8,9 +8,8 @@ use Rattle.std.proofs.lemmas.List.{take-append-le}
 use Rattle.std.proofs.Math.Seq.{take-length}
 use Rattle.corr_model.specs.Files.{Files}
 use Rattle.checkpoint_journal.specs.declared.fault.Differs.{Differs}
-use Rattle.run_notes.specs.declared.refusal.Due.TheVariants.{Words, Vex, Schedule, Job, Join, Limit, NoFile, Recording, Records, Other}
 use Rattle.run_notes.specs.declared.refusal.Refusal.{Refusal}
-use Rattle.run_notes.specs.declared.refusal.Refusal.TheVariants.{Memory, Due as DueRefusal, Read, Journal, Write}
+use Rattle.run_notes.specs.declared.refusal.Refusal.TheVariants.{Memory, Words, Due as DueRefusal, Other, Read, Journal, Write}
 use Rattle.run_notes.specs.Answers.{memory_answer, read_answer, journal_answer, write_answer, other_answer}
 use Rattle.run_notes.specs.Refusals.{Outcomes, answer_of}
 use Rattle.vlbi_core.specs.Calls.{Call, Task, OfJob, kept_for, is_run}
@@ -136,16 +135,9 @@ module _ (files : Files) (images : List ℕ → Type 0) (before after old new : 
   pub refused-says : (outcomes : Outcomes Task) (one : AreOne outcomes) (r : Refusal) → IsShort r → IsCauseOf r outcomes files images before after old new
       → (call : Call) → outcomes (Ok (OfJob call)) → SaysKept files call (answer_of r).note images before after old new
   refused-says outcomes one Memory short cause call there = other-says call memory_answer.note memory-other
-  refused-says outcomes one (DueRefusal (Words fault)) short cause call there = absurd (task-not outcomes one (OfJob call) _ there cause)
-  refused-says outcomes one (DueRefusal (Vex fault)) short cause call there = absurd (task-not outcomes one (OfJob call) _ there cause)
-  refused-says outcomes one (DueRefusal (Schedule fault)) short cause call there = absurd (task-not outcomes one (OfJob call) _ there cause)
-  refused-says outcomes one (DueRefusal (Job fault)) short cause call there = absurd (task-not outcomes one (OfJob call) _ there cause)
-  refused-says outcomes one (DueRefusal (Join fault name)) short cause call there = absurd (task-not outcomes one (OfJob call) _ there cause)
-  refused-says outcomes one (DueRefusal (Limit quantity value)) short cause call there = absurd (task-not outcomes one (OfJob call) _ there cause)
-  refused-says outcomes one (DueRefusal (NoFile name)) short cause call there = absurd (task-not outcomes one (OfJob call) _ there cause)
-  refused-says outcomes one (DueRefusal (Recording key field)) short cause call there = absurd (task-not outcomes one (OfJob call) _ there cause)
-  refused-says outcomes one (DueRefusal (Records fault)) short cause call there = absurd (task-not outcomes one (OfJob call) _ there cause)
-  refused-says outcomes one (DueRefusal (Other d)) short cause call there = other-says call (other_answer d).note (journal-other d)
+  refused-says outcomes one (Words fault) short cause call there = absurd (task-not outcomes one (OfJob call) _ there cause)
+  refused-says outcomes one (DueRefusal due) short cause call there = absurd (task-not outcomes one (OfJob call) _ there cause)
+  refused-says outcomes one (Other d) short cause call there = other-says call (other_answer d).note (journal-other d)
   refused-says outcomes one Read short cause call there = other-says call read_answer.note read-other
   refused-says outcomes one (Journal kept) short cause call there =
       subst (λ (c : Call). SaysKept files c (journal_answer kept).note images before after old new) (calls-same outcomes one cause.call call cause.outcome there)

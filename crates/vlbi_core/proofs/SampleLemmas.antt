@@ -15,9 +15,8 @@ use Rattle.vis_records.specs.Laws.{HasOneContent}
 use Rattle.gen_summary.specs.Totals.{totals_text}
 use Rattle.run_words.specs.declared.order.Order.{Order}
 use Rattle.run_words.specs.declared.order.Order.TheVariants.{Run}
-use Rattle.run_notes.specs.declared.refusal.Due.TheVariants.{Words, Vex, Schedule, Job, Join, Limit, NoFile, Recording, Records, Other}
 use Rattle.run_notes.specs.declared.refusal.Refusal.{Refusal}
-use Rattle.run_notes.specs.declared.refusal.Refusal.TheVariants.{Memory, Due as DueRefusal, Read, Journal, Write}
+use Rattle.run_notes.specs.declared.refusal.Refusal.TheVariants.{Memory, Words, Due as DueRefusal, Other, Read, Journal, Write}
 use Rattle.run_notes.specs.Answers.{Answer, words_answer}
 use Rattle.run_notes.specs.Refusals.{Outcomes}
 use Rattle.run_notes.specs.Counted.{CountsReads, CountsReadsBeside}
@@ -90,16 +89,9 @@ module _ (files : Files) (job : List ℕ) (vex : Option (List ℕ)) (workers pie
   of-memory : (r : Refusal) → before ≡ Some [] → ((answer : Answer) → PlanOf files (Run job vex workers piece) (Err answer) → ⊥) → IsBehindWords r
       → CountsReadsBeside {T = Unit {0}} 0 0 (Err r) → IsCauseOf r (OutcomeFrom (Ok (Run job vex workers piece)) files) files images before after old new → IsOfMemory r
   of-memory Memory blank none behind reads cause = tt
-  of-memory (DueRefusal (Words fault)) blank none behind reads cause = absurd behind
-  of-memory (DueRefusal (Vex fault)) blank none behind reads cause = absurd (none _ (refusal-of files (Run job vex workers piece) _ cause))
-  of-memory (DueRefusal (Schedule fault)) blank none behind reads cause = absurd (none _ (refusal-of files (Run job vex workers piece) _ cause))
-  of-memory (DueRefusal (Job fault)) blank none behind reads cause = absurd (none _ (refusal-of files (Run job vex workers piece) _ cause))
-  of-memory (DueRefusal (Join fault name)) blank none behind reads cause = absurd (none _ (refusal-of files (Run job vex workers piece) _ cause))
-  of-memory (DueRefusal (Limit quantity value)) blank none behind reads cause = absurd (none _ (refusal-of files (Run job vex workers piece) _ cause))
-  of-memory (DueRefusal (NoFile name)) blank none behind reads cause = absurd (none _ (refusal-of files (Run job vex workers piece) _ cause))
-  of-memory (DueRefusal (Recording key field)) blank none behind reads cause = absurd (none _ (refusal-of files (Run job vex workers piece) _ cause))
-  of-memory (DueRefusal (Records fault)) blank none behind reads cause = absurd (none _ (refusal-of files (Run job vex workers piece) _ cause))
-  of-memory (DueRefusal (Other d)) blank none behind reads cause = absurd (not-other (OutcomeFrom (Ok (Run job vex workers piece)) files) files before d blank cause)
+  of-memory (Words fault) blank none behind reads cause = absurd behind
+  of-memory (DueRefusal due) blank none behind reads cause = absurd (none _ (refusal-of files (Run job vex workers piece) _ cause))
+  of-memory (Other d) blank none behind reads cause = absurd (not-other (OutcomeFrom (Ok (Run job vex workers piece)) files) files before d blank cause)
   of-memory Read blank none behind reads cause = absurd (omega (arith, reads))
   of-memory (Journal kept) blank none behind reads cause = tt
   of-memory Write blank none behind reads cause = tt
@@ -110,7 +102,9 @@ module _ (files : Files) (job : List ℕ) (vex : Option (List ℕ)) (workers pie
 pub of-files : (result : Result (Unit {0}) Refusal) → IfErr result IsOfSample → IfErr result IsOfFilesOrOutput
 of-files (Ok x) stage = tt
 of-files (Err Memory) stage = tt
+of-files (Err (Words fault)) stage = absurd stage
 of-files (Err (DueRefusal due)) stage = absurd stage
+of-files (Err (Other d)) stage = absurd stage
 of-files (Err Read) stage = absurd stage
 of-files (Err (Journal kept)) stage = absurd stage
 of-files (Err Write) stage = tt
@@ -147,7 +141,9 @@ sample-totals {E} seed seconds workers piece bytes content old new before now r 
 pub reads-same : (n : ℕ) (result : Result (Unit {0}) Refusal) → IfErr result IsOfSample → CountsReads n n result
 reads-same n (Ok x) stage = refl
 reads-same n (Err Memory) stage = refl
+reads-same n (Err (Words fault)) stage = absurd stage
 reads-same n (Err (DueRefusal due)) stage = absurd stage
+reads-same n (Err (Other d)) stage = absurd stage
 reads-same n (Err Read) stage = absurd stage
 reads-same n (Err (Journal kept)) stage = absurd stage
 reads-same n (Err Write) stage = refl

@@ -18,9 +18,9 @@ use Rattle.run_words.specs.declared.fault.WordsFault.{WordsFault}
 use Rattle.run_words.specs.declared.order.Order.{Order}
 use Rattle.run_words.specs.declared.order.Order.TheVariants.{Run, Plain, Check, Status, Dump, Gen}
 use Rattle.run_notes.specs.declared.refusal.Due.{Due}
-use Rattle.run_notes.specs.declared.refusal.Due.TheVariants.{Words, Vex, Schedule, Job, Join, Limit, NoFile, Recording, Records, Other}
+use Rattle.run_notes.specs.declared.refusal.Due.TheVariants.{Vex, Schedule, Job, Join, Limit, NoFile, Recording, Records}
 use Rattle.run_notes.specs.declared.refusal.Refusal.{Refusal}
-use Rattle.run_notes.specs.declared.refusal.Refusal.TheVariants.{Memory, Due as DueRefusal, Read, Journal, Write}
+use Rattle.run_notes.specs.declared.refusal.Refusal.TheVariants.{Memory, Words, Due as DueRefusal, Other, Read, Journal, Write}
 use Rattle.run_notes.specs.Answers.{Answer, words_answer, journal_answer}
 use Rattle.run_notes.specs.Refusals.{Outcomes, MatchRead, MatchReadOrJournal, MatchJournal, MatchWrite, answer_of, due_answer}
 use Rattle.run_ready.specs.Steps.{Is, Then, answered}
@@ -34,7 +34,7 @@ use Rattle.vlbi_core.specs.Calls.{Call, Task, OfJob, OfRecords, PlanFor, JobFor,
 use Rattle.vlbi_core.specs.Texts.{IsSums, epochs_for}
 use Rattle.vlbi_core.specs.Run.{IsVerdictStatus, IsDueStatus, IsStatus, IsUsable, IsForeign, IsVerdict, IsAppended, IsWordsLine, IsLineOf, IsNoted}
 use Rattle.vlbi_core.specs.Restart.{IsHonest, Continues, Restarts, IsStatusOf, IsGenOf}
-use Rattle.vlbi_core.specs.Steps.{OutcomeFrom, IsWordedBy, IsOpened, IsCauseOf, IsDueCause, IsPartly, IsDone, IsUnnumbered, IsOfSample, Goes, MatchDue, MatchEarly, MatchVerdict}
+use Rattle.vlbi_core.specs.Steps.{OutcomeFrom, IsWordedBy, IsOpened, IsCauseOf, IsOtherCause, IsPartly, IsDone, IsUnnumbered, IsOfSample, Goes, MatchDue, MatchEarly, MatchVerdict}
 use Rattle.vlbi_core.proofs.ExtendLemmas.{some_bodies, AreFrom-append, Extends-stays, Extends-counts}
 use Rattle.vlbi_core.proofs.CommandLemmas.{one-job}
 
@@ -139,21 +139,21 @@ outcome-one law shown wanted files =
 
 -- ---- statuses
 
-due-status : (due : Due) → IsDueStatus (due_answer due).status
-due-status (Words fault) = inr (inl refl)
-due-status (Vex fault) = inr (inr (inl refl))
-due-status (Schedule fault) = inr (inr (inl refl))
-due-status (Job fault) = inr (inr (inr (inl refl)))
-due-status (Join fault name) = inr (inr (inr (inl refl)))
-due-status (Recording key field) = inr (inr (inr (inr (inl refl))))
-due-status (Records fault) = inr (inr (inr (inr (inl refl))))
-due-status (Limit quantity value) = inr (inr (inr (inr (inr (inl refl)))))
-due-status (NoFile name) = inr (inr (inr (inr (inr (inr refl)))))
-due-status (Other d) = inl refl
+due-verdict : (due : Due) → IsVerdictStatus (due_answer due).status
+due-verdict (Vex fault) = inr (inl refl)
+due-verdict (Schedule fault) = inr (inl refl)
+due-verdict (Job fault) = inr (inr (inl refl))
+due-verdict (Join fault name) = inr (inr (inl refl))
+due-verdict (Recording key field) = inr (inr (inr (inl refl)))
+due-verdict (Records fault) = inr (inr (inr (inl refl)))
+due-verdict (Limit quantity value) = inr (inr (inr (inr (inl refl))))
+due-verdict (NoFile name) = inr (inr (inr (inr (inr refl))))
 
 pub refusal-status : (r : Refusal) → IsStatus (answer_of r).status
 refusal-status Memory = inr (inl refl)
-refusal-status (DueRefusal due) = inr (inr (inr (inr (inr (due-status due)))))
+refusal-status (Words fault) = inr (inr (inr (inr (inr (inr (inl refl))))))
+refusal-status (DueRefusal due) = inr (inr (inr (inr (inr (inr (due-verdict due))))))
+refusal-status (Other d) = inr (inr (inr (inr (inr (inl refl)))))
 refusal-status Read = inr (inr (inl refl))
 refusal-status (Journal None) = inr (inr (inr (inl refl)))
 refusal-status (Journal (Some k)) = inr (inr (inr (inl refl)))
@@ -171,7 +171,7 @@ verdict-due : (status : ℕ) → IsVerdictStatus status → IsDueStatus status
 verdict-due status is = inr is
 
 not_due : (due : Due) (other : ℕ) → (due_answer due).status ≡ other → (other ≡ 0) ⊎ ((other ≡ 1) ⊎ ((other ≡ 7) ⊎ ((other ≡ 8) ⊎ (other ≡ 9)))) → ⊥
-not_due due other same of = due-not (due_answer due).status other (due-status due) same of
+not_due due other same of = due-not (due_answer due).status other (inr (due-verdict due)) same of
 
 not_journal : (kept : Option ℕ) (other : ℕ) → (journal_answer kept).status ≡ other → (other ≡ 8 → ⊥) → ⊥
 not_journal None other is not = not (sym is)
@@ -186,16 +186,9 @@ not-ok (Err fault) ok err = cc
 -- the status is 2 with a fault of the words alone
 pub status-words : (wanted : Result Order WordsFault) (r : Refusal) → IsWordedBy wanted r → (answer_of r).status ≡ 2 → IsErr wanted
 status-words wanted Memory by is = absurd cc
-status-words wanted (DueRefusal (Words fault)) by is = subst (λ (w : Result Order WordsFault). IsErr w) (sym by) refl
-status-words wanted (DueRefusal (Vex fault)) by is = absurd cc
-status-words wanted (DueRefusal (Schedule fault)) by is = absurd cc
-status-words wanted (DueRefusal (Job fault)) by is = absurd cc
-status-words wanted (DueRefusal (Join fault name)) by is = absurd cc
-status-words wanted (DueRefusal (Limit quantity value)) by is = absurd cc
-status-words wanted (DueRefusal (NoFile name)) by is = absurd cc
-status-words wanted (DueRefusal (Recording key field)) by is = absurd cc
-status-words wanted (DueRefusal (Records fault)) by is = absurd cc
-status-words wanted (DueRefusal (Other d)) by is = absurd cc
+status-words wanted (Words fault) by is = subst (λ (w : Result Order WordsFault). IsErr w) (sym by) refl
+status-words wanted (DueRefusal due) by is = absurd cc
+status-words wanted (Other d) by is = absurd cc
 status-words wanted Read by is = absurd cc
 status-words wanted (Journal kept) by is = absurd (not_journal kept 2 is (λ e. cc))
 status-words wanted Write by is = absurd cc
@@ -204,16 +197,9 @@ status-words wanted Write by is = absurd cc
 pub words-status : (wanted : Result Order WordsFault) (r : Refusal) → IsWordedBy wanted r → IsErr wanted
     → ((answer_of r).status ≡ 2) ⊎ ((answer_of r).status ≡ 1)
 words-status wanted Memory by err = inr refl
-words-status wanted (DueRefusal (Words fault)) by err = inl refl
-words-status wanted (DueRefusal (Vex fault)) by err = absurd (not-ok wanted by err)
-words-status wanted (DueRefusal (Schedule fault)) by err = absurd (not-ok wanted by err)
-words-status wanted (DueRefusal (Job fault)) by err = absurd (not-ok wanted by err)
-words-status wanted (DueRefusal (Join fault name)) by err = absurd (not-ok wanted by err)
-words-status wanted (DueRefusal (Limit quantity value)) by err = absurd (not-ok wanted by err)
-words-status wanted (DueRefusal (NoFile name)) by err = absurd (not-ok wanted by err)
-words-status wanted (DueRefusal (Recording key field)) by err = absurd (not-ok wanted by err)
-words-status wanted (DueRefusal (Records fault)) by err = absurd (not-ok wanted by err)
-words-status wanted (DueRefusal (Other d)) by err = absurd (not-ok wanted by err)
+words-status wanted (Words fault) by err = inl refl
+words-status wanted (DueRefusal due) by err = absurd (not-ok wanted by err)
+words-status wanted (Other d) by err = absurd (not-ok wanted by err)
 words-status wanted Read by err = absurd (not-ok wanted by err)
 words-status wanted (Journal kept) by err = absurd (not-ok wanted by err)
 words-status wanted Write by err = absurd (not-ok wanted by err)
@@ -221,16 +207,9 @@ words-status wanted Write by err = absurd (not-ok wanted by err)
 -- the line of status 2 is that of the words' fault
 pub words-line : (wanted : Result Order WordsFault) (r : Refusal) → IsWordedBy wanted r → (answer_of r).status ≡ 2 → IsWordsLine wanted (answer_of r).note
 words-line wanted Memory by is = absurd cc
-words-line wanted (DueRefusal (Words fault)) by is = (fault, by, refl)
-words-line wanted (DueRefusal (Vex fault)) by is = absurd cc
-words-line wanted (DueRefusal (Schedule fault)) by is = absurd cc
-words-line wanted (DueRefusal (Job fault)) by is = absurd cc
-words-line wanted (DueRefusal (Join fault name)) by is = absurd cc
-words-line wanted (DueRefusal (Limit quantity value)) by is = absurd cc
-words-line wanted (DueRefusal (NoFile name)) by is = absurd cc
-words-line wanted (DueRefusal (Recording key field)) by is = absurd cc
-words-line wanted (DueRefusal (Records fault)) by is = absurd cc
-words-line wanted (DueRefusal (Other d)) by is = absurd cc
+words-line wanted (Words fault) by is = (fault, by, refl)
+words-line wanted (DueRefusal due) by is = absurd cc
+words-line wanted (Other d) by is = absurd cc
 words-line wanted Read by is = absurd cc
 words-line wanted (Journal kept) by is = absurd (not_journal kept 2 is (λ e. cc))
 words-line wanted Write by is = absurd cc
@@ -238,7 +217,9 @@ words-line wanted Write by is = absurd cc
 -- the line of a fault of the journal that names no number
 pub unnumbered-line : (r : Refusal) → IsUnnumbered r → (answer_of r).status ≡ 8 → (answer_of r).note ≡ (journal_answer None).note
 unnumbered-line Memory un is = absurd cc
+unnumbered-line (Words fault) un is = absurd cc
 unnumbered-line (DueRefusal due) un is = absurd (not_due due 8 is (inr (inr (inr (inl refl)))))
+unnumbered-line (Other d) un is = absurd cc
 unnumbered-line Read un is = absurd cc
 unnumbered-line (Journal None) un is = refl
 unnumbered-line (Journal (Some k)) un is = absurd un
@@ -247,7 +228,9 @@ unnumbered-line Write un is = absurd cc
 -- the statuses of a sample
 pub sample-status : (r : Refusal) → IsOfSample r → ((answer_of r).status ≡ 0) ⊎ (((answer_of r).status ≡ 1) ⊎ ((answer_of r).status ≡ 9))
 sample-status Memory of = inr (inl refl)
+sample-status (Words fault) of = absurd of
 sample-status (DueRefusal due) of = absurd of
+sample-status (Other d) of = absurd of
 sample-status Read of = absurd of
 sample-status (Journal kept) of = absurd of
 sample-status Write of = inr (inr refl)
@@ -256,7 +239,9 @@ sample-status Write of = inr (inr refl)
 
 pub read-risen : (r : Refusal) (P Q R : Type 0) → MatchReadOrJournal r P Q R → (answer_of r).status ≡ 7 → P
 read-risen Memory P Q R fact is = absurd cc
+read-risen (Words fault) P Q R fact is = absurd cc
 read-risen (DueRefusal due) P Q R fact is = absurd (not_due due 7 is (inr (inr (inl refl))))
+read-risen (Other d) P Q R fact is = absurd cc
 read-risen Read P Q R fact is = fact
 read-risen (Journal kept) P Q R fact is = absurd (not_journal kept 7 is (λ e. cc))
 read-risen Write P Q R fact is = absurd cc
@@ -265,7 +250,9 @@ read-risen Write P Q R fact is = absurd cc
 pub read-kept : (r : Refusal) (P Q R N : Type 0) → MatchReadOrJournal r P Q R → (N → MatchRead r P R)
     → ((answer_of r).status ≡ 7 → ⊥) → ((answer_of r).status ≡ 8 → ⊥) ⊎ N → R
 read-kept Memory P Q R N fact alone not of = fact
+read-kept (Words fault) P Q R N fact alone not of = fact
 read-kept (DueRefusal due) P Q R N fact alone not of = fact
+read-kept (Other d) P Q R N fact alone not of = fact
 read-kept Read P Q R N fact alone not of = absurd (not refl)
 read-kept (Journal kept) P Q R N fact alone not (inl not_kept) = absurd (not_kept (journal-status kept))
 read-kept (Journal kept) P Q R N fact alone not (inr none) = alone none
@@ -275,35 +262,45 @@ read-kept Write P Q R N fact alone not of = fact
 pub read-no_fall : (r : Refusal) (before now : ℕ) → MatchReadOrJournal r (HasRisen before now) (before ≤ now) (now ≡ before)
     → ((answer_of r).status ≡ 7 → ⊥) → before ≤ now
 read-no_fall Memory before now fact not = omega (arith, fact)
+read-no_fall (Words fault) before now fact not = omega (arith, fact)
 read-no_fall (DueRefusal due) before now fact not = omega (arith, fact)
+read-no_fall (Other d) before now fact not = omega (arith, fact)
 read-no_fall Read before now fact not = absurd (not refl)
 read-no_fall (Journal kept) before now fact not = fact
 read-no_fall Write before now fact not = omega (arith, fact)
 
 pub journal-risen : (r : Refusal) (P Q : Type 0) → MatchJournal r P Q → (answer_of r).status ≡ 8 → P
 journal-risen Memory P Q fact is = absurd cc
+journal-risen (Words fault) P Q fact is = absurd cc
 journal-risen (DueRefusal due) P Q fact is = absurd (not_due due 8 is (inr (inr (inr (inl refl)))))
+journal-risen (Other d) P Q fact is = absurd cc
 journal-risen Read P Q fact is = absurd cc
 journal-risen (Journal kept) P Q fact is = fact
 journal-risen Write P Q fact is = absurd cc
 
 pub journal-kept : (r : Refusal) (P Q : Type 0) → MatchJournal r P Q → ((answer_of r).status ≡ 8 → ⊥) → Q
 journal-kept Memory P Q fact not = fact
+journal-kept (Words fault) P Q fact not = fact
 journal-kept (DueRefusal due) P Q fact not = fact
+journal-kept (Other d) P Q fact not = fact
 journal-kept Read P Q fact not = fact
 journal-kept (Journal kept) P Q fact not = absurd (not (journal-status kept))
 journal-kept Write P Q fact not = fact
 
 pub write-risen : (r : Refusal) (P Q : Type 0) → MatchWrite r P Q → (answer_of r).status ≡ 9 → P
 write-risen Memory P Q fact is = absurd cc
+write-risen (Words fault) P Q fact is = absurd cc
 write-risen (DueRefusal due) P Q fact is = absurd (not_due due 9 is (inr (inr (inr (inr refl)))))
+write-risen (Other d) P Q fact is = absurd cc
 write-risen Read P Q fact is = absurd cc
 write-risen (Journal kept) P Q fact is = absurd (not_journal kept 9 is (λ e. cc))
 write-risen Write P Q fact is = fact
 
 pub write-kept : (r : Refusal) (P Q : Type 0) → MatchWrite r P Q → ((answer_of r).status ≡ 9 → ⊥) → Q
 write-kept Memory P Q fact not = fact
+write-kept (Words fault) P Q fact not = fact
 write-kept (DueRefusal due) P Q fact not = fact
+write-kept (Other d) P Q fact not = fact
 write-kept Read P Q fact not = fact
 write-kept (Journal kept) P Q fact not = fact
 write-kept Write P Q fact not = absurd (not refl)
@@ -351,21 +348,20 @@ module _ (outcomes : Outcomes Task) (one : AreOne outcomes) where
   }
 
   -- a verdict on words and files
-  verdict-of-due : (files : Files) (due : Due) (before : Option (List ℕ)) (read_fault journal_fault write_fault : Type 0)
-      → outcomes (Err (due_answer due)) → IsVerdictStatus (due_answer due).status
-      → IsVerdict outcomes files before (due_answer due).status read_fault journal_fault write_fault
-  verdict-of-due files due before read_fault journal_fault write_fault cause is = record {
-    due = λ _. (due_answer due, cause, refl);
-    refused = λ answer fact. inl (ap (λ (a : Answer). a.status) (answers-same (due_answer due) answer cause fact));
-    other = λ ten. absurd (not-ten (due_answer due).status is ten);
-    foreign = λ call image there _ _. absurd (task-not (OfJob call) (due_answer due) there cause);
-    complete = λ task there _ _ _. absurd (task-not task (due_answer due) there cause);
+  verdict-of : (files : Files) (first : Answer) (before : Option (List ℕ)) (read_fault journal_fault write_fault : Type 0)
+      → outcomes (Err first) → IsVerdictStatus first.status → IsVerdict outcomes files before first.status read_fault journal_fault write_fault
+  verdict-of files first before read_fault journal_fault write_fault cause is = record {
+    due = λ _. (first, cause, refl);
+    refused = λ answer fact. inl (ap (λ (a : Answer). a.status) (answers-same first answer cause fact));
+    other = λ ten. absurd (not-ten first.status is ten);
+    foreign = λ call image there _ _. absurd (task-not (OfJob call) first there cause);
+    complete = λ task there _ _ _. absurd (task-not task first there cause);
   }
     where
       not-ten : (status : ℕ) → IsVerdictStatus status → status ≡ 10 → ⊥
       not-ten status is ten = grind arith
 
-  verdict-other : (files : Files) (d : Differs) (before : Option (List ℕ)) (read_fault journal_fault write_fault : Type 0) → IsDueCause (Other d) outcomes files before
+  verdict-other : (files : Files) (d : Differs) (before : Option (List ℕ)) (read_fault journal_fault write_fault : Type 0) → IsOtherCause outcomes files before d
       → IsVerdict outcomes files before 10 read_fault journal_fault write_fault
   verdict-other files d before read_fault journal_fault write_fault cause = record {
     due = λ is. absurd (ten-not 10 is refl);
@@ -401,25 +397,11 @@ module _ (outcomes : Outcomes Task) (one : AreOne outcomes) where
     foreign = λ _ _ _ _ _. inr (inl refl);
     complete = λ _ _ _ _ _. inr refl;
   }
-  verdict-refused files images before after old new read_fault journal_fault write_fault P Q R S (DueRefusal (Words fault)) cause reads journal writes =
-      verdict-of-due files (Words fault) before read_fault journal_fault write_fault cause (inl refl)
-  verdict-refused files images before after old new read_fault journal_fault write_fault P Q R S (DueRefusal (Vex fault)) cause reads journal writes =
-      verdict-of-due files (Vex fault) before read_fault journal_fault write_fault cause (inr (inl refl))
-  verdict-refused files images before after old new read_fault journal_fault write_fault P Q R S (DueRefusal (Schedule fault)) cause reads journal writes =
-      verdict-of-due files (Schedule fault) before read_fault journal_fault write_fault cause (inr (inl refl))
-  verdict-refused files images before after old new read_fault journal_fault write_fault P Q R S (DueRefusal (Job fault)) cause reads journal writes =
-      verdict-of-due files (Job fault) before read_fault journal_fault write_fault cause (inr (inr (inl refl)))
-  verdict-refused files images before after old new read_fault journal_fault write_fault P Q R S (DueRefusal (Join fault name)) cause reads journal writes =
-      verdict-of-due files (Join fault name) before read_fault journal_fault write_fault cause (inr (inr (inl refl)))
-  verdict-refused files images before after old new read_fault journal_fault write_fault P Q R S (DueRefusal (Recording key field)) cause reads journal writes =
-      verdict-of-due files (Recording key field) before read_fault journal_fault write_fault cause (inr (inr (inr (inl refl))))
-  verdict-refused files images before after old new read_fault journal_fault write_fault P Q R S (DueRefusal (Records fault)) cause reads journal writes =
-      verdict-of-due files (Records fault) before read_fault journal_fault write_fault cause (inr (inr (inr (inl refl))))
-  verdict-refused files images before after old new read_fault journal_fault write_fault P Q R S (DueRefusal (Limit quantity value)) cause reads journal writes =
-      verdict-of-due files (Limit quantity value) before read_fault journal_fault write_fault cause (inr (inr (inr (inr (inl refl)))))
-  verdict-refused files images before after old new read_fault journal_fault write_fault P Q R S (DueRefusal (NoFile name)) cause reads journal writes =
-      verdict-of-due files (NoFile name) before read_fault journal_fault write_fault cause (inr (inr (inr (inr (inr refl)))))
-  verdict-refused files images before after old new read_fault journal_fault write_fault P Q R S (DueRefusal (Other d)) cause reads journal writes =
+  verdict-refused files images before after old new read_fault journal_fault write_fault P Q R S (Words fault) cause reads journal writes =
+      verdict-of files (words_answer fault) before read_fault journal_fault write_fault cause (inl refl)
+  verdict-refused files images before after old new read_fault journal_fault write_fault P Q R S (DueRefusal due) cause reads journal writes =
+      verdict-of files (due_answer due) before read_fault journal_fault write_fault cause (due-verdict due)
+  verdict-refused files images before after old new read_fault journal_fault write_fault P Q R S (Other d) cause reads journal writes =
       verdict-other files d before read_fault journal_fault write_fault cause
   verdict-refused files images before after old new read_fault journal_fault write_fault P Q R S Read cause reads journal writes = record {
     due = λ is. absurd (due-not 7 7 (inr is) refl (inr (inr (inl refl))));
@@ -466,11 +448,23 @@ appended-refused outcomes files before after old new Memory part = record {
   part = λ _. part;
   write = λ is. absurd cc;
 }
+appended-refused outcomes files before after old new (Words fault) part = record {
+  done = λ is. absurd cc;
+  nothing = λ _. part;
+  part = λ _. inl part;
+  write = λ is. absurd cc;
+}
 appended-refused outcomes files before after old new (DueRefusal due) part = record {
   done = λ is. absurd (not_due due 0 is (inl refl));
   nothing = λ _. part;
   part = λ _. inl part;
   write = λ is. absurd (not_due due 9 is (inr (inr (inr (inr refl)))));
+}
+appended-refused outcomes files before after old new (Other d) part = record {
+  done = λ is. absurd cc;
+  nothing = λ _. part;
+  part = λ _. inl part;
+  write = λ is. absurd cc;
 }
 appended-refused outcomes files before after old new Read part = record {
   done = λ is. absurd cc;
@@ -495,7 +489,9 @@ appended-refused outcomes files before after old new Write part = record {
 -- with the statuses of what is wrong nothing
 pub due-nothing : (r : Refusal) (P : Type 0) → MatchDue r P → IsDueStatus (answer_of r).status → P
 due-nothing Memory P fact is = absurd (due-not 1 1 is refl (inr (inl refl)))
+due-nothing (Words fault) P fact is = fact
 due-nothing (DueRefusal due) P fact is = fact
+due-nothing (Other d) P fact is = fact
 due-nothing Read P fact is = absurd (due-not 7 7 is refl (inr (inr (inl refl))))
 due-nothing (Journal kept) P fact is = absurd (due-not _ 8 is (journal-status kept) (inr (inr (inr (inl refl)))))
 due-nothing Write P fact is = absurd (due-not 9 9 is refl (inr (inr (inr (inr refl)))))
@@ -503,8 +499,12 @@ due-nothing Write P fact is = absurd (due-not 9 9 is refl (inr (inr (inr (inr re
 -- with want of memory and with a read fault
 pub early-nothing : (r : Refusal) (P : Type 0) → MatchEarly r P → ((answer_of r).status ≡ 1) ⊎ ((answer_of r).status ≡ 7) → P
 early-nothing Memory P fact is = fact
+early-nothing (Words fault) P fact (inl is) = absurd cc
 early-nothing (DueRefusal due) P fact (inl is) = absurd (not_due due 1 is (inr (inl refl)))
+early-nothing (Other d) P fact (inl is) = absurd cc
+early-nothing (Words fault) P fact (inr is) = absurd cc
 early-nothing (DueRefusal due) P fact (inr is) = absurd (not_due due 7 is (inr (inr (inl refl))))
+early-nothing (Other d) P fact (inr is) = absurd cc
 early-nothing Read P fact is = fact
 early-nothing (Journal kept) P fact (inl is) = absurd (not_journal kept 1 is (λ e. cc))
 early-nothing (Journal kept) P fact (inr is) = absurd (not_journal kept 7 is (λ e. cc))
@@ -517,32 +517,18 @@ verdict-not status other is same of = grind arith
 -- with the statuses of what is wrong with words and files, and with that of another job's journal
 pub verdict-fact : (r : Refusal) (P Q : Type 0) → MatchVerdict r P Q → IsVerdictStatus (answer_of r).status → Q
 verdict-fact Memory P Q fact is = absurd (due-not 1 1 (inr is) refl (inr (inl refl)))
-verdict-fact (DueRefusal (Words fault)) P Q fact is = fact
-verdict-fact (DueRefusal (Vex fault)) P Q fact is = fact
-verdict-fact (DueRefusal (Schedule fault)) P Q fact is = fact
-verdict-fact (DueRefusal (Job fault)) P Q fact is = fact
-verdict-fact (DueRefusal (Join fault name)) P Q fact is = fact
-verdict-fact (DueRefusal (Limit quantity value)) P Q fact is = fact
-verdict-fact (DueRefusal (NoFile name)) P Q fact is = fact
-verdict-fact (DueRefusal (Recording key field)) P Q fact is = fact
-verdict-fact (DueRefusal (Records fault)) P Q fact is = fact
-verdict-fact (DueRefusal (Other d)) P Q fact is = absurd (verdict-not 10 10 is refl (inl refl))
+verdict-fact (Words fault) P Q fact is = fact
+verdict-fact (DueRefusal due) P Q fact is = fact
+verdict-fact (Other d) P Q fact is = absurd (verdict-not 10 10 is refl (inl refl))
 verdict-fact Read P Q fact is = absurd (due-not 7 7 (inr is) refl (inr (inr (inl refl))))
 verdict-fact (Journal kept) P Q fact is = absurd (due-not _ 8 (inr is) (journal-status kept) (inr (inr (inr (inl refl)))))
 verdict-fact Write P Q fact is = absurd (due-not 9 9 (inr is) refl (inr (inr (inr (inr refl)))))
 
 pub other-fact : (r : Refusal) (P Q : Type 0) → MatchVerdict r P Q → (answer_of r).status ≡ 10 → P
 other-fact Memory P Q fact is = absurd cc
-other-fact (DueRefusal (Words fault)) P Q fact is = absurd cc
-other-fact (DueRefusal (Vex fault)) P Q fact is = absurd cc
-other-fact (DueRefusal (Schedule fault)) P Q fact is = absurd cc
-other-fact (DueRefusal (Job fault)) P Q fact is = absurd cc
-other-fact (DueRefusal (Join fault name)) P Q fact is = absurd cc
-other-fact (DueRefusal (Limit quantity value)) P Q fact is = absurd cc
-other-fact (DueRefusal (NoFile name)) P Q fact is = absurd cc
-other-fact (DueRefusal (Recording key field)) P Q fact is = absurd cc
-other-fact (DueRefusal (Records fault)) P Q fact is = absurd cc
-other-fact (DueRefusal (Other d)) P Q fact is = fact
+other-fact (Words fault) P Q fact is = absurd cc
+other-fact (DueRefusal due) P Q fact is = absurd cc
+other-fact (Other d) P Q fact is = fact
 other-fact Read P Q fact is = absurd cc
 other-fact (Journal kept) P Q fact is = absurd (not_journal kept 10 is (λ e. cc))
 other-fact Write P Q fact is = absurd cc
@@ -613,7 +599,9 @@ module _ {D : Type 0} (seen : D → Option (List ℕ)) (moment : D → ℕ) (may
 
 pub refusal-not-zero : (r : Refusal) → (answer_of r).status ≡ 0 → ⊥
 refusal-not-zero Memory is = cc
+refusal-not-zero (Words fault) is = cc
 refusal-not-zero (DueRefusal due) is = not_due due 0 is (inl refl)
+refusal-not-zero (Other d) is = cc
 refusal-not-zero Read is = cc
 refusal-not-zero (Journal kept) is = not_journal kept 0 is (λ e. cc)
 refusal-not-zero Write is = cc
@@ -623,16 +611,9 @@ refusal-not-zero Write is = cc
 pub line-refused : (outcomes : Outcomes Task) (files : Files) (images : List ℕ → Type 0) (before after old new : Option (List ℕ)) (r : Refusal)
     → IsCauseOf r outcomes files images before after old new → IsLineOf outcomes files before (answer_of r).status (answer_of r).note
 line-refused outcomes files images before after old new Memory cause = inl (inr (inl (refl, refl)))
-line-refused outcomes files images before after old new (DueRefusal (Words fault)) cause = inr (inr (inl refl, (words_answer fault, cause, (refl, refl))))
-line-refused outcomes files images before after old new (DueRefusal (Vex fault)) cause = inr (inr (inr (inl refl), (due_answer (Vex fault), cause, (refl, refl))))
-line-refused outcomes files images before after old new (DueRefusal (Schedule fault)) cause = inr (inr (inr (inl refl), (due_answer (Schedule fault), cause, (refl, refl))))
-line-refused outcomes files images before after old new (DueRefusal (Job fault)) cause = inr (inr (inr (inr (inl refl)), (due_answer (Job fault), cause, (refl, refl))))
-line-refused outcomes files images before after old new (DueRefusal (Join fault name)) cause = inr (inr (inr (inr (inl refl)), (due_answer (Join fault name), cause, (refl, refl))))
-line-refused outcomes files images before after old new (DueRefusal (Recording key field)) cause = inr (inr (inr (inr (inr (inl refl))), (due_answer (Recording key field), cause, (refl, refl))))
-line-refused outcomes files images before after old new (DueRefusal (Records fault)) cause = inr (inr (inr (inr (inr (inl refl))), (due_answer (Records fault), cause, (refl, refl))))
-line-refused outcomes files images before after old new (DueRefusal (Limit quantity value)) cause = inr (inr (inr (inr (inr (inr (inl refl)))), (due_answer (Limit quantity value), cause, (refl, refl))))
-line-refused outcomes files images before after old new (DueRefusal (NoFile name)) cause = inr (inr (inr (inr (inr (inr (inr refl)))), (due_answer (NoFile name), cause, (refl, refl))))
-line-refused outcomes files images before after old new (DueRefusal (Other d)) cause =
+line-refused outcomes files images before after old new (Words fault) cause = inr (inr (inl refl, (words_answer fault, cause, (refl, refl))))
+line-refused outcomes files images before after old new (DueRefusal due) cause = inr (inr (due-verdict due, (due_answer due, cause, (refl, refl))))
+line-refused outcomes files images before after old new (Other d) cause =
     inr (inl (refl, record { call = cause.call; outcome = cause.outcome; differs = d; other = cause.other; line_is = refl }))
 line-refused outcomes files images before after old new Read cause = inl (inr (inr (inl (refl, refl))))
 line-refused outcomes files images before after old new (Journal None) cause = inl (inr (inr (inr (inl (refl, (None, refl))))))

@@ -6,14 +6,13 @@ use Rattle.vis_writer.specs.declared.fault.WriteFault.{WriteFault}
 use Rattle.vis_writer.specs.declared.fault.WriteFault.TheVariants.{Source, Sink}
 use Rattle.run_words.specs.declared.fault.WordsFault.{WordsFault}
 use Rattle.run_words.specs.declared.fault.WordsFault.TheVariants.{Memory as WordsMemory}
-use Rattle.run_notes.specs.declared.refusal.Due.TheVariants.{Words}
 use Rattle.run_notes.specs.declared.refusal.Refusal.{Refusal}
-use Rattle.run_notes.specs.declared.refusal.Refusal.TheVariants.{Memory as MemoryRefusal, Due as DueRefusal, Read as ReadRefusal, Write}
+use Rattle.run_notes.specs.declared.refusal.Refusal.TheVariants.{Memory as MemoryRefusal, Words, Read as ReadRefusal, Write}
 
 -- the refusal of words that give no order: want of memory, or their fault
 abbrev pub words_refusal : WordsFault → Refusal
 words_refusal WordsMemory = MemoryRefusal
-words_refusal fault = DueRefusal (Words fault)
+words_refusal fault = Words fault
 
 abbrev pub refusal_of : WriteFault StreamFault → Refusal
 refusal_of (Source Read) = ReadRefusal

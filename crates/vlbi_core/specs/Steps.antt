@@ -11,10 +11,8 @@ use Rattle.checkpoint_journal.specs.Runs.{Looks, Changes, StepTold, KeepsBodies}
 use Rattle.run_words.specs.declared.fault.WordsFault.{WordsFault}
 use Rattle.run_words.specs.declared.order.Order.{Order}
 use Rattle.run_words.specs.declared.order.Order.TheVariants.{Run, Plain, Check, Status, Dump, Gen}
-use Rattle.run_notes.specs.declared.refusal.Due.{Due}
-use Rattle.run_notes.specs.declared.refusal.Due.TheVariants.{Words, Other}
 use Rattle.run_notes.specs.declared.refusal.Refusal.{Refusal}
-use Rattle.run_notes.specs.declared.refusal.Refusal.TheVariants.{Memory, Due as DueRefusal, Read, Journal, Write}
+use Rattle.run_notes.specs.declared.refusal.Refusal.TheVariants.{Memory, Words, Due as DueRefusal, Other, Read, Journal, Write}
 use Rattle.run_notes.specs.Answers.{words_answer}
 use Rattle.run_notes.specs.Refusals.{Outcomes, IsCause, due_answer}
 use Rattle.run_ready.specs.Steps.{Is, Then, answered}
@@ -69,8 +67,9 @@ OutcomeFrom wanted files = Then (Is (answered words_answer wanted)) (TaskFor fil
 -- a refusal by the words: their fault, or want of memory
 abbrev pub IsOfWords : Result Order WordsFault → Refusal → Type 0
 IsOfWords wanted Memory = ⊤
-IsOfWords wanted (DueRefusal (Words fault)) = wanted ≡ Err fault
+IsOfWords wanted (Words fault) = wanted ≡ Err fault
 IsOfWords wanted (DueRefusal due) = ⊥
+IsOfWords wanted (Other d) = ⊥
 IsOfWords wanted Read = ⊥
 IsOfWords wanted (Journal kept) = ⊥
 IsOfWords wanted Write = ⊥
@@ -78,8 +77,9 @@ IsOfWords wanted Write = ⊥
 -- a refusal is by the words exactly where it is their fault; want of memory may come with any words
 abbrev pub IsWordedBy : Result Order WordsFault → Refusal → Type 0
 IsWordedBy wanted Memory = ⊤
-IsWordedBy wanted (DueRefusal (Words fault)) = wanted ≡ Err fault
+IsWordedBy wanted (Words fault) = wanted ≡ Err fault
 IsWordedBy wanted (DueRefusal due) = IsOk wanted
+IsWordedBy wanted (Other d) = IsOk wanted
 IsWordedBy wanted Read = IsOk wanted
 IsWordedBy wanted (Journal kept) = IsOk wanted
 IsWordedBy wanted Write = IsOk wanted
@@ -90,7 +90,7 @@ IsWorded wanted (Err r) = IsWordedBy wanted r
 
 -- a refusal by what is behind the words
 abbrev pub IsBehindWords : Refusal → Type 0
-IsBehindWords (DueRefusal (Words fault)) = ⊥
+IsBehindWords (Words fault) = ⊥
 IsBehindWords _ = ⊤
 
 -- no number of epochs is named
@@ -112,7 +112,9 @@ IsPartOf {A} outcomes text old new = (x : A) × outcomes (Ok x) × PrefixMore ol
 -- what such a command appended where it was refused
 abbrev pub IsPartlyOf : {A : Type 0} → Refusal → Outcomes A → (A → List ℕ) → Option (List ℕ) → Option (List ℕ) → Type 0
 IsPartlyOf Memory outcomes text old new = (new ≡ old) ⊎ IsPartOf outcomes text old new
+IsPartlyOf (Words fault) outcomes text old new = new ≡ old
 IsPartlyOf (DueRefusal due) outcomes text old new = new ≡ old
+IsPartlyOf (Other d) outcomes text old new = new ≡ old
 IsPartlyOf Read outcomes text old new = (new ≡ old) ⊎ IsPartOf outcomes text old new
 IsPartlyOf (Journal kept) outcomes text old new = ⊥
 IsPartlyOf Write outcomes text old new = IsPartOf outcomes text old new
@@ -126,15 +128,17 @@ pub record Tells {A : Type 0} (outcomes : Outcomes A) (text : A → List ℕ) (o
 
 -- what they may be refused for: anything but a fault of the words, another journal and a fault of the journal
 abbrev pub IsOfFilesOrOutput : Refusal → Type 0
-IsOfFilesOrOutput (DueRefusal (Words fault)) = ⊥
-IsOfFilesOrOutput (DueRefusal (Other d)) = ⊥
+IsOfFilesOrOutput (Words fault) = ⊥
+IsOfFilesOrOutput (Other d) = ⊥
 IsOfFilesOrOutput (Journal kept) = ⊥
 IsOfFilesOrOutput _ = ⊤
 
 -- What a call over devices in memory may be refused for, where no verdict is due and no read fails: want of memory, and a fault of
 -- its journal or its output.
 abbrev pub IsOfMemory : Refusal → Type 0
+IsOfMemory (Words fault) = ⊥
 IsOfMemory (DueRefusal due) = ⊥
+IsOfMemory (Other d) = ⊥
 IsOfMemory Read = ⊥
 IsOfMemory _ = ⊤
 
@@ -153,20 +157,24 @@ pub record IsPlanned (outcomes : Outcomes Plan) : Type 0 where
 
 -- want of memory, and a fault of the shelf or of the output
 abbrev pub IsOfOutput : Refusal → Type 0
+IsOfOutput (Words fault) = ⊥
 IsOfOutput (DueRefusal due) = ⊥
+IsOfOutput (Other d) = ⊥
 IsOfOutput (Journal kept) = ⊥
 IsOfOutput _ = ⊤
 
 -- what a look at the journal may be refused for: want of memory, another job's journal, and a fault that names no epochs
 abbrev pub IsLookedFor : List ℕ → List ℕ → Option (List ℕ) → Refusal → Type 0
 IsLookedFor id sizes before Memory = ⊤
-IsLookedFor id sizes before (DueRefusal (Other d)) = WhereTold before (λ image. IsOther id sizes image d)
+IsLookedFor id sizes before (Other d) = WhereTold before (λ image. IsOther id sizes image d)
 IsLookedFor id sizes before (Journal None) = ⊤
 IsLookedFor id sizes before _ = ⊥
 
 -- a fault of the journal without its number; what a look is never refused for becomes want of memory
 abbrev pub looked : Refusal → Refusal
+looked (Words fault) = DueRefusal due
 looked (DueRefusal due) = DueRefusal due
+looked (Other d) = DueRefusal due
 looked (Journal kept) = Journal None
 looked _ = Memory
 
@@ -205,15 +213,12 @@ pub record IsWriteCause (outcomes : Outcomes Task) (files : Files) (before : Opt
   pub outcome : outcomes (Ok task)
   pub opened : IsOpened files task before
 
--- the cause of a verdict
-abbrev pub IsDueCause : Due → Outcomes Task → Files → Option (List ℕ) → Type 0
-IsDueCause (Other d) outcomes files before = IsOtherCause outcomes files before d
-IsDueCause due outcomes files before = outcomes (Err (due_answer due))
-
 -- a refusal has its cause
 abbrev pub IsCauseOf : Refusal → Outcomes Task → Files → (List ℕ → Type 0) → Option (List ℕ) → Option (List ℕ) → Option (List ℕ) → Option (List ℕ) → Type 0
 IsCauseOf Memory outcomes files images before after old new = ⊤
-IsCauseOf (DueRefusal due) outcomes files images before after old new = IsDueCause due outcomes files before
+IsCauseOf (Words fault) outcomes files images before after old new = outcomes (Err (words_answer fault))
+IsCauseOf (DueRefusal due) outcomes files images before after old new = outcomes (Err (due_answer due))
+IsCauseOf (Other d) outcomes files images before after old new = IsOtherCause outcomes files before d
 IsCauseOf Read outcomes files images before after old new = ⊤
 IsCauseOf (Journal kept) outcomes files images before after old new = IsJournalCause outcomes files images before after old new kept
 IsCauseOf Write outcomes files images before after old new = IsWriteCause outcomes files before
@@ -224,7 +229,9 @@ IsCauseOf Write outcomes files images before after old new = IsWriteCause outcom
 -- want of memory, a read fault and a fault of the journal; and such a part with a write fault.
 abbrev pub IsPartly : Refusal → Outcomes Task → Files → Option (List ℕ) → Option (List ℕ) → Option (List ℕ) → Option (List ℕ) → Type 0
 IsPartly Memory outcomes files before after old new = (new ≡ old) ⊎ IsPart outcomes files before after old new
+IsPartly (Words fault) outcomes files before after old new = new ≡ old
 IsPartly (DueRefusal due) outcomes files before after old new = new ≡ old
+IsPartly (Other d) outcomes files before after old new = new ≡ old
 IsPartly Read outcomes files before after old new = (new ≡ old) ⊎ IsPart outcomes files before after old new
 IsPartly (Journal kept) outcomes files before after old new = (new ≡ old) ⊎ IsPart outcomes files before after old new
 IsPartly Write outcomes files before after old new = IsPart outcomes files before after old new
@@ -269,7 +276,9 @@ pub record Does {D : Type 0} (wanted : Result Order WordsFault) (files : Files) 
 
 -- a fact where a call was refused for what it was given
 abbrev pub MatchDue : Refusal → Type 0 → Type 0
+MatchDue (Words fault) P = P
 MatchDue (DueRefusal due) P = P
+MatchDue (Other d) P = P
 MatchDue _ P = ⊤
 
 -- a fact with want of memory and with a read fault
@@ -279,12 +288,10 @@ MatchEarly Read P = P
 MatchEarly _ P = ⊤
 
 -- one fact with another job's journal, another with what is wrong with words and files
-abbrev pub MatchOther : Due → Type 0 → Type 0 → Type 0
-MatchOther (Other d) P Q = P
-MatchOther _ P Q = Q
-
 abbrev pub MatchVerdict : Refusal → Type 0 → Type 0 → Type 0
-MatchVerdict (DueRefusal due) P Q = MatchOther due P Q
+MatchVerdict (Words fault) P Q = Q
+MatchVerdict (DueRefusal due) P Q = Q
+MatchVerdict (Other d) P Q = P
 MatchVerdict _ P Q = ⊤
 
 -- What a call left: with a verdict the output, in a call of `run` the output before all is summed, in any other call and where

@@ -5,7 +5,7 @@ ghost use Rattle.vlbi_core.specs.Calls.{texts_of, order_in};
 ghost use Rattle.vlbi_core.specs.Faults.{words_refusal};
 ghost use Rattle.vlbi_core.specs.Steps.{IsNumbered, IsOfWords};
 
-use run_notes::{Due, Refusal};
+use run_notes::Refusal;
 use run_words::{Order, WordsFault, read_words};
 use std::alloc::Global;
 
@@ -28,6 +28,6 @@ fn words_refusal(fault: WordsFault) -> Refusal
 {
     match fault {
         WordsFault::Memory => Refusal::Memory,
-        _ => Refusal::Due(Due::Words(fault)),
+        _ => Refusal::Words(fault),
     }
 }

@@ -104,7 +104,9 @@ fn in_memory(refusal: Refusal) -> AllocError
         Refusal::Memory => AllocError,
         Refusal::Journal(_) => AllocError,
         Refusal::Write => AllocError,
+        Refusal::Words(_) => unreachable!(),
         Refusal::Due(_) => unreachable!(),
+        Refusal::Other(_) => unreachable!(),
         Refusal::Read => unreachable!(),
     }
 }

@@ -126,7 +126,9 @@ fn is_short(refusal: &Refusal)
         }
         Refusal::Journal(None) => {}
         Refusal::Memory => {}
+        Refusal::Words(_) => {}
         Refusal::Due(_) => {}
+        Refusal::Other(_) => {}
         Refusal::Read => {}
         Refusal::Write => {}
     }

@@ -6,7 +6,7 @@
 
 use mem_devices::OpenGate;
 use real_devices::{FileDisk, FileShelf, HeldStreams, StdSink, SystemFiles};
-use run_notes::{Due, Refusal, status, write_note};
+use run_notes::{Refusal, status, write_note};
 use run_words::WordsFault;
 use std::env;
 use std::io::ErrorKind;
@@ -51,6 +51,6 @@ fn words(rt: &HostRuntime) -> Result<(String, Vec<String>), Refusal> {
             Ok((path, all.collect(rt.alloc())?))
         }
         Err(error) if error.kind() == ErrorKind::OutOfMemory => Err(Refusal::Memory),
-        Err(_) => Err(Refusal::Due(Due::Words(WordsFault::Option))),
+        Err(_) => Err(Refusal::Words(WordsFault::Option)),
     }
 }

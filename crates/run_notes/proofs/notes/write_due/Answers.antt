@@ -1,16 +1,13 @@
 use Rattle.run_notes.proofs.notes.write_due.Goals as goal
 
-pub returns-in-Words : goal.returns-in-Words
-returns-in-Words g c = rw (c.in-Words.is, ← c.name.ensures) c.append_pieces.ensures
-
 pub returns-in-Vex : goal.returns-in-Vex
-returns-in-Vex g c = rw (c.in-Vex.is, ← c.name-in-Vex.ensures) c.write_at_byte.ensures
+returns-in-Vex g c = rw (c.in-Vex.is, ← c.name.ensures) c.write_at_byte.ensures
 
 pub returns-in-Schedule : goal.returns-in-Schedule
 returns-in-Schedule g c = rw (c.in-Schedule.is, ← c.name-in-Schedule.ensures) c.write_at_byte-in-Schedule.ensures
 
 pub returns-in-Job : goal.returns-in-Job
-returns-in-Job g c = rw (c.in-Job.is, ← c.name-in-Job.ensures) c.append_pieces-in-Job.ensures
+returns-in-Job g c = rw (c.in-Job.is, ← c.name-in-Job.ensures) c.append_pieces.ensures
 
 pub returns-in-Join : goal.returns-in-Join
 returns-in-Join g c = rw (c.in-Join.is, ← c.name-in-Join.ensures, ← c.bytes.ensures) c.append_pieces-in-Join.ensures

@@ -1,4 +1,4 @@
-//! The sums of the epochs of a job that is ready. It stands on `run_ready` for the job, on `scan_values` for the values of an
+//! The sums of the epochs of a job that is ready. It stands on `run_ready` for the job, on `station_stream` for the values of an
 //! epoch's stations in a window around it, and on `epoch_run` for their planes and for the workers. The sums are those of the
 //! definition, whatever the number of workers and the length of a piece. While an epoch is summed, the values of the next one are
 //! read, part by part, and the planes of each part made at once, in room of epochs that are over.

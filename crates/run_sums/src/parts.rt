@@ -3,7 +3,7 @@ ghost use Rattle.std.specs.Prelude.{◌≡◌, ◌<◌, ◌≤◌, ◌%◌, pos,
 ghost use Rattle.dev_traits.specs.Told.{WhereTold};
 ghost use Rattle.job_plan.specs.Ranges.{IsPlan, IsScanPlan};
 ghost use Rattle.station_stream.specs.Recorded.{AreNamed, AreRecorded};
-ghost use Rattle.scan_values.specs.Values.{IsOfWindow};
+ghost use Rattle.station_stream.specs.Stream.{IsOfWindow};
 ghost use Rattle.epoch_run.specs.Planes.{HaveRange, planed};
 ghost use Rattle.run_notes.specs.Counted.{CountsReads};
 ghost use Rattle.run_sums.specs.Parts.{HoldsPart, HoldPart, HoldParts, HaveNone, AreSameBeside};
@@ -13,8 +13,7 @@ use dev_traits::Shelf;
 use epoch_run::EpochPlanes;
 use job_plan::{Plan, ScanPlan};
 use run_notes::Refusal;
-use scan_values::stay_stream;
-use station_stream::{Recording, Stream, StreamFault};
+use station_stream::{Recording, Stream, StreamFault, stay_stream};
 use std::alloc::{AllocError, Global};
 
 // The bytes that the codes of a part have, about: so many stay in a processor's cache.

@@ -1,7 +1,7 @@
 use Rattle.std.proofs.Common.{◌<◌, length, refl, ap, sym, ◌∙◌, arith}
 use Rattle.std.specs.List.{slice_get}
 use Rattle.std.proofs.lemmas.Option.{slice_get_read}
-use Rattle.scan_values.proofs.ValuesLemmas.{is_some-stay_of}
+use Rattle.station_stream.proofs.StayLemmas.{is_some-stay_of}
 use Rattle.run_sums.proofs.PartLemmas.{HoldsPart-stay}
 use Rattle.run_sums.proofs.parts.read_part.Goals as goal
 

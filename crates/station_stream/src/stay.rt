@@ -5,13 +5,12 @@ ghost use Rattle.job_plan.specs.Ranges.{IsPlan, IsScanPlan, IsStay};
 ghost use Rattle.job_plan.specs.Values.{stay_of, stay_value};
 ghost use Rattle.station_stream.specs.Faults.{CountsReads};
 ghost use Rattle.station_stream.specs.Recorded.{AreNamed, AreRecorded};
-ghost use Rattle.station_stream.specs.Stream.{windowed};
-ghost use Rattle.scan_values.specs.Values.{IsOfWindow};
+ghost use Rattle.station_stream.specs.Stream.{IsOfWindow, windowed};
 
-use crate::parts::{chans_of, part_of};
+use crate::stay_part::{chans_of, part_of};
+use crate::{Recording, Stream, StreamFault};
 use dev_traits::Shelf;
 use job_plan::{Plan, ScanPlan, StayPlan};
-use station_stream::{Recording, Stream, StreamFault};
 use std::alloc::Global;
 
 /// The values of a station's part of a scan at the samples from `from` up to, not including, `to`, for each of the job's channels,

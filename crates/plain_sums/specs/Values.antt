@@ -1,14 +1,9 @@
 -- The values that the streams of a scan's stations hold.
-use Rattle.std.specs.Prelude.{◌≡◌, ℕ, ◌==◌, pos, option_and_then, slice_get}
+use Rattle.std.specs.Prelude.{ℕ, ◌==◌, option_and_then, slice_get}
 use Rattle.std.specs.List.{position}
 use Rattle.corr_model.specs.Cell.{Samples}
 use Rattle.station_stream.specs.Stream.{StreamFields, windowed}
-use Rattle.scan_values.specs.declared.values.ScanValues.{ScanValues}
-
--- a stream of the samples from `from` up to, not including, `to`
-pub record IsOfWindow (from to : ℕ) (s : StreamFields) : Type 0 where
-  pub begin : s.from ≡ pos from
-  pub end : s.to ≡ pos to
+use Rattle.plain_sums.specs.declared.values.ScanValues.{ScanValues}
 
 -- the value of a station's channel, none of a station that has no part in the scan
 abbrev pub values_of : ScanValues → Samples

@@ -1,5 +1,5 @@
 -- First places in lists, and what stands there.
-use Rattle.std.proofs.Common.{◌≡◌, ℕ, zero, suc, ◌+◌, ◌<◌, ◌≤◌, nat_lt, Bool, true, false, not, cond, List, [], ◌∷◌, ◌++◌, length, map, take, Option, Some, None, is_some, option_and_then, refl, ap, sym, ◌∙◌, ⊎_elim, arith}
+use Rattle.std.proofs.Common.{◌≡◌, ℕ, zero, suc, ◌+◌, ◌<◌, ◌≤◌, nat_lt, Bool, true, false, not, cond, List, [], ◌∷◌, ◌++◌, length, map, take, Option, Some, None, option_and_then, refl, ap, sym, ◌∙◌, ⊎_elim, arith}
 use Rattle.std.specs.List.{slice_get, find, position, position_or_len}
 use Rattle.std.proofs.lemmas.Bool.{cases_lt}
 use Rattle.std.proofs.lemmas.Bool.Decides.{nat_tests}
@@ -44,16 +44,6 @@ option_and_then-position p f g h xs at =
     (λ past. ap (option_and_then g) (position-past p (map f xs) past)
     ∙ sym (ap (option_and_then h) (found ∙ slice_get_past xs place (omega (arith, length-map xs f)))))
     (cases_lt place (length (map f xs)))
-
--- an item that passes is found, or one before it
-pub is_some-find : {X : Type 0} (p : X → Bool) (xs : List X) (i : ℕ) (x : X)
-    → slice_get xs i ≡ Some x → p x ≡ true → is_some (find p xs) ≡ true
-is_some-find p [] i x at passes = absurd (cc)
-is_some-find p (y ∷ xs) zero x at passes =
-    let same : y ≡ x = cc in
-    ap (λ (b : Bool). is_some (cond b (Some y) (find p xs))) (ap p same ∙ passes)
-is_some-find p (y ∷ xs) (suc i) x at passes =
-    elim (p y) as (λ (b : Bool). is_some (cond b (Some y) (find p xs)) ≡ true) [ true ↦ refl | false ↦ is_some-find p xs i x at passes ]
 
 -- one item more of a list
 pub take-next : {X : Type 0} (xs : List X) (i : ℕ) (x : X) → slice_get xs i ≡ Some x → take (i + 1) xs ≡ take i xs ++ x ∷ []

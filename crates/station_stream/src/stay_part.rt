@@ -8,11 +8,11 @@ ghost use Rattle.job_plan.specs.Ranges.{IsPlan, IsScanPlan, IsStation, IsStay, I
 ghost use Rattle.job_plan.specs.Values.{model_of as model_in, recorded_at, band_at};
 ghost use Rattle.station_stream.specs.Part.{chan_at};
 ghost use Rattle.station_stream.specs.Ranges.{IsChanOf};
-ghost use Rattle.scan_values.specs.Parts.{chan_of, IsPartOf};
+ghost use Rattle.station_stream.specs.StayParts.{chan_of, IsPartOf};
 
+use crate::{Recording, StationChan, StationPart};
 use delay_track::Track;
 use job_plan::{Band, Plan, Recorded, ScanPlan, StationPlan, StayPlan};
-use station_stream::{Recording, StationChan, StationPart};
 use std::alloc::{AllocError, Global};
 
 // A station's channel in a scan; None where it does not record the channel or has no band for it there.

@@ -4,9 +4,9 @@ use Rattle.std.proofs.lemmas.Int.{ints}
 use Rattle.std.proofs.lemmas.Option.{slice_get_read}
 use Rattle.frame_index.proofs.ToldLemmas.{WhereTold-weaker}
 use Rattle.job_plan.specs.declared.plan.StationPlan.{StationPlan}
-use Rattle.scan_values.proofs.PartLemmas.{IsIndexed-part, part_value-stay_value}
-use Rattle.scan_values.proofs.ValuesLemmas.{windowed-inside}
-use Rattle.scan_values.proofs.stays.stay_stream.Goals as goal
+use Rattle.station_stream.proofs.StayPartLemmas.{IsIndexed-part, part_value-stay_value}
+use Rattle.station_stream.proofs.StayLemmas.{windowed-inside}
+use Rattle.station_stream.proofs.stay.stay_stream.Goals as goal
 
 -- the item at a place of a list that is read
 slice_get-item : {X : Type 0} (xs ys : List X) (i : ℕ) (x : X) → xs ≡ ys → i < length ys → x ≡ get_or xs i x → slice_get ys i ≡ Some x

@@ -2,9 +2,9 @@ use Rattle.std.proofs.Common.{◌≡◌, length, map, take}
 use Rattle.std.specs.List.{All}
 use Rattle.dev_traits.specs.Told.{WhereTold}
 use Rattle.job_plan.specs.declared.plan.StayPlan.{StayPlan}
-use Rattle.scan_values.specs.Values.{IsOfWindow}
-use Rattle.scan_values.proofs.ValuesLemmas.{AreOfStays}
-use Rattle.scan_values.proofs.values.ScanValues.load.Given as goal
+use Rattle.station_stream.specs.Stream.{IsOfWindow}
+use Rattle.plain_sums.proofs.ValuesLemmas.{AreOfStays}
+use Rattle.plain_sums.proofs.values.ScanValues.load.Given as goal
 
 abbrev pub invariant-loop-stay : goal.invariant-loop-stay
 invariant-loop-stay g l = record {

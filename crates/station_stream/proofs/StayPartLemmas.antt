@@ -29,7 +29,7 @@ use Rattle.station_stream.specs.declared.part.StationPart.{StationPart}
 use Rattle.station_stream.specs.declared.recording.Recording.{Recording}
 use Rattle.station_stream.specs.Part.{chan_at, part_value, timing_of as part_timing, IsIndexed, IsRecordingOf, IsNamedBy}
 use Rattle.station_stream.specs.Ranges.{IsChanOf}
-use Rattle.scan_values.specs.Parts.{chan_with, chan_of, IsPartOf}
+use Rattle.station_stream.specs.StayParts.{chan_with, chan_of, IsPartOf}
 
 -- an item that may be none, none past the list's end
 abbrev item_at : {X : Type 0} → List (Option X) → ℕ → Option X

@@ -2,8 +2,8 @@ use Rattle.std.proofs.Common.{◌≡◌, ◌<◌, ℕ, None, length, get_or}
 use Rattle.std.specs.List.{All}
 use Rattle.std.specs.Option.{ForSome}
 use Rattle.station_stream.specs.Ranges.{IsChanOf}
-use Rattle.scan_values.specs.Parts.{chan_of}
-use Rattle.scan_values.proofs.parts.chans_of.Given as goal
+use Rattle.station_stream.specs.StayParts.{chan_of}
+use Rattle.station_stream.proofs.stay_part.chans_of.Given as goal
 
 abbrev pub invariant-loop-i : goal.invariant-loop-i
 invariant-loop-i l = record {

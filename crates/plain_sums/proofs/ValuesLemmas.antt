@@ -1,7 +1,6 @@
 -- The values of a scan by the place of the station are those by its number.
-use Rattle.std.proofs.Common.{◌≡◌, ℕ, ◌+◌, ◌==◌, ◌≤◌, ℤ, pos, ◌≤ℤ◌, ◌<ℤ◌, int_le, int_lt, Bool, true, false, cond, ◌&&◌, ◌⊎◌, ⊎_elim, List, [], ◌∷◌, ◌++◌, length, map, take, Option, Some, None, is_some, option_and_then, refl, ap, subst, sym, ◌∙◌, arith}
+use Rattle.std.proofs.Common.{◌≡◌, ℕ, ◌+◌, ◌==◌, ◌≤◌, ℤ, pos, ◌≤ℤ◌, ◌<ℤ◌, int_le, int_lt, Bool, true, false, cond, ◌&&◌, ◌⊎◌, ⊎_elim, List, [], ◌∷◌, ◌++◌, length, map, take, Option, Some, None, option_and_then, refl, ap, subst, sym, ◌∙◌, arith}
 use Rattle.std.specs.List.{All, slice_get, find, position}
-use Rattle.std.proofs.lemmas.Bool.Decides.{nat_tests}
 use Rattle.std.proofs.lemmas.Int.{ints}
 use Rattle.std.proofs.lemmas.List.{map_push, take_all}
 use Rattle.std.proofs.lemmas.Option.{slice_get_within, get_or_from_slice_get}
@@ -12,11 +11,9 @@ use Rattle.frame_index.proofs.ToldLemmas.{WhereTold-both, WhereTold-weaker}
 use Rattle.job_plan.specs.declared.plan.Plan.{Plan}
 use Rattle.job_plan.specs.declared.plan.StayPlan.{StayPlan}
 use Rattle.job_plan.specs.declared.plan.ScanPlan.{ScanPlan}
-use Rattle.job_plan.specs.Values.{stay_of, stay_value, rotated}
-use Rattle.station_stream.specs.Stream.{StreamFields, stream_value}
-use Rattle.station_stream.specs.Stream.{windowed}
-use Rattle.scan_values.specs.Values.{IsOfWindow}
-use Rattle.scan_values.proofs.PlaceLemmas.{option_and_then-map, option_and_then-position, option_and_then-none, is_some-find, take-next}
+use Rattle.job_plan.specs.Values.{stay_value, rotated}
+use Rattle.station_stream.specs.Stream.{StreamFields, IsOfWindow, stream_value, windowed}
+use Rattle.plain_sums.proofs.PlaceLemmas.{option_and_then-map, option_and_then-position, option_and_then-none, take-next}
 
 -- the values of a scan's streams: those of the stations' numbers, in their order
 abbrev pub values_in : List ℕ → List StreamFields → Samples
@@ -42,17 +39,6 @@ pub values_in-place : (stations : List ℕ) (streams : List StreamFields) (stati
 values_in-place stations streams station chan place n s there at =
     ap (option_and_then (λ (i : ℕ). option_and_then (λ (t : StreamFields). windowed t chan n) (slice_get streams i))) there
     ∙ ap (option_and_then (λ (t : StreamFields). windowed t chan n)) at
-
--- inside the window
-pub windowed-inside : (s : StreamFields) (from to : ℕ) (chan : ℕ) (n : ℤ)
-    → IsOfWindow from to s → pos from ≤ℤ n → n <ℤ pos to → windowed s chan n ≡ stream_value s chan n
-windowed-inside s from to chan n is begun under =
-    let begins : s.from ≡ pos from = is.begin in
-    let ends : s.to ≡ pos to = is.end in
-    let first : int_le s.from n ≡ true = grind (arith, ints) in
-    let last : int_lt n s.to ≡ true = grind (arith, ints) in
-    ap (λ (b : Bool). cond (b && int_lt n s.to) (stream_value s chan n) None) first
-    ∙ ap (λ (b : Bool). cond b (stream_value s chan n) None) last
 
 -- outside of the window
 cond-and_false : (b : Bool) (value : Value) → cond (b && false) value None ≡ None
@@ -81,12 +67,6 @@ values_in-outside stations streams from to each station chan n outside =
     (λ i _. option_and_then-none (λ (s : StreamFields). windowed s chan n) (slice_get streams i)
     (λ s at. let is : IsOfWindow from to s = subst (IsOfWindow from to) (get_or_from_slice_get streams i s s at) (each i s (slice_get_within streams i s at)) in
     ⊎_elim (windowed-before s from to chan n is) (windowed-past s from to chan n is) outside))
-
--- a station of the scan's stays stands in the scan
-pub is_some-stay_of : (scan : ScanPlan) (i : ℕ) (stay : StayPlan) → slice_get scan.stays i ≡ Some stay → is_some (stay_of scan stay.station) ≡ true
-is_some-stay_of scan i stay at =
-    let same : (stay.station == stay.station) ≡ true = grind (arith, nat_tests) in
-    is_some-find (λ (s : StayPlan). s.station == stay.station) scan.stays i stay at same
 
 -- the numbers of one stay more
 pub stations-push : (stays : List StayPlan) (i : ℕ) (stay : StayPlan) (stations : List ℕ)

@@ -2,9 +2,10 @@ use Rattle.std.proofs.Common.{◌∙◌, refl, ap, sym, arith, rules}
 use Rattle.std.specs.List.{slice_get}
 use Rattle.std.proofs.lemmas.List.Elements.{All-push}
 use Rattle.std.proofs.lemmas.Option.{slice_get_read}
-use Rattle.scan_values.specs.Values.{IsOfWindow}
-use Rattle.scan_values.proofs.ValuesLemmas.{is_some-stay_of, stations-push, AreOfStays-push, stations-all, values_in-rotated, values_in-outside}
-use Rattle.scan_values.proofs.values.ScanValues.load.Goals as goal
+use Rattle.station_stream.specs.Stream.{IsOfWindow}
+use Rattle.station_stream.proofs.StayLemmas.{is_some-stay_of}
+use Rattle.plain_sums.proofs.ValuesLemmas.{stations-push, AreOfStays-push, stations-all, values_in-rotated, values_in-outside}
+use Rattle.plain_sums.proofs.values.ScanValues.load.Goals as goal
 
 pub stay_stream-requires-clause-stands : goal.stay_stream-requires-clause-stands
 stay_stream-requires-clause-stands g c =

@@ -4,8 +4,8 @@ use Rattle.std.proofs.lemmas.List.Quantifiers.{position-Some}
 use Rattle.std.proofs.lemmas.Int.{to_z-of_z}
 use Rattle.std.proofs.lemmas.Option.{slice_get_read}
 use Rattle.station_stream.specs.Stream.{windowed}
-use Rattle.scan_values.proofs.ValuesLemmas.{values_in-place}
-use Rattle.scan_values.proofs.values.ScanValuesValues.z.Goals as goal
+use Rattle.plain_sums.proofs.ValuesLemmas.{values_in-place}
+use Rattle.plain_sums.proofs.values.ScanValuesValues.z.Goals as goal
 
 pub returns-in-Some-clause-value : goal.returns-in-Some-clause-value
 returns-in-Some-clause-value c =

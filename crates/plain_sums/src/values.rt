@@ -8,28 +8,27 @@ ghost use Rattle.job_plan.specs.Values.{rotated};
 ghost use Rattle.station_stream.specs.Faults.{CountsReads};
 ghost use Rattle.station_stream.specs.Recorded.{AreNamed, AreRecorded};
 
-use crate::stays::stay_stream;
 use corr_model::Values;
 use dev_traits::Shelf;
 use job_plan::{Plan, ScanPlan};
-use station_stream::{Recording, Stream, StreamFault};
+use station_stream::{Recording, Stream, StreamFault, stay_stream};
 use std::alloc::Global;
 
 /// The values of a scan's stations at the samples from one up to, not including, another: the numbers of the stations that
 /// stand in the scan, and the stream of each.
 #[derive(Drop)]
-pub struct ScanValues {
+pub(crate) struct ScanValues {
     stations: Vec<u32>,
     streams: Vec<Stream>,
     ghost each: { length streams.items ≡ length stations.items },
 }
 
 impl ScanValues {
-    ghost use Rattle.scan_values.specs.Values.{values_of};
+    ghost use Rattle.plain_sums.specs.Values.{values_of};
 
     /// Reads the values of a scan's stations at the samples from `from` up to, not including, `to`. `recordings` are those of
     /// the plan's stations, in their order.
-    pub fn load<F: Shelf>(
+    pub(crate) fn load<F: Shelf>(
         alloc: Global,
         shelf: &mut F,
         plan: &Plan,
@@ -73,7 +72,7 @@ impl ScanValues {
 }
 
 impl Values for ScanValues {
-    ghost use Rattle.scan_values.specs.Values.{values_of};
+    ghost use Rattle.plain_sums.specs.Values.{values_of};
 
     ghost samples = { values_of };
 

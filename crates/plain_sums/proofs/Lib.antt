@@ -1,3 +1,5 @@
+pub mod PlaceLemmas
+pub mod ValuesLemmas
 pub mod AddLemmas
 pub mod ReachLemmas
 pub mod SumLemmas

@@ -1,9 +1,11 @@
-//! The cells of one integration of a scan, on one thread, from the values of one epoch after another. It stands on `scan_values`
-//! for the values, on `lag_kernel` for the cells of an epoch, and on `job_epochs` for what epochs add up to. The cells are those of
-//! the definition, and no more values are in memory than those of an epoch and of the samples that its lags reach.
+//! The cells of one integration of a scan, on one thread, from the values of one epoch after another. It stands on
+//! `station_stream` for the values of a station, on `lag_kernel` for the cells of an epoch, and on `job_epochs` for what epochs
+//! add up to. The cells are those of the definition, and no more values are in memory than those of an epoch and of the samples
+//! that its lags reach.
 #![tactic(auto)]
 
 mod records;
 mod sums;
+mod values;
 
 pub use sums::sum_integration;

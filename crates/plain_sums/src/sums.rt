@@ -11,10 +11,10 @@ ghost use Rattle.station_stream.specs.Faults.{CountsReads};
 ghost use Rattle.station_stream.specs.Recorded.{AreNamed, AreRecorded};
 
 use crate::records::add_range;
+use crate::values::ScanValues;
 use corr_model::Cell;
 use dev_traits::Shelf;
 use job_plan::{Plan, ScanPlan};
-use scan_values::ScanValues;
 use station_stream::{Recording, StreamFault};
 use std::alloc::Global;
 

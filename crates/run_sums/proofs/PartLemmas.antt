@@ -14,8 +14,7 @@ use Rattle.bit_planes.specs.Planes.{PlanesFields}
 use Rattle.job_plan.specs.declared.plan.StayPlan.{StayPlan}
 use Rattle.job_plan.specs.declared.plan.ScanPlan.{ScanPlan}
 use Rattle.job_plan.specs.declared.plan.Plan.{Plan}
-use Rattle.station_stream.specs.Stream.{StreamFields, stream_value, windowed}
-use Rattle.scan_values.specs.Values.{IsOfWindow}
+use Rattle.station_stream.specs.Stream.{StreamFields, IsOfWindow, stream_value, windowed}
 use Rattle.epoch_run.specs.Planes.{IsOfRange, AreOfRange, HaveRange, IsPartOf, planed}
 use Rattle.run_sums.specs.Parts.{HoldsPart, HoldPart, HoldParts, HaveNone, AreSameBeside}
 

@@ -13,3 +13,5 @@ pub mod PartLemmas
 pub mod TakenLemmas
 pub mod RunLemmas
 pub mod TurnLemmas
+pub mod StayPartLemmas
+pub mod StayLemmas

@@ -1,6 +1,7 @@
 pub mod Ranges
 pub mod Part
 pub mod Recorded
+pub mod StayParts
 pub mod Stream
 pub mod Window
 pub mod Faults

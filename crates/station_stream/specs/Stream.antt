@@ -1,5 +1,5 @@
 -- The values of a station's channels in a window of a scan.
-use Rattle.std.specs.Prelude.{◌≡◌, ◌≢◌, ℕ, ℤ, ◌-ℤ◌, unsigned_abs, ◌⊎◌, int_le, int_lt, ◌&&◌, List, [], length, None, slice_index_or, Vec, if◌then◌else◌}
+use Rattle.std.specs.Prelude.{◌≡◌, ◌≢◌, ℕ, ℤ, pos, ◌-ℤ◌, unsigned_abs, ◌⊎◌, int_le, int_lt, ◌&&◌, List, [], length, None, slice_index_or, Vec, if◌then◌else◌}
 use Rattle.std.specs.Global.{Global}
 use Rattle.std.specs.List.{All}
 use Rattle.corr_model.specs.Cell.{Value}
@@ -18,6 +18,11 @@ stream_value s chan n = slice_index_or (slice_index_or s.values chan []) (unsign
 -- the same, none outside the window
 abbrev pub windowed : StreamFields → ℕ → ℤ → Value
 windowed s chan n = if int_le s.from n && int_lt n s.to then stream_value s chan n else None
+
+-- a stream of the samples from `from` up to, not including, `to`
+pub record IsOfWindow (from to : ℕ) (s : StreamFields) : Type 0 where
+  pub begin : s.from ≡ pos from
+  pub end : s.to ≡ pos to
 
 -- a component of a level of one or two bits turned by a sector: its magnitude is 0, 1 or 3
 abbrev pub IsLevelPart : ℤ → Type 0

@@ -4,7 +4,7 @@ use Rattle.frame_index.proofs.ToldLemmas.{WhereTold-weaker}
 use Rattle.job_plan.specs.Values.{rotated}
 use Rattle.job_epochs.specs.Sums.{range_cells}
 use Rattle.job_epochs.specs.Added.{add_cells}
-use Rattle.scan_values.specs.Values.{values_of}
+use Rattle.plain_sums.specs.Values.{values_of}
 use Rattle.plain_sums.proofs.ReachLemmas.{range_cells-same}
 use Rattle.plain_sums.proofs.sums.add_epoch.Goals as goal
 

@@ -21,9 +21,9 @@ use Rattle.vis_writer.specs.Texts.{scans_text}
 use Rattle.vis_writer.specs.Writes.{Appended, Writes, SinkCounts, SourceGoes, of_sink}
 use Rattle.vis_writer.proofs.FileLemmas.{file-head, file-records, file-all}
 use Rattle.vis_writer.proofs.WritesLemmas.{where_then}
-use Rattle.run_notes.specs.declared.refusal.Refusal.{Refusal}
-use Rattle.run_notes.specs.declared.refusal.Refusal.TheVariants.{Memory}
-use Rattle.run_notes.specs.Counted.{CountsJournal, CountsWrites}
+use Rattle.run_records.specs.declared.fault.EmitFault.{EmitFault}
+use Rattle.run_records.specs.declared.fault.EmitFault.TheVariants.{Memory}
+use Rattle.run_records.specs.Counted.{CountsJournal, CountsWrites}
 use Rattle.run_records.specs.Kept.{kept_cells, kept_text, Grows, WritesKept}
 use Rattle.run_records.specs.Refused.{IsOfRecords, answer_with}
 use Rattle.run_records.specs.Store.{Store, StandsAt, KeepsAll, Rests, Stays, Fails, WritesCells, bodies_on, head_at, cells_on}
@@ -97,7 +97,7 @@ answered kept old new text (Ok x) a = record { all = a.all; part = tt }
 answered kept old new text (Err fault) a = record { all = tt; part = a.part }
 
 -- before the first byte
-pub kept-refused : (id : List ℕ) (plan : Plan) (job : JobSizes) (kept : ℕ) (seen told : Option (List ℕ)) (result : Result (Unit {0}) Refusal)
+pub kept-refused : (id : List ℕ) (plan : Plan) (job : JobSizes) (kept : ℕ) (seen told : Option (List ℕ)) (result : Result (Unit {0}) EmitFault)
     → job ≡ sizes_of plan → result ≡ Err Memory
     → WhereTold seen (Keeps id (body_sizes job) kept)
     → WhereTold seen (λ image. WritesKept id plan image told told result)
@@ -107,7 +107,7 @@ kept-refused id plan job kept seen told result same is keeps =
       bodies = k.bodies;
       reads = subst (λ (j : JobSizes). reading id (body_sizes j) image ≡ Some k.bodies) same k.reads;
       appended =
-          subst (λ (r : Result (Unit {0}) Refusal). Appended told (kept_text plan k.bodies) told r) (sym is)
+          subst (λ (r : Result (Unit {0}) EmitFault). Appended told (kept_text plan k.bodies) told r) (sym is)
           (record { all = tt; part = PrefixMore-none told told (kept_text plan k.bodies) refl });
     }) keeps
 

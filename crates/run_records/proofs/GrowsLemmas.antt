@@ -7,8 +7,8 @@ use Rattle.checkpoint_journal.specs.declared.fault.ReadFault.{ReadFault}
 use Rattle.vis_records.specs.declared.writer.SinkFault.{SinkFault}
 use Rattle.vis_records.specs.declared.writer.SinkFault.TheVariants.{Sink}
 use Rattle.vis_writer.specs.Writes.{Appended, of_sink}
-use Rattle.run_notes.specs.declared.refusal.Refusal.{Refusal}
-use Rattle.run_notes.specs.declared.refusal.Refusal.TheVariants.{Memory}
+use Rattle.run_records.specs.declared.fault.EmitFault.{EmitFault}
+use Rattle.run_records.specs.declared.fault.EmitFault.TheVariants.{Memory}
 use Rattle.run_records.specs.Kept.{Grows}
 
 pub grows-none : {E : Type 0} (told : Option (List ℕ)) → Grows {T = Unit {0}} {E = E} told told (Ok tt)
@@ -48,5 +48,5 @@ grows-sunk (Ok x) text old new faults now one = (text, record { all = one.ok; pa
 grows-sunk (Err Sink) text old new faults now one = (text, record { all = tt; part = one.prefix })
 
 -- a call that was refused before it began
-pub grows-refused : (told : Option (List ℕ)) (r : Result (Unit {0}) Refusal) → r ≡ Err Memory → Grows told told r
-grows-refused told r is = subst (λ (q : Result (Unit {0}) Refusal). Grows told told q) (sym is) (grows-failed {T = Unit {0}} told Memory)
+pub grows-refused : (told : Option (List ℕ)) (r : Result (Unit {0}) EmitFault) → r ≡ Err Memory → Grows told told r
+grows-refused told r is = subst (λ (q : Result (Unit {0}) EmitFault). Grows told told q) (sym is) (grows-failed {T = Unit {0}} told Memory)

@@ -3,8 +3,10 @@
 //! cells of one integration and of one epoch are in memory.
 #![tactic(auto)]
 
+mod fault;
 pub mod laws;
 mod sums;
 mod writer;
 
+pub use fault::EmitFault;
 pub use writer::emit;

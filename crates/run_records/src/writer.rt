@@ -12,11 +12,12 @@ ghost use Rattle.checkpoint_journal.specs.Standing.{Stands, StandsOn};
 ghost use Rattle.checkpoint_journal.specs.Runs.{Looks};
 ghost use Rattle.vis_writer.specs.Cells.{all_cells, widest};
 ghost use Rattle.vis_writer.specs.Texts.{integration_at, scans_text, text_at};
-ghost use Rattle.run_notes.specs.Counted.{CountsJournal, CountsWrites};
+ghost use Rattle.run_records.specs.Counted.{CountsJournal, CountsWrites};
 ghost use Rattle.run_records.specs.Kept.{Grows, WritesKept};
-ghost use Rattle.run_records.specs.Refused.{IsOfRecords, answer_with, refusal_of};
+ghost use Rattle.run_records.specs.Refused.{IsOfRecords, answer_with, fault_of};
 ghost use Rattle.run_records.specs.Store.{store, IsCut, KeepsAll, WritesCells, epochs_until};
 
+use crate::EmitFault;
 use crate::sums::{sum_integration, width_of};
 use checkpoint_journal::{Journal, ReadFault};
 use corr_model::Cell;
@@ -24,7 +25,6 @@ use dev_traits::{Disk, Sink};
 use job_plan::{Plan, ScanPlan};
 use piece_plan::JobPlan;
 use ready_job::Ready;
-use run_notes::Refusal;
 use std::alloc::Global;
 use vis_records::{VisHead, write_end, write_head};
 use vis_writer::{WriteFault, head_of_plan, record_count, sunk, widest, write_integration_at};
@@ -37,7 +37,7 @@ pub fn emit<D: Disk, S: Sink>(
     journal: &mut Journal,
     disk: &mut D,
     out: &mut S,
-) -> Result<(), Refusal>
+) -> Result<(), EmitFault>
     requires stands { StandsOn ready.now.epochs journal.old (D.seen disk.old) (D.may_leave disk.old (D.moment disk.old)) }
     requires all { journal.old.kept ≡ length (epochs_of ready.now.epochs) }
     ensures written { (id : List ℕ) → Stands id ready.now.epochs journal.old (D.seen disk.old) (D.may_leave disk.old (D.moment disk.old))
@@ -69,22 +69,22 @@ pub fn emit<D: Disk, S: Sink>(
 }
 
 // The answer of a call that wrote a file from a journal of so many epochs.
-fn answer(kept: u64, written: Result<(), WriteFault<ReadFault>>) -> Result<(), Refusal>
+fn answer(kept: u64, written: Result<(), WriteFault<ReadFault>>) -> Result<(), EmitFault>
     ensures { result ≡ answer_with kept written }
 {
     match written {
         Ok(()) => Ok(()),
-        Err(fault) => Err(refusal_of(kept, fault)),
+        Err(fault) => Err(fault_of(kept, fault)),
     }
 }
 
-// The refusal of a fault.
-fn refusal_of(kept: u64, fault: WriteFault<ReadFault>) -> Refusal
-    ensures { result ≡ refusal_of kept fault }
+// Why the writing ended, by the fault of such a call.
+fn fault_of(kept: u64, fault: WriteFault<ReadFault>) -> EmitFault
+    ensures { result ≡ fault_of kept fault }
 {
     match fault {
-        WriteFault::Source(ReadFault::Disk) => Refusal::Journal(Some(kept)),
-        WriteFault::Sink => Refusal::Write,
+        WriteFault::Source(ReadFault::Disk) => EmitFault::Journal(kept),
+        WriteFault::Sink => EmitFault::Write,
     }
 }
 

@@ -4,8 +4,8 @@ use Rattle.job_plan.specs.declared.plan.Plan.{Plan}
 use Rattle.job_plan.specs.Ranges.{IsPlan}
 use Rattle.job_plan.specs.Output.{head_of}
 use Rattle.job_epochs.specs.Sizes.{sizes_of}
-use Rattle.run_notes.specs.declared.refusal.Refusal.{Refusal}
-use Rattle.run_notes.specs.declared.refusal.Refusal.TheVariants.{Memory}
+use Rattle.run_records.specs.declared.fault.EmitFault.{EmitFault}
+use Rattle.run_records.specs.declared.fault.EmitFault.TheVariants.{Memory}
 use Rattle.run_records.specs.Kept.{Grows, WritesKept}
 use Rattle.run_records.specs.Store.{store, KeepsAll}
 use Rattle.run_records.proofs.GrowsLemmas.{grows-refused}
@@ -32,14 +32,14 @@ returns-clause-written g c = λ id stands.
     (c.args.ready.now.cut ∙ ap sizes_of (sym c.plan-plan.ensures.same)) id stands in
     subst (λ (p : Plan). WhereTold (g.D.Disk.seen c.args.disk.now) (λ image. WritesKept id p image (g.S.Sink.told c.args.out.now) (g.S.Sink.told c.write_file-written.new.out) c.answer.result))
     c.plan-plan.ensures.same
-    (subst (λ (r : Result (Unit {0}) Refusal). WhereTold (g.D.Disk.seen c.args.disk.now) (λ image. WritesKept id c.plan-plan.result.now image (g.S.Sink.told c.args.out.now) (g.S.Sink.told c.write_file-written.new.out) r))
+    (subst (λ (r : Result (Unit {0}) EmitFault). WhereTold (g.D.Disk.seen c.args.disk.now) (λ image. WritesKept id c.plan-plan.result.now image (g.S.Sink.told c.args.out.now) (g.S.Sink.told c.write_file-written.new.out) r))
     (sym c.answer.ensures) file)
 
 pub returns-clause-grows : goal.returns-clause-grows
 returns-clause-grows g c =
     let keeps : KeepsAll c.args.ready.now.epochs c.args.journal.now (g.D.Disk.seen c.args.disk.now) (g.D.Disk.may_leave c.args.disk.now (g.D.Disk.moment c.args.disk.now)) =
     record { stands = c.requires.stands; all = c.requires.all } in
-    subst (λ (r : Result (Unit {0}) Refusal). Grows (g.S.Sink.told c.args.out.now) (g.S.Sink.told c.write_file-written.new.out) r) (sym c.answer.ensures)
+    subst (λ (r : Result (Unit {0}) EmitFault). Grows (g.S.Sink.told c.args.out.now) (g.S.Sink.told c.write_file-written.new.out) r) (sym c.answer.ensures)
     (file-grows _ _ _ _ c.plan-plan.result.now c.args.ready.now.epochs _ (store c.args.journal.now c.args.disk.now) _ _ _ _ _ c.write_file-written.result
     c.write_file-written.ensures keeps c.kept-kept.result)
 

@@ -22,10 +22,9 @@ use Rattle.run_notes.specs.Refusals.{Outcomes}
 use Rattle.run_ready.specs.Outcome.{PlanOf}
 use Rattle.run_ready.specs.Identities.{identity_under}
 use Rattle.run_journal.specs.Extended.{IsSummed, AreFrom, Extends}
-use Rattle.run_journal.specs.Refused.{IsRefusedFor, KeepsNamed}
 use Rattle.run_records.specs.Kept.{WritesKept, kept_text}
-use Rattle.run_records.specs.Refused.{IsOfRecords}
 use Rattle.vis_writer.specs.Writes.{Appended}
+use Rattle.vlbi_core.specs.Engine.{IsRefusedFor, KeepsNamed, IsOfRecords}
 use Rattle.vlbi_core.specs.Calls.{Call, Task, OfJob, identity_for, sizes_for, bodies_for, kept_for}
 use Rattle.vlbi_core.specs.Texts.{IsSums, IsPart, IsRecords, epochs_for}
 use Rattle.vlbi_core.specs.Restart.{IsHonest}

@@ -17,25 +17,15 @@ use Rattle.run_notes.specs.declared.refusal.Refusal.TheVariants.{Memory, Words, 
 use Rattle.run_notes.specs.Refusals.{Outcomes}
 use Rattle.run_ready.specs.Outcome.{SurveyOf}
 use Rattle.run_ready.specs.Identities.{identity_under}
-use Rattle.run_journal.specs.Refused.{IsRefusedFor}
 use Rattle.run_summary.specs.Summaries.{kept_line}
 use Rattle.vlbi_core.specs.Calls.{Call, Task, OfJob, bodies_for, kept_for, is_run}
 use Rattle.vlbi_core.specs.Texts.{epochs_for}
 use Rattle.vlbi_core.specs.Faults.{written_with}
-use Rattle.vlbi_core.specs.Steps.{OutcomeFrom, IsBehindWords, IsUnnumbered, IsLookedFor, IsCauseOf, IsPartly, Does, MatchDue, MatchVerdict, Leaves, IsStatusOrder, looked}
+use Rattle.vlbi_core.specs.Steps.{OutcomeFrom, IsBehindWords, IsUnnumbered, IsLookedFor, IsCauseOf, IsPartly, Does, MatchDue, MatchVerdict, Leaves, IsStatusOrder}
 use Rattle.vlbi_core.proofs.ExtendLemmas.{kept-of}
 use Rattle.vlbi_core.proofs.CommandLemmas.{call_of, planned, one-job, not_both, is_some_at}
 
 -- ---- looks at the journal
-
-pub looked-for : (id sizes : List ℕ) (before after : Option (List ℕ)) (r : Refusal) → IsRefusedFor id sizes before after r → IsLookedFor id sizes before (looked r)
-looked-for id sizes before after Memory of = tt
-looked-for id sizes before after (Words fault) of = absurd of
-looked-for id sizes before after (DueRefusal due) of = absurd of
-looked-for id sizes before after (Other d) of = of.0
-looked-for id sizes before after Read of = tt
-looked-for id sizes before after (Journal kept) of = tt
-looked-for id sizes before after Write of = absurd of
 
 pub looked-behind : (id sizes : List ℕ) (before : Option (List ℕ)) (r : Refusal) → IsLookedFor id sizes before r → IsBehindWords r
 looked-behind id sizes before Memory of = tt

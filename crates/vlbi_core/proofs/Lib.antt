@@ -3,6 +3,7 @@ pub mod OrderLemmas
 pub mod ExtendLemmas
 pub mod RecordFileLemmas
 pub mod CommandLemmas
+pub mod EngineLemmas
 pub mod JournalLemmas
 pub mod CorrelationLemmas
 pub mod TopLemmas

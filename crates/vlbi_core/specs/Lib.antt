@@ -6,4 +6,5 @@ pub mod Texts
 pub mod Run
 pub mod Restart
 pub mod Steps
+pub mod Engine
 pub mod Histories

@@ -170,14 +170,6 @@ IsLookedFor id sizes before (Other d) = WhereTold before (λ image. IsOther id s
 IsLookedFor id sizes before (Journal None) = ⊤
 IsLookedFor id sizes before _ = ⊥
 
--- a fault of the journal without its number; what a look is never refused for becomes want of memory
-abbrev pub looked : Refusal → Refusal
-looked (Words fault) = DueRefusal due
-looked (DueRefusal due) = DueRefusal due
-looked (Other d) = DueRefusal due
-looked (Journal kept) = Journal None
-looked _ = Memory
-
 -- ---- causes
 
 -- A journal that a task went on from, where it uses one: what a read gave is blank or of the job's form.

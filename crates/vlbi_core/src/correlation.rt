@@ -7,11 +7,10 @@ ghost use Rattle.run_ready.specs.Outcome.{job_names, PlanOf};
 ghost use Rattle.vlbi_core.specs.Calls.{is_run};
 ghost use Rattle.vlbi_core.specs.Steps.{IsWork, IsRunOrder, IsBehindWords, IsPlanned, Does, Leaves};
 
+use crate::engine::{emit, resume};
 use dev_traits::{Disk, Gate, Shelf, Sink};
-use run_journal::resume;
 use run_notes::Refusal;
 use run_ready::prepare;
-use run_records::emit;
 use run_records::laws::sums_make_the_output;
 use run_words::Order;
 use std::alloc::Global;

@@ -10,6 +10,7 @@
 
 mod check;
 mod correlation;
+mod engine;
 pub mod laws;
 mod order;
 mod plain;
@@ -18,4 +19,6 @@ mod status;
 mod sure_shelf;
 mod top;
 
+pub use engine::{correlate, emit, resume};
+pub use run_ready::prepare;
 pub use top::run;

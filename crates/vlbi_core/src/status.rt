@@ -7,11 +7,12 @@ ghost use Rattle.checkpoint_journal.specs.Runs.{Looks};
 ghost use Rattle.run_words.specs.Orders.{AreTexts};
 ghost use Rattle.run_notes.specs.Counted.{CountsReads, CountsJournal, CountsWrites};
 ghost use Rattle.run_ready.specs.Outcome.{job_names};
-ghost use Rattle.vlbi_core.specs.Steps.{IsStatusOrder, IsLookedFor, IsBehindWords, IsUnnumbered, Does, Leaves, looked};
+ghost use Rattle.vlbi_core.specs.Steps.{IsStatusOrder, IsLookedFor, IsBehindWords, IsUnnumbered, Does, Leaves};
 
 use crate::check::written;
+use crate::engine::opening_refusal;
+use checkpoint_journal::Journal;
 use dev_traits::{Disk, Shelf, Sink};
-use run_journal::look;
 use run_notes::Refusal;
 use run_ready::{Survey, survey};
 use run_summary::write_kept;
@@ -50,19 +51,8 @@ fn kept_epochs<D: Disk>(alloc: Global, survey: &Survey, journal: &mut D) -> Resu
     ensures looks { Looks D.seen D.moment D.may_leave journal.old journal.new }
     ensures counts { CountsJournal (D.faults journal.old) (D.faults journal.new) result }
 {
-    match look(alloc, journal, &survey.identity, &survey.epochs) {
+    match Journal::look(alloc, journal, &survey.identity, &survey.epochs) {
         Ok(kept) => Ok(kept),
-        Err(refusal) => Err(looked(refusal)),
-    }
-}
-
-// The refusal of a look: it names no epochs, and reads no recording.
-fn looked(refusal: Refusal) -> Refusal
-    ensures { result ≡ looked refusal }
-{
-    match refusal {
-        Refusal::Due(due) => Refusal::Due(due),
-        Refusal::Journal(_) => Refusal::Journal(None),
-        _ => Refusal::Memory,
+        Err(fault) => Err(opening_refusal(fault)),
     }
 }

@@ -27,20 +27,21 @@ use Rattle.vis_records.specs.Dumped.{dump_text}
 use Rattle.run_dump.specs.Shown.{RecordsOf, Shows, IsOfFilesOrOutput as ShowsStage}
 use Rattle.sample_job.specs.Sample.{SampleOf}
 use Rattle.vlbi_core.specs.Sample.{sample_text}
-use Rattle.vlbi_core.specs.Calls.{Call, Task, OfJob, OfRecords, PlanFor, JobFor, TaskFor, is_run, uses_journal}
-use Rattle.vlbi_core.specs.Texts.{IsText, IsPart}
+use Rattle.vlbi_core.specs.Calls.{Call, Task, OfJob, OfText, JobFor, TextFor, TaskFor, is_run}
+use Rattle.vlbi_core.specs.Texts.{IsPart}
 use Rattle.vlbi_core.specs.Faults.{written_with}
-use Rattle.vlbi_core.specs.Steps.{OutcomeFrom, IsOfWords, IsBehindWords, IsPartOf, IsPartlyOf, Tells, IsOfFilesOrOutput, MatchDue, MatchEarly, IsCheckOrder, IsPlainOrder, IsOpened, IsCauseOf, IsPartly, Does, MatchVerdict, Leaves, IsRunOrder, IsStatusOrder}
+use Rattle.vlbi_core.specs.Steps.{OutcomeFrom, IsOfWords, IsBehindWords, IsUnnumbered, IsPartOf, IsPartlyOf, Tells, IsOfFilesOrOutput, MatchDue, MatchEarly, IsCauseOf, IsPartly, Does, MatchVerdict, Leaves, IsRunOrder, IsStatusOrder}
 
 abbrev pub call_of : Order → Plan → Call
 call_of order plan = record { order = order; plan = plan }
 
--- an order of a job
-abbrev pub IsJobOf : Files → Order → Type 0
-IsJobOf files order = (o : Result Task Answer) → JobFor files order o → TaskFor files order o
+-- an order of a job and its journal, by the plans that its files come to
+abbrev pub IsJobOf : Files → Order → Outcomes Plan → Type 0
+IsJobOf files order plans = (o : Result Task Answer) → JobFor order plans o → TaskFor files order o
 
-pub planned : (files : Files) (order : Order) (plan : Plan) → IsJobOf files order → PlanFor files order (Ok plan) → OutcomeFrom (Ok order) files (Ok (OfJob (call_of order plan)))
-planned files order plan of_job there = (order, refl, of_job (Ok (OfJob (call_of order plan))) (refl, there))
+pub planned : (files : Files) (order : Order) (plans : Outcomes Plan) (plan : Plan) → IsJobOf files order plans → plans (Ok plan)
+    → OutcomeFrom (Ok order) files (Ok (OfJob (call_of order plan)))
+planned files order plans plan of_job there = (order, refl, of_job (Ok (OfJob (call_of order plan))) (refl, there))
 
 pub not_both : (b : Bool) → b ≡ true → b ≡ false → ⊥
 not_both b first second = cc
@@ -48,17 +49,9 @@ not_both b first second = cc
 pub one-job : (a b : Call) → OfJob a ≡ OfJob b → a ≡ b
 one-job a b same = cc
 
--- a task that leaves the journal alone
-abbrev pub IsAlone : Task → Type 0
-IsAlone (OfJob call) = (uses_journal call.order ≡ false) × (is_run call.order ≡ false)
-IsAlone (OfRecords content) = Unit {0}
-
-opened-alone : (files : Files) (task : Task) (before : Option (List ℕ)) → IsAlone task → IsOpened files task before
-opened-alone files (OfJob call) before alone = λ uses. absurd (not_both (uses_journal call.order) uses alone.0)
-opened-alone files (OfRecords content) before alone = tt
-
-alone-not : (task : Task) (call : Call) → IsAlone task → task ≡ OfJob call → is_run call.order ≡ true → ⊥
-alone-not task call alone same run = not_both (is_run call.order) run (subst IsAlone same alone).1
+-- a text is no job
+no-job : (text : List ℕ) (call : Call) → OfText text ≡ OfJob call → ⊥
+no-job text call same = cc
 
 -- ---- counts
 
@@ -81,9 +74,32 @@ run-not-alone (Status job vex) run alone = run
 run-not-alone (Dump file) run alone = run
 run-not-alone (Gen seed seconds workers piece) run alone = run
 
+-- ---- numbers of epochs
+
+-- a command that leaves the journal alone names none
+pub files-unnumbered : (result : Result (Unit {0}) Refusal) → IfErr result IsOfFilesOrOutput → IfErr result IsUnnumbered
+files-unnumbered (Ok x) stage = tt
+files-unnumbered (Err Memory) stage = tt
+files-unnumbered (Err (Words fault)) stage = absurd stage
+files-unnumbered (Err (DueRefusal due)) stage = tt
+files-unnumbered (Err (Other d)) stage = absurd stage
+files-unnumbered (Err Read) stage = tt
+files-unnumbered (Err (Journal kept)) stage = absurd stage
+files-unnumbered (Err Write) stage = tt
+
+-- nor do words that give no order
+pub words-unnumbered : (wanted : Result Order WordsFault) (r : Refusal) → IsOfWords wanted r → IsUnnumbered r
+words-unnumbered wanted Memory of = tt
+words-unnumbered wanted (Words fault) of = tt
+words-unnumbered wanted (DueRefusal due) of = absurd of
+words-unnumbered wanted (Other d) of = absurd of
+words-unnumbered wanted Read of = absurd of
+words-unnumbered wanted (Journal kept) of = absurd of
+words-unnumbered wanted Write of = absurd of
+
 -- ---- what showing a record file did
 
-shows-stage : (result : Result (Unit {0}) Refusal) → IfErr result ShowsStage → IfErr result IsOfFilesOrOutput
+pub shows-stage : (result : Result (Unit {0}) Refusal) → IfErr result ShowsStage → IfErr result IsOfFilesOrOutput
 shows-stage (Ok x) stage = tt
 shows-stage (Err Memory) stage = tt
 shows-stage (Err (Words fault)) stage = absurd stage
@@ -119,15 +135,15 @@ words-cause wanted files images before after old new Read of = absurd of
 words-cause wanted files images before after old new (Journal kept) of = absurd of
 words-cause wanted files images before after old new Write of = absurd of
 
-files-cause : (files : Files) (order : Order) → IsJobOf files order → (images : List ℕ → Type 0) (before after old new : Option (List ℕ)) (r : Refusal)
-    → IsOfFiles r → IsCause r (PlanFor files order) → IsCauseOf r (OutcomeFrom (Ok order) files) files images before after old new
-files-cause files order of_job images before after old new Memory stage cause = tt
-files-cause files order of_job images before after old new (Words fault) stage cause = absurd stage
-files-cause files order of_job images before after old new (DueRefusal due) stage cause = inr (order, refl, of_job _ cause)
-files-cause files order of_job images before after old new (Other d) stage cause = absurd stage
-files-cause files order of_job images before after old new Read stage cause = tt
-files-cause files order of_job images before after old new (Journal kept) stage cause = absurd stage
-files-cause files order of_job images before after old new Write stage cause = absurd stage
+files-cause : (files : Files) (order : Order) (plans : Outcomes Plan) → IsJobOf files order plans → (images : List ℕ → Type 0) (before after old new : Option (List ℕ)) (r : Refusal)
+    → IsOfFiles r → IsCause r plans → IsCauseOf r (OutcomeFrom (Ok order) files) files images before after old new
+files-cause files order plans of_job images before after old new Memory stage cause = tt
+files-cause files order plans of_job images before after old new (Words fault) stage cause = absurd stage
+files-cause files order plans of_job images before after old new (DueRefusal due) stage cause = inr (order, refl, of_job _ cause)
+files-cause files order plans of_job images before after old new (Other d) stage cause = absurd stage
+files-cause files order plans of_job images before after old new Read stage cause = tt
+files-cause files order plans of_job images before after old new (Journal kept) stage cause = absurd stage
+files-cause files order plans of_job images before after old new Write stage cause = absurd stage
 
 -- a call that was refused before its output
 abbrev pub NoWrite : Refusal → Type 0
@@ -217,18 +233,18 @@ module _ {D : Type 0} (seen : D → Option (List ℕ)) (moment : D → ℕ) (may
     part = nothing-partly (OutcomeFrom wanted files) files (seen d) (seen d) old r (words-NoWrite wanted r of);
   }
 
-  does-files : (files : Files) (order : Order) → IsJobOf files order → (d : D) (old : Option (List ℕ)) (r : Refusal) → IsOfFiles r → IsCause r (PlanFor files order)
+  does-files : (files : Files) (order : Order) (plans : Outcomes Plan) → IsJobOf files order plans → (d : D) (old : Option (List ℕ)) (r : Refusal) → IsOfFiles r → IsCause r plans
       → Does (Ok order) files seen moment may_leave d d old old (Err r)
-  does-files files order of_job d old r stage cause = record {
+  does-files files order plans of_job d old r stage cause = record {
     goes = inl (looks_none seen moment may_leave d);
     done = tt;
-    cause = files-cause files order of_job (may_leave d (moment d)) (seen d) (seen d) old old r stage cause;
+    cause = files-cause files order plans of_job (may_leave d (moment d)) (seen d) (seen d) old old r stage cause;
     part = nothing-partly (OutcomeFrom (Ok order) files) files (seen d) (seen d) old r (files-NoWrite r stage);
   }
 
   pub run-files : (files : Files) (order : Order) (d : D) (old : Option (List ℕ)) (r : Refusal) → IsRunOrder order → IsOfFiles r → IsCause r (PlanOf files order)
       → Does (Ok order) files seen moment may_leave d d old old (Err r)
-  run-files files (Run job vex workers piece) d old r is stage cause = does-files files (Run job vex workers piece) (λ o p. p) d old r stage cause
+  run-files files (Run job vex workers piece) d old r is stage cause = does-files files (Run job vex workers piece) (PlanOf files (Run job vex workers piece)) (λ o p. p) d old r stage cause
   run-files files (Plain job vex) d old r is stage cause = absurd is
   run-files files (Check job vex) d old r is stage cause = absurd is
   run-files files (Status job vex) d old r is stage cause = absurd is
@@ -237,7 +253,7 @@ module _ {D : Type 0} (seen : D → Option (List ℕ)) (moment : D → ℕ) (may
 
   pub status-files : (files : Files) (order : Order) (d : D) (old : Option (List ℕ)) (r : Refusal) → IsStatusOrder order → IsOfFiles r → IsCause r (SurveyOf files order)
       → Does (Ok order) files seen moment may_leave d d old old (Err r)
-  status-files files (Status job vex) d old r is stage cause = does-files files (Status job vex) (λ o p. p) d old r stage cause
+  status-files files (Status job vex) d old r is stage cause = does-files files (Status job vex) (SurveyOf files (Status job vex)) (λ o p. p) d old r stage cause
   status-files files (Run job vex workers piece) d old r is stage cause = absurd is
   status-files files (Plain job vex) d old r is stage cause = absurd is
   status-files files (Check job vex) d old r is stage cause = absurd is
@@ -246,17 +262,16 @@ module _ {D : Type 0} (seen : D → Option (List ℕ)) (moment : D → ℕ) (may
 
   -- ---- commands that leave the journal alone
 
-  module _ {A : Type 0} (files : Files) (order : Order) (outcomes : Outcomes A) (text : A → List ℕ) (task : A → Task) (d : D)
-      (ok_for : (x : A) → outcomes (Ok x) → TaskFor files order (Ok (task x))) (err_for : (a : Answer) → outcomes (Err a) → TaskFor files order (Err a))
-      (alone : (x : A) → IsAlone (task x)) (is : (x : A) → IsText files (task x) (seen d) (seen d) (text x)) where
-    there : (x : A) → outcomes (Ok x) → OutcomeFrom (Ok order) files (Ok (task x))
-    there x of = (order, refl, ok_for x of)
+  module _ {A : Type 0} (files : Files) (order : Order) (outcomes : Outcomes A) (text : A → List ℕ) (d : D)
+      (is_for : (o : Result Task Answer) → TextFor outcomes text o → TaskFor files order o) where
+    there : (x : A) → outcomes (Ok x) → OutcomeFrom (Ok order) files (Ok (OfText (text x)))
+    there x of = (order, refl, is_for (Ok (OfText (text x))) (x, of, refl))
 
     refuses : (a : Answer) → outcomes (Err a) → OutcomeFrom (Ok order) files (Err a)
-    refuses a of = inr (order, refl, err_for a of)
+    refuses a of = inr (order, refl, is_for (Err a) of)
 
     part-tells : (old new : Option (List ℕ)) → IsPartOf outcomes text old new → IsPart (OutcomeFrom (Ok order) files) files (seen d) (seen d) old new
-    part-tells old new p = record { task = task p.0; outcome = there p.0 p.1; text = text p.0; is = is p.0; part = p.2 }
+    part-tells old new p = record { task = OfText (text p.0); outcome = there p.0 p.1; text = text p.0; is = refl; part = p.2 }
 
     tells-cause : (old new : Option (List ℕ)) (r : Refusal) → IsOfFilesOrOutput r → IsCause r outcomes
         → IsCauseOf r (OutcomeFrom (Ok order) files) files (may_leave d (moment d)) (seen d) (seen d) old new
@@ -267,9 +282,9 @@ module _ {D : Type 0} (seen : D → Option (List ℕ)) (moment : D → ℕ) (may
     tells-cause old new Read stage cause = tt
     tells-cause old new (Journal kept) stage cause = absurd stage
     tells-cause old new Write stage cause = record {
-      task = task cause.0;
+      task = OfText (text cause.0);
       outcome = there cause.0 cause.1;
-      opened = opened-alone files (task cause.0) (seen d) (alone cause.0);
+      opened = tt;
     }
 
     tells-part : (old new : Option (List ℕ)) (r : Refusal) → IsPartlyOf r outcomes text old new
@@ -289,14 +304,14 @@ module _ {D : Type 0} (seen : D → Option (List ℕ)) (moment : D → ℕ) (may
     does-tells old new (Ok x) stage tells = record {
       goes = inl (looks_none seen moment may_leave d);
       done = record {
-        task = task tells.done.0;
+        task = OfText (text tells.done.0);
         outcome = there tells.done.0 tells.done.1;
-        opened = opened-alone files (task tells.done.0) (seen d) (alone tells.done.0);
+        opened = tt;
         text = text tells.done.0;
-        is = is tells.done.0;
+        is = refl;
         told = tells.done.2;
-        all = λ call same run. absurd (alone-not (task tells.done.0) call (alone tells.done.0) same run);
-        sums = λ call same run. absurd (alone-not (task tells.done.0) call (alone tells.done.0) same run);
+        all = λ call same. absurd (no-job (text tells.done.0) call same);
+        sums = λ call same. absurd (no-job (text tells.done.0) call same);
       };
       cause = tt;
       part = tt;
@@ -308,39 +323,28 @@ module _ {D : Type 0} (seen : D → Option (List ℕ)) (moment : D → ℕ) (may
       part = tells-part old new r tells.part;
     }
 
-  pub does-check : (files : Files) (order : Order) (d : D) (old new : Option (List ℕ)) (result : Result (Unit {0}) Refusal) → IsCheckOrder order
+  pub does-check : (files : Files) (order : Order) (job : List ℕ) (vex : Option (List ℕ)) → order ≡ Check job vex → (d : D) (old new : Option (List ℕ)) (result : Result (Unit {0}) Refusal)
       → IfErr result IsOfFilesOrOutput → Tells (PlanOf files order) (λ plan. check_text plan files) old new result → Does (Ok order) files seen moment may_leave d d old new result
-  does-check files (Check job vex) d old new result is stage tells =
-      does-tells files (Check job vex) (PlanOf files (Check job vex)) (λ plan. check_text plan files) (λ plan. OfJob (call_of (Check job vex) plan)) d
-      (λ plan of. (refl, of)) (λ a of. of) (λ plan. (refl, refl)) (λ plan. refl) old new result stage tells
-  does-check files (Run job vex workers piece) d old new result is stage tells = absurd is
-  does-check files (Plain job vex) d old new result is stage tells = absurd is
-  does-check files (Status job vex) d old new result is stage tells = absurd is
-  does-check files (Dump file) d old new result is stage tells = absurd is
-  does-check files (Gen seed seconds workers piece) d old new result is stage tells = absurd is
+  does-check files order job vex same d old new result =
+      does-tells files order (PlanOf files order) (λ plan. check_text plan files) d
+      (λ o p. subst (λ (x : Order). TaskFor files x o) (sym same) (subst (λ (x : Order). TextFor (PlanOf files x) (λ plan. check_text plan files) o) same p)) old new result
 
-  pub does-plain : (files : Files) (order : Order) (d : D) (old new : Option (List ℕ)) (result : Result (Unit {0}) Refusal) → IsPlainOrder order
+  pub does-plain : (files : Files) (order : Order) (job : List ℕ) (vex : Option (List ℕ)) → order ≡ Plain job vex → (d : D) (old new : Option (List ℕ)) (result : Result (Unit {0}) Refusal)
       → IfErr result IsOfFilesOrOutput → Tells (PlanOf files order) (λ plan. output plan files) old new result → Does (Ok order) files seen moment may_leave d d old new result
-  does-plain files (Plain job vex) d old new result is stage tells =
-      does-tells files (Plain job vex) (PlanOf files (Plain job vex)) (λ plan. output plan files) (λ plan. OfJob (call_of (Plain job vex) plan)) d
-      (λ plan of. (refl, of)) (λ a of. of) (λ plan. (refl, refl)) (λ plan. refl) old new result stage tells
-  does-plain files (Run job vex workers piece) d old new result is stage tells = absurd is
-  does-plain files (Check job vex) d old new result is stage tells = absurd is
-  does-plain files (Status job vex) d old new result is stage tells = absurd is
-  does-plain files (Dump file) d old new result is stage tells = absurd is
-  does-plain files (Gen seed seconds workers piece) d old new result is stage tells = absurd is
+  does-plain files order job vex same d old new result =
+      does-tells files order (PlanOf files order) (λ plan. output plan files) d
+      (λ o p. subst (λ (x : Order). TaskFor files x o) (sym same) (subst (λ (x : Order). TextFor (PlanOf files x) (λ plan. output plan files) o) same p)) old new result
 
   pub does-dump : (files : Files) (file : List ℕ) (d : D) (old new : Option (List ℕ)) (result : Result (Unit {0}) Refusal) → IfErr result ShowsStage
       → Shows (RecordsOf files file) old new result → Does (Ok (Dump file)) files seen moment may_leave d d old new result
   does-dump files file d old new result stage shows =
-      does-tells files (Dump file) (RecordsOf files file) dump_text OfRecords d (λ content of. of) (λ a of. of) (λ content. tt) (λ content. refl)
+      does-tells files (Dump file) (RecordsOf files file) dump_text d (λ o p. p)
       old new result (shows-stage result stage) (shows-tells (RecordsOf files file) old new result stage shows)
 
   pub does-gen : (files : Files) (seed seconds workers piece : ℕ) (d : D) (old new : Option (List ℕ)) (result : Result (Unit {0}) Refusal) → IfErr result IsOfFilesOrOutput
       → Tells (SampleOf seed seconds workers piece) (sample_text seed seconds) old new result → Does (Ok (Gen seed seconds workers piece)) files seen moment may_leave d d old new result
-  does-gen files seed seconds workers piece d old new result stage tells =
-      does-tells files (Gen seed seconds workers piece) (SampleOf seed seconds workers piece) (sample_text seed seconds)
-      (λ plan. OfJob (call_of (Gen seed seconds workers piece) plan)) d (λ plan of. (refl, of)) (λ a of. of) (λ plan. (refl, refl)) (λ plan. refl) old new result stage tells
+  does-gen files seed seconds workers piece d old new result =
+      does-tells files (Gen seed seconds workers piece) (SampleOf seed seconds workers piece) (sample_text seed seconds) d (λ o p. p) old new result
 
   pub leaves-tells : (order : Order) (d : D) (old new : Option (List ℕ)) (result : Result (Unit {0}) Refusal) → is_run order ≡ false
       → IfErr result (λ r. MatchDue r (new ≡ old)) → Leaves (Ok order) seen moment may_leave d d old new result

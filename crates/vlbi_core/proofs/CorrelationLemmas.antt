@@ -62,21 +62,21 @@ module _ {D : Type 0} (seen : D → Option (List ℕ)) (moment : D → ℕ) (may
     resumed-cause before after old (DueRefusal due) of named = absurd of
     resumed-cause before after old (Other d) of named = record {
       call = call_of (Run job vex workers piece) plan;
-      outcome = planned files (Run job vex workers piece) plan (λ o p. p) there;
+      outcome = planned files (Run job vex workers piece) (PlanOf files (Run job vex workers piece)) plan (λ o p. p) there;
       uses = refl;
       other = of.0;
     }
     resumed-cause before after old Read of named = tt
     resumed-cause before after old (Journal None) of named = record {
       call = call_of (Run job vex workers piece) plan;
-      outcome = planned files (Run job vex workers piece) plan (λ o p. p) there;
+      outcome = planned files (Run job vex workers piece) (PlanOf files (Run job vex workers piece)) plan (λ o p. p) there;
       uses = refl;
       says = λ _. (refl, of);
       unnamed = λ other. absurd (not_both true refl other);
     }
     resumed-cause before after old (Journal (Some k)) of named = record {
       call = call_of (Run job vex workers piece) plan;
-      outcome = planned files (Run job vex workers piece) plan (λ o p. p) there;
+      outcome = planned files (Run job vex workers piece) (PlanOf files (Run job vex workers piece)) plan (λ o p. p) there;
       uses = refl;
       says = λ _. named;
       unnamed = λ other. absurd (not_both true refl other);
@@ -99,7 +99,7 @@ module _ {D : Type 0} (seen : D → Option (List ℕ)) (moment : D → ℕ) (may
     does-resumed-at before after old r h = record {
       goes = ⊎_elim inl (λ (ours : WhereTold (seen before) (λ image. IsSome (bodies_for files (call_of (Run job vex workers piece) plan) image))). inr (record {
         call = call_of (Run job vex workers piece) plan;
-        outcome = planned files (Run job vex workers piece) plan (λ o p. p) there;
+        outcome = planned files (Run job vex workers piece) (PlanOf files (Run job vex workers piece)) plan (λ o p. p) there;
         run = refl;
         opened = ours;
         changes = h.changes;
@@ -263,7 +263,7 @@ module _ {D : Type 0} (seen : D → Option (List ℕ)) (moment : D → ℕ) (may
         → Goes (OutcomeFrom (Ok (Run job vex workers piece)) files) files seen moment may_leave before after
     emitted-running result h = inr (record {
       call = call_of (Run job vex workers piece) plan;
-      outcome = planned files (Run job vex workers piece) plan (λ o p. p) there;
+      outcome = planned files (Run job vex workers piece) (PlanOf files (Run job vex workers piece)) plan (λ o p. p) there;
       run = refl;
       opened = (emitted-text result h).opened;
       changes = emitted-goes result h;
@@ -282,7 +282,7 @@ module _ {D : Type 0} (seen : D → Option (List ℕ)) (moment : D → ℕ) (may
     emitted-cause Read h = tt
     emitted-cause (Journal kept) h = record {
       call = call_of (Run job vex workers piece) plan;
-      outcome = planned files (Run job vex workers piece) plan (λ o p. p) there;
+      outcome = planned files (Run job vex workers piece) (PlanOf files (Run job vex workers piece)) plan (λ o p. p) there;
       uses = refl;
       says = λ _. subst (λ (k : Option ℕ). SaysFor k files (call_of (Run job vex workers piece) plan) (may_leave after (moment after)) (seen before) (seen after) old new) (sym h.refused)
           (λ image now. inl (emitted-images (Err (Journal kept)) h image now));
@@ -290,7 +290,7 @@ module _ {D : Type 0} (seen : D → Option (List ℕ)) (moment : D → ℕ) (may
     }
     emitted-cause Write h = record {
       task = OfJob (call_of (Run job vex workers piece) plan);
-      outcome = planned files (Run job vex workers piece) plan (λ o p. p) there;
+      outcome = planned files (Run job vex workers piece) (PlanOf files (Run job vex workers piece)) plan (λ o p. p) there;
       opened = λ _. (emitted-text (Err Write) h).opened;
     }
 
@@ -298,7 +298,7 @@ module _ {D : Type 0} (seen : D → Option (List ℕ)) (moment : D → ℕ) (may
         → IsPart (OutcomeFrom (Ok (Run job vex workers piece)) files) files (seen before) (seen after) old new
     text-part r t = record {
       task = OfJob (call_of (Run job vex workers piece) plan);
-      outcome = planned files (Run job vex workers piece) plan (λ o p. p) there;
+      outcome = planned files (Run job vex workers piece) (PlanOf files (Run job vex workers piece)) plan (λ o p. p) there;
       text = t.text;
       is = t.is;
       part = t.appended.part;
@@ -320,7 +320,7 @@ module _ {D : Type 0} (seen : D → Option (List ℕ)) (moment : D → ℕ) (may
       goes = emitted-running (Ok x) h;
       done = record {
         task = OfJob (call_of (Run job vex workers piece) plan);
-        outcome = planned files (Run job vex workers piece) plan (λ o p. p) there;
+        outcome = planned files (Run job vex workers piece) (PlanOf files (Run job vex workers piece)) plan (λ o p. p) there;
         opened = λ _. (emitted-text (Ok x) h).opened;
         text = (emitted-text (Ok x) h).text;
         is = (emitted-text (Ok x) h).is;

@@ -46,12 +46,11 @@ not-run a b same run = subst (λ (o : Order). is_run o ≡ true) same run
 -- the plan of a call of `run`
 plan-at : (files : Files) (order : Order) (call : Call) → TaskFor files order (Ok (OfJob call)) → is_run call.order ≡ true → PlanOf files call.order (Ok call.plan)
 plan-at files (Run job vex workers piece) call there run = subst (λ (o : Order). PlanOf files o (Ok call.plan)) (sym there.0) there.1
-plan-at files (Plain job vex) call there run = absurd (not_both (is_run (Plain job vex)) (not-run call.order (Plain job vex) there.0 run) refl)
-plan-at files (Check job vex) call there run = absurd (not_both (is_run (Check job vex)) (not-run call.order (Check job vex) there.0 run) refl)
 plan-at files (Status job vex) call there run = absurd (not_both (is_run (Status job vex)) (not-run call.order (Status job vex) there.0 run) refl)
+plan-at files (Plain job vex) call there run = absurd there
+plan-at files (Check job vex) call there run = absurd there
 plan-at files (Dump file) call there run = absurd there
-plan-at files (Gen seed seconds workers piece) call there run =
-    absurd (not_both (is_run (Gen seed seconds workers piece)) (not-run call.order (Gen seed seconds workers piece) there.0 run) refl)
+plan-at files (Gen seed seconds workers piece) call there run = absurd there
 
 plan-by : (files : Files) (words : List (List ℕ)) (call : Call) → IsRunBy files words call → PlanOf files call.order (Ok call.plan)
 plan-by files words call by = plan-at files by.outcome.0 call by.outcome.2 by.run

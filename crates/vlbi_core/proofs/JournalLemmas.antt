@@ -56,14 +56,14 @@ module _ {D : Type 0} (seen : D → Option (List ℕ)) (moment : D → ℕ) (may
   looked-cause files job vex plan images before after old (DueRefusal due) there of = absurd of
   looked-cause files job vex plan images before after old (Other d) there of = record {
     call = call_of (Status job vex) plan;
-    outcome = planned files (Status job vex) plan (λ o p. p) there;
+    outcome = planned files (Status job vex) (SurveyOf files (Status job vex)) plan (λ o p. p) there;
     uses = refl;
     other = of;
   }
   looked-cause files job vex plan images before after old Read there of = absurd of
   looked-cause files job vex plan images before after old (Journal None) there of = record {
     call = call_of (Status job vex) plan;
-    outcome = planned files (Status job vex) plan (λ o p. p) there;
+    outcome = planned files (Status job vex) (SurveyOf files (Status job vex)) plan (λ o p. p) there;
     uses = refl;
     says = λ run. absurd (not_both false run refl);
     unnamed = λ _. refl;
@@ -125,7 +125,7 @@ module _ {D : Type 0} (seen : D → Option (List ℕ)) (moment : D → ℕ) (may
       goes = inl looks;
       done = record {
         task = OfJob (call_of (Status job vex) plan);
-        outcome = planned files (Status job vex) plan (λ o p. p) there;
+        outcome = planned files (Status job vex) (SurveyOf files (Status job vex)) plan (λ o p. p) there;
         opened = λ _. kept-opened (seen before) reads;
         text = kept_line kept epochs;
         is = kept-text (seen before) reads;
@@ -141,12 +141,12 @@ module _ {D : Type 0} (seen : D → Option (List ℕ)) (moment : D → ℕ) (may
       done = tt;
       cause = record {
         task = OfJob (call_of (Status job vex) plan);
-        outcome = planned files (Status job vex) plan (λ o p. p) there;
+        outcome = planned files (Status job vex) (SurveyOf files (Status job vex)) plan (λ o p. p) there;
         opened = λ _. kept-opened (seen before) reads;
       };
       part = record {
         task = OfJob (call_of (Status job vex) plan);
-        outcome = planned files (Status job vex) plan (λ o p. p) there;
+        outcome = planned files (Status job vex) (SurveyOf files (Status job vex)) plan (λ o p. p) there;
         text = kept_line kept epochs;
         is = kept-text (seen before) reads;
         part = appends.prefix;

@@ -24,7 +24,7 @@ use Rattle.run_ready.specs.Steps.{answered}
 use Rattle.run_ready.specs.Recordings.{recordings_answer}
 use Rattle.run_ready.specs.Outcome.{PlanOf}
 use Rattle.mem_devices.specs.MemShelfState.{bytes_under}
-use Rattle.vlbi_core.specs.Calls.{Call, Task, OfJob, OfRecords, TaskFor, identity_for, sizes_for, is_run}
+use Rattle.vlbi_core.specs.Calls.{Call, Task, OfJob, OfText, TaskFor, identity_for, sizes_for, is_run}
 use Rattle.vlbi_core.specs.Restart.{IsHonest}
 use Rattle.sample_job.specs.Sample.{sample_files, sample_shelf, sample_order, SampleOf}
 use Rattle.vlbi_core.specs.Sample.{IsSampled, content_for, sample_text}
@@ -68,7 +68,7 @@ module _ {D : Type 0} (seen : D → Option (List ℕ)) (moment : D → ℕ) (may
     where
       by : (task : Task) → done.task ≡ task → TaskFor files (Run job vex workers piece) (Ok task)
           → (plan : Plan) × PlanOf files (Run job vex workers piece) (Ok plan) × (new ≡ more old (output plan files))
-      by (OfRecords content) same p = absurd p
+      by (OfText text) same p = absurd p
       by (OfJob call) same p =
           let run : is_run call.order ≡ true = subst (λ (o : Order). is_run o ≡ true) (sym p.0) refl in (
             call.plan,

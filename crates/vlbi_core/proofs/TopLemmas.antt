@@ -25,15 +25,18 @@ use Rattle.run_notes.specs.Answers.{Answer, words_answer, journal_answer}
 use Rattle.run_notes.specs.Refusals.{Outcomes, MatchRead, MatchReadOrJournal, MatchJournal, MatchWrite, answer_of, due_answer}
 use Rattle.run_ready.specs.Steps.{Is, Then, answered}
 use Rattle.run_ready.specs.Recordings.{files_answer, recordings_answer}
-use Rattle.run_ready.specs.Outcome.{Wrong, PlanBy}
+use Rattle.run_ready.specs.Outcome.{Wrong, PlanBy, SurveyOf, PlanOf}
 use Rattle.run_journal.specs.Extended.{AreFrom, Extends}
 use Rattle.vis_records.specs.Content.{Content}
+use Rattle.vis_records.specs.Dumped.{dump_text}
+use Rattle.run_summary.specs.Summaries.{check_text}
 use Rattle.run_dump.specs.Shown.{RecordsOf}
-use Rattle.sample_job.specs.Sample.{sample_shelf, sample_order}
-use Rattle.vlbi_core.specs.Calls.{Call, Task, OfJob, OfRecords, PlanFor, JobFor, ShowFor, TaskFor, identity_for, sizes_for, bodies_for, kept_for, is_run}
+use Rattle.sample_job.specs.Sample.{SampleOf, sample_shelf, sample_order}
+use Rattle.vlbi_core.specs.Sample.{sample_text}
+use Rattle.vlbi_core.specs.Calls.{Call, Task, OfJob, OfText, JobFor, TextFor, TaskFor, identity_for, sizes_for, bodies_for, kept_for, is_run}
 use Rattle.vlbi_core.specs.Texts.{IsSums, epochs_for}
 use Rattle.vlbi_core.specs.Run.{IsVerdictStatus, IsDueStatus, IsStatus, IsUsable, IsForeign, IsVerdict, IsAppended, IsWordsLine, IsLineOf, IsNoted}
-use Rattle.vlbi_core.specs.Restart.{IsHonest, Continues, Restarts, IsStatusOf, IsGenOf}
+use Rattle.vlbi_core.specs.Restart.{IsHonest, Continues, Restarts, IsGenOf}
 use Rattle.vlbi_core.specs.Steps.{OutcomeFrom, IsWordedBy, IsOpened, IsCauseOf, IsOtherCause, IsPartly, IsDone, IsUnnumbered, IsOfSample, Goes, MatchDue, MatchEarly, MatchVerdict}
 use Rattle.vlbi_core.proofs.ExtendLemmas.{some_bodies, AreFrom-append, Extends-stays, Extends-counts}
 use Rattle.vlbi_core.proofs.CommandLemmas.{one-job}
@@ -78,45 +81,37 @@ Then-one {A} {B} first next one ones = by
     by (Err d) (Err e) (inr p) (inl q) = absurd (not p.0 e p.1 q)
     by (Err d) (Err e) (inr p) (inr q) = both (Err d) (Err e) p.0 q.0 p.1 q.1 p.2 q.2
 
-plan-one : OneOutcome → (files : Files) (order : Order) → AreOne (PlanFor files order)
-plan-one law files (Run job vex workers piece) a b p q = law files (recordings_answer files) (Run job vex workers piece) a b p q
-plan-one law files (Plain job vex) a b p q = law files (recordings_answer files) (Plain job vex) a b p q
-plan-one law files (Check job vex) a b p q = law files (recordings_answer files) (Check job vex) a b p q
-plan-one law files (Status job vex) a b p q = law files (files_answer files) (Status job vex) a b p q
-plan-one law files (Dump file) a b p q = law files (recordings_answer files) (Dump file) a b p q
-plan-one law files (Gen seed seconds workers piece) a b p q = law (sample_shelf seed seconds) (recordings_answer (sample_shelf seed seconds)) (sample_order workers piece) a b p q
-
-job-one : OneOutcome → (files : Files) (order : Order) → AreOne (JobFor files order)
-job-one law files order (Ok (OfJob a)) (Ok (OfJob b)) p q =
-    let plans : Ok a.plan ≡ Ok b.plan = plan-one law files order (Ok a.plan) (Ok b.plan) p.1 q.1 in
+job-one : (order : Order) (plans : Outcomes Plan) → AreOne plans → AreOne (JobFor order plans)
+job-one order plans one (Ok (OfJob a)) (Ok (OfJob b)) p q =
+    let same : Ok a.plan ≡ Ok b.plan = one (Ok a.plan) (Ok b.plan) p.1 q.1 in
     let one : a.order ≡ b.order = p.0 ∙ sym q.0 in
     let two : a.plan ≡ b.plan = cc in
     λ i. Ok (OfJob (record { order = one i; plan = two i }))
-job-one law files order (Ok (OfJob a)) (Ok (OfRecords content)) p q = absurd q
-job-one law files order (Ok (OfRecords content)) b p q = absurd p
-job-one law files order (Ok (OfJob a)) (Err e) p q = let h : Ok a.plan ≡ Err e = plan-one law files order (Ok a.plan) (Err e) p.1 q in cc
-job-one law files order (Err d) (Ok (OfJob b)) p q = let h : Ok b.plan ≡ Err d = plan-one law files order (Ok b.plan) (Err d) q.1 p in cc
-job-one law files order (Err d) (Ok (OfRecords content)) p q = absurd q
-job-one law files order (Err d) (Err e) p q =
+job-one order plans one (Ok (OfJob a)) (Ok (OfText text)) p q = absurd q
+job-one order plans one (Ok (OfText text)) b p q = absurd p
+job-one order plans one (Ok (OfJob a)) (Err e) p q = let h : Ok a.plan ≡ Err e = one (Ok a.plan) (Err e) p.1 q in cc
+job-one order plans one (Err d) (Ok (OfJob b)) p q = let h : Ok b.plan ≡ Err d = one (Ok b.plan) (Err d) q.1 p in cc
+job-one order plans one (Err d) (Ok (OfText text)) p q = absurd q
+job-one order plans one (Err d) (Err e) p q =
     let x : Result Plan Answer = Err d in
     let y : Result Plan Answer = Err e in
-    let h : x ≡ y = plan-one law files order x y p q in
+    let h : x ≡ y = one x y p q in
     let same : d ≡ e = cc in
     ap Err same
 
-show-one : (outcomes : Outcomes Content) → AreOne outcomes → AreOne (ShowFor outcomes)
-show-one outcomes one (Ok (OfJob call)) b p q = absurd p
-show-one outcomes one (Ok (OfRecords a)) (Ok (OfJob call)) p q = absurd q
-show-one outcomes one (Ok (OfRecords a)) (Ok (OfRecords b)) p q =
-    let h : Ok a ≡ Ok b = one (Ok a) (Ok b) p q in
-    let same : a ≡ b = cc in
-    ap (λ (content : Content). Ok (OfRecords content)) same
-show-one outcomes one (Ok (OfRecords a)) (Err e) p q = let h : Ok a ≡ Err e = one (Ok a) (Err e) p q in cc
-show-one outcomes one (Err d) (Ok (OfJob call)) p q = absurd q
-show-one outcomes one (Err d) (Ok (OfRecords b)) p q = let h : Ok b ≡ Err d = one (Ok b) (Err d) q p in cc
-show-one outcomes one (Err d) (Err e) p q =
-    let x : Result Content Answer = Err d in
-    let y : Result Content Answer = Err e in
+text-one : {A : Type 0} (outcomes : Outcomes A) (text : A → List ℕ) → AreOne outcomes → AreOne (TextFor outcomes text)
+text-one outcomes text one (Ok (OfJob call)) b p q = absurd p
+text-one outcomes text one (Ok (OfText s)) (Ok (OfJob call)) p q = absurd q
+text-one outcomes text one (Ok (OfText s)) (Ok (OfText t)) p q =
+    let h : Ok p.0 ≡ Ok q.0 = one (Ok p.0) (Ok q.0) p.1 q.1 in
+    let same : p.0 ≡ q.0 = cc in
+    ap (λ (written : List ℕ). Ok (OfText written)) (p.2 ∙ ap text same ∙ sym q.2)
+text-one outcomes text one (Ok (OfText s)) (Err e) p q = let h : Ok p.0 ≡ Err e = one (Ok p.0) (Err e) p.1 q in cc
+text-one outcomes text one (Err d) (Ok (OfJob call)) p q = absurd q
+text-one outcomes text one (Err d) (Ok (OfText t)) p q = let h : Ok q.0 ≡ Err d = one (Ok q.0) (Err d) q.1 p in cc
+text-one {A} outcomes text one (Err d) (Err e) p q =
+    let x : Result A Answer = Err d in
+    let y : Result A Answer = Err e in
     let h : x ≡ y = one x y p q in
     let same : d ≡ e = cc in
     ap Err same
@@ -126,12 +121,18 @@ abbrev pub OneShown : Type 0
 OneShown = (files : Files) (name : List ℕ) (a b : Result Content Answer) → RecordsOf files name a → RecordsOf files name b → a ≡ b
 
 task-one : OneOutcome → OneShown → (files : Files) (order : Order) → AreOne (TaskFor files order)
-task-one law shown files (Run job vex workers piece) = job-one law files (Run job vex workers piece)
-task-one law shown files (Plain job vex) = job-one law files (Plain job vex)
-task-one law shown files (Check job vex) = job-one law files (Check job vex)
-task-one law shown files (Status job vex) = job-one law files (Status job vex)
-task-one law shown files (Dump file) = show-one (RecordsOf files file) (shown files file)
-task-one law shown files (Gen seed seconds workers piece) = job-one law files (Gen seed seconds workers piece)
+task-one law shown files (Run job vex workers piece) =
+    job-one (Run job vex workers piece) (PlanOf files (Run job vex workers piece)) (law files (recordings_answer files) (Run job vex workers piece))
+task-one law shown files (Status job vex) =
+    job-one (Status job vex) (SurveyOf files (Status job vex)) (law files (files_answer files) (Status job vex))
+task-one law shown files (Plain job vex) =
+    text-one (PlanOf files (Plain job vex)) (λ plan. output plan files) (law files (recordings_answer files) (Plain job vex))
+task-one law shown files (Check job vex) =
+    text-one (PlanOf files (Check job vex)) (λ plan. check_text plan files) (law files (recordings_answer files) (Check job vex))
+task-one law shown files (Dump file) = text-one (RecordsOf files file) dump_text (shown files file)
+task-one law shown files (Gen seed seconds workers piece) =
+    text-one (SampleOf seed seconds workers piece) (sample_text seed seconds)
+    (law (sample_shelf seed seconds) (recordings_answer (sample_shelf seed seconds)) (sample_order workers piece))
 
 pub outcome-one : OneOutcome → OneShown → (wanted : Result Order WordsFault) (files : Files) → AreOne (OutcomeFrom wanted files)
 outcome-one law shown wanted files =

@@ -1,23 +1,26 @@
--- What words and files come to: a command with the plan of its job, the content of a record file, or the answer of the first
+-- What words and files come to: a command with the plan of its job, the text that a command appends, or the answer of the first
 -- thing that is wrong.
 use Rattle.std.specs.Prelude.{◌≡◌, ℕ, Bool, true, false, List, map, Option, Result, Ok, Err, String, string_bytes}
 use Rattle.std.specs.declared.alloc.Global.{Global}
 use Rattle.corr_model.specs.Files.{Files}
 use Rattle.job_plan.specs.declared.plan.Plan.{Plan}
+use Rattle.job_plan.specs.Output.{output}
 use Rattle.job_epochs.specs.Sizes.{sizes_of}
-use Rattle.vis_records.specs.Content.{Content}
+use Rattle.vis_records.specs.Dumped.{dump_text}
 use Rattle.checkpoint_journal.specs.Image.{body_sizes, reading, kept_in}
 use Rattle.run_words.specs.declared.fault.WordsFault.{WordsFault}
 use Rattle.run_words.specs.declared.order.Order.{Order}
-use Rattle.run_words.specs.declared.order.Order.TheVariants.{Run, Status, Dump, Gen}
+use Rattle.run_words.specs.declared.order.Order.TheVariants.{Run, Plain, Check, Status, Dump, Gen}
 use Rattle.run_words.specs.Orders.{order_of}
 use Rattle.run_notes.specs.Answers.{words_answer}
 use Rattle.run_notes.specs.Refusals.{Outcomes}
 use Rattle.run_ready.specs.Steps.{Is, Then, answered}
 use Rattle.run_ready.specs.Outcome.{SurveyOf, PlanOf}
 use Rattle.run_ready.specs.Identities.{identity_under}
+use Rattle.run_summary.specs.Summaries.{check_text}
 use Rattle.run_dump.specs.Shown.{RecordsOf}
 use Rattle.sample_job.specs.Sample.{SampleOf}
+use Rattle.vlbi_core.specs.Sample.{sample_text}
 
 -- the words as texts
 abbrev pub texts_of : List (String Global) → List (List ℕ)
@@ -42,33 +45,31 @@ pub record Call : Type 0 where
   pub order : Order
   pub plan : Plan
 
--- what a call works on: a command on a job, or the content of a record file
+-- What a call works on: a job and its journal, or the text that a command appends which leaves the journal alone.
 pub data Task : Type 0 where
   OfJob : Call → Task
-  OfRecords : Content → Task
+  OfText : List ℕ → Task
 
--- the plan of an order; `status` looks at the lengths of the recordings alone, and `gen` has its own job and recordings
-abbrev pub PlanFor : Files → Order → Outcomes Plan
-PlanFor files (Status job vex) = SurveyOf files (Status job vex)
-PlanFor files (Gen seed seconds workers piece) = SampleOf seed seconds workers piece
-PlanFor files order = PlanOf files order
+-- the task of a command on a job and its journal, by the plans that its files come to
+abbrev pub JobFor : Order → Outcomes Plan → Outcomes Task
+JobFor order plans (Ok (OfJob call)) = (call.order ≡ order) × plans (Ok call.plan)
+JobFor order plans (Ok (OfText text)) = ⊥
+JobFor order plans (Err answer) = plans (Err answer)
 
--- the task of an order on a job
-abbrev pub JobFor : Files → Order → Outcomes Task
-JobFor files order (Ok (OfJob call)) = (call.order ≡ order) × PlanFor files order (Ok call.plan)
-JobFor files order (Ok (OfRecords content)) = ⊥
-JobFor files order (Err answer) = PlanFor files order (Err answer)
+-- the task of a command that appends a text, by what its files come to
+abbrev pub TextFor : {A : Type 0} → Outcomes A → (A → List ℕ) → Outcomes Task
+TextFor {A} outcomes text (Ok (OfJob call)) = ⊥
+TextFor {A} outcomes text (Ok (OfText written)) = (x : A) × outcomes (Ok x) × (written ≡ text x)
+TextFor {A} outcomes text (Err answer) = outcomes (Err answer)
 
--- the task of showing a record file
-abbrev pub ShowFor : Outcomes Content → Outcomes Task
-ShowFor outcomes (Ok (OfJob call)) = ⊥
-ShowFor outcomes (Ok (OfRecords content)) = outcomes (Ok content)
-ShowFor outcomes (Err answer) = outcomes (Err answer)
-
--- the task of an order
+-- The task of an order. `status` looks at the lengths of the recordings alone, and `gen` has its own job and recordings.
 abbrev pub TaskFor : Files → Order → Outcomes Task
-TaskFor files (Dump file) = ShowFor (RecordsOf files file)
-TaskFor files order = JobFor files order
+TaskFor files (Run job vex workers piece) = JobFor (Run job vex workers piece) (PlanOf files (Run job vex workers piece))
+TaskFor files (Status job vex) = JobFor (Status job vex) (SurveyOf files (Status job vex))
+TaskFor files (Plain job vex) = TextFor (PlanOf files (Plain job vex)) (λ plan. output plan files)
+TaskFor files (Check job vex) = TextFor (PlanOf files (Check job vex)) (λ plan. check_text plan files)
+TaskFor files (Dump file) = TextFor (RecordsOf files file) dump_text
+TaskFor files (Gen seed seconds workers piece) = TextFor (SampleOf seed seconds workers piece) (sample_text seed seconds)
 
 -- what words and files come to
 abbrev pub OutcomeOf : List (List ℕ) → Files → Outcomes Task

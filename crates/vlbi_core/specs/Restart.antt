@@ -7,7 +7,7 @@ use Rattle.job_plan.specs.Output.{output}
 use Rattle.checkpoint_journal.specs.Runs.{StepTold, KeepsBodies}
 use Rattle.run_words.specs.declared.fault.WordsFault.{WordsFault}
 use Rattle.run_words.specs.declared.order.Order.{Order}
-use Rattle.run_words.specs.declared.order.Order.TheVariants.{Status, Gen}
+use Rattle.run_words.specs.declared.order.Order.TheVariants.{Gen}
 use Rattle.run_notes.specs.Answers.{journal_answer}
 use Rattle.run_notes.specs.Refusals.{Outcomes}
 use Rattle.run_journal.specs.Extended.{AreFrom}
@@ -57,11 +57,7 @@ abbrev pub IsNoRun : Result Order WordsFault → Type 0
 IsNoRun (Ok order) = is_run order ≡ false
 IsNoRun (Err fault) = ⊤
 
--- words of `status`, and words of `gen`
-abbrev pub IsStatusOf : Result Order WordsFault → Type 0
-IsStatusOf (Ok (Status job vex)) = ⊤
-IsStatusOf _ = ⊥
-
+-- words of `gen`
 abbrev pub IsGenOf : Result Order WordsFault → Type 0
 IsGenOf (Ok (Gen seed seconds workers piece)) = ⊤
 IsGenOf _ = ⊥

@@ -9,9 +9,9 @@ use Rattle.run_words.specs.declared.fault.WordsFault.{WordsFault}
 use Rattle.run_words.specs.declared.order.Order.{Order}
 use Rattle.run_notes.specs.Answers.{Answer, words_answer, memory_answer, read_answer, journal_answer, write_answer, other_answer}
 use Rattle.run_notes.specs.Refusals.{Outcomes, answer_of}
-use Rattle.vlbi_core.specs.Calls.{Call, Task, OfJob, OfRecords, identity_for, sizes_for, bodies_for, uses_journal}
+use Rattle.vlbi_core.specs.Calls.{Call, Task, OfJob, OfText, identity_for, sizes_for, bodies_for, uses_journal}
 use Rattle.vlbi_core.specs.Texts.{IsText, IsPart}
-use Rattle.vlbi_core.specs.Restart.{SaysKept, IsStatusOf}
+use Rattle.vlbi_core.specs.Restart.{SaysKept, IsNoRun}
 use Rattle.vlbi_core.specs.Steps.{OutcomeFrom}
 
 -- the statuses of what is wrong with words and files
@@ -29,7 +29,7 @@ IsStatus status = (status ≡ 0) ⊎ ((status ≡ 1) ⊎ ((status ≡ 7) ⊎ ((s
 -- a journal that a task can go on from, where it uses one: its count of faults did not rise, and what a read gives is blank or of
 -- the job's form
 abbrev pub IsUsable : Files → Task → Option (List ℕ) → Type 0 → Type 0
-IsUsable files (OfRecords content) journal fault = ⊤
+IsUsable files (OfText text) journal fault = ⊤
 IsUsable files (OfJob call) journal fault =
     uses_journal call.order ≡ true
     → (¬ fault) × ((image : List ℕ) × (journal ≡ Some image) × IsSome (bodies_for files call image))
@@ -104,15 +104,15 @@ pub record IsNoted (line : List ℕ) (old new : Option (List ℕ)) (fault : Type
   pub part : PrefixMore old line new
   pub all : ¬ fault → new ≡ more old line
 
--- The note of a call is a line of its status: with status 2 that of the words' fault, and of a fault of the journal in `status` that
--- without a number. Where the shelf tells its files it is the line of what words and files come to, and says how many epochs the
+-- The note of a call is a line of its status: with status 2 that of the words' fault, and of a fault of the journal in any call but one
+-- of `run` that without a number. Where the shelf tells its files it is the line of what words and files come to, and says how many epochs the
 -- journal keeps. It stands in the notes, or where these failed a first part of it.
 pub record IsNoteOf (wanted : Result Order WordsFault) (shelf : Option Files) (status : ℕ) (images : List ℕ → Type 0)
     (before after told_old told_new notes_old notes_new : Option (List ℕ)) (fault : Type 0) : Type 0 where
   pub line : List ℕ
   pub some : IsSomeLine status line
   pub words : status ≡ 2 → IsWordsLine wanted line
-  pub unnumbered : IsStatusOf wanted → status ≡ 8 → line ≡ (journal_answer None).note
+  pub unnumbered : IsNoRun wanted → status ≡ 8 → line ≡ (journal_answer None).note
   pub verdict : WhereTold shelf (λ files. IsLineOf (OutcomeFrom wanted files) files before status line)
   pub says : WhereTold shelf (λ files. (call : Call) → OutcomeFrom wanted files (Ok (OfJob call))
       → SaysKept files call line images before after told_old told_new)

@@ -10,14 +10,14 @@ use Rattle.checkpoint_journal.specs.Finding.{IsOther}
 use Rattle.checkpoint_journal.specs.Runs.{Looks, Changes, StepTold, KeepsBodies}
 use Rattle.run_words.specs.declared.fault.WordsFault.{WordsFault}
 use Rattle.run_words.specs.declared.order.Order.{Order}
-use Rattle.run_words.specs.declared.order.Order.TheVariants.{Run, Plain, Check, Status, Dump, Gen}
+use Rattle.run_words.specs.declared.order.Order.TheVariants.{Run, Status, Gen}
 use Rattle.run_notes.specs.declared.refusal.Refusal.{Refusal}
 use Rattle.run_notes.specs.declared.refusal.Refusal.TheVariants.{Memory, Words, Due as DueRefusal, Other, Read, Journal, Write}
 use Rattle.run_notes.specs.Answers.{words_answer}
 use Rattle.run_notes.specs.Refusals.{Outcomes, IsCause, due_answer}
 use Rattle.run_ready.specs.Steps.{Is, Then, answered}
 use Rattle.run_journal.specs.Extended.{Extends}
-use Rattle.vlbi_core.specs.Calls.{Call, Task, OfJob, OfRecords, TaskFor, identity_for, sizes_for, bodies_for, kept_for, is_run, uses_journal}
+use Rattle.vlbi_core.specs.Calls.{Call, Task, OfJob, OfText, TaskFor, identity_for, sizes_for, bodies_for, kept_for, is_run, uses_journal}
 use Rattle.vlbi_core.specs.Texts.{IsSums, IsText, IsPart, epochs_for}
 use Rattle.vlbi_core.specs.Restart.{IsHonest, IsRunOf, IsNoRun}
 
@@ -41,15 +41,7 @@ IsNumbered (Run job vex workers piece) = IsWork workers piece
 IsNumbered (Gen seed seconds workers piece) = IsSample seconds × IsWork workers piece
 IsNumbered _ = ⊤
 
--- an order of each command
-abbrev pub IsPlainOrder : Order → Type 0
-IsPlainOrder (Plain job vex) = ⊤
-IsPlainOrder _ = ⊥
-
-abbrev pub IsCheckOrder : Order → Type 0
-IsCheckOrder (Check job vex) = ⊤
-IsCheckOrder _ = ⊥
-
+-- an order of `run`, and one of `status`
 abbrev pub IsRunOrder : Order → Type 0
 IsRunOrder (Run job vex workers piece) = ⊤
 IsRunOrder _ = ⊥
@@ -174,7 +166,7 @@ IsLookedFor id sizes before _ = ⊥
 
 -- A journal that a task went on from, where it uses one: what a read gave is blank or of the job's form.
 abbrev pub IsOpened : Files → Task → Option (List ℕ) → Type 0
-IsOpened files (OfRecords content) before = ⊤
+IsOpened files (OfText text) before = ⊤
 IsOpened files (OfJob call) before = uses_journal call.order ≡ true → WhereTold before (λ image. IsSome (bodies_for files call image))
 
 -- another job's journal, where a call uses one

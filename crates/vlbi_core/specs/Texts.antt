@@ -4,19 +4,16 @@ use Rattle.dev_traits.specs.Told.{WhereTold, PrefixMore}
 use Rattle.corr_model.specs.Files.{Files}
 use Rattle.piece_plan.specs.Epochs.{epochs_of}
 use Rattle.job_plan.specs.declared.plan.Plan.{Plan}
-use Rattle.job_plan.specs.Output.{output}
 use Rattle.job_epochs.specs.Sizes.{sizes_of}
 use Rattle.job_epochs.specs.Sums.{sums_of}
 use Rattle.checkpoint_journal.specs.Cells.{body_text}
 use Rattle.run_words.specs.declared.order.Order.{Order}
-use Rattle.run_words.specs.declared.order.Order.TheVariants.{Run, Plain, Check, Status, Dump, Gen}
+use Rattle.run_words.specs.declared.order.Order.TheVariants.{Run, Status}
 use Rattle.run_notes.specs.Refusals.{Outcomes}
 use Rattle.run_journal.specs.Extended.{AreFrom}
 use Rattle.run_records.specs.Kept.{kept_text}
-use Rattle.run_summary.specs.Summaries.{check_text, kept_line}
-use Rattle.vis_records.specs.Dumped.{dump_text}
-use Rattle.vlbi_core.specs.Sample.{sample_text}
-use Rattle.vlbi_core.specs.Calls.{Call, Task, OfJob, OfRecords, bodies_for, kept_for}
+use Rattle.run_summary.specs.Summaries.{kept_line}
+use Rattle.vlbi_core.specs.Calls.{Call, Task, OfJob, OfText, bodies_for, kept_for}
 
 -- the number of epochs of a call's job
 abbrev pub epochs_for : Call → ℕ
@@ -39,16 +36,13 @@ pub record IsRecords (files : Files) (call : Call) (before after text : List ℕ
 
 -- the text of a task, by what the journal's disk reads before it and after it
 abbrev pub IsText : Files → Task → Option (List ℕ) → Option (List ℕ) → List ℕ → Type 0
-IsText files (OfRecords content) before after text = text ≡ dump_text content
+IsText files (OfText written) before after text = text ≡ written
 IsText files (OfJob call) before after text = by call.order
   where
     by : Order → Type 0
-    by (Plain job vex) = text ≡ output call.plan files
-    by (Check job vex) = text ≡ check_text call.plan files
     by (Status job vex) = WhereTold before (λ image. text ≡ kept_line (kept_for files call image) (epochs_for call))
     by (Run job vex workers piece) = WhereTold before (λ old. WhereTold after (λ new. IsRecords files call old new text))
-    by (Dump file) = ⊥
-    by (Gen seed seconds workers piece) = text ≡ sample_text seed seconds call.plan
+    by _ = ⊥
 
 -- a first part of the text of the task, where there is one
 pub record IsPart (outcomes : Outcomes Task) (files : Files) (before after old new : Option (List ℕ)) : Type 0 where

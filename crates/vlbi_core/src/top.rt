@@ -7,7 +7,7 @@ ghost use Rattle.run_words.specs.Orders.{AreTexts};
 ghost use Rattle.run_notes.specs.Counted.{CountsReads, CountsReadsBeside, CountsJournal, CountsWrites};
 ghost use Rattle.vlbi_core.specs.Calls.{texts_of, order_in, is_run, OutcomeOf};
 ghost use Rattle.vlbi_core.specs.Run.{IsVerdictStatus, IsDueStatus, IsStatus, IsVerdict, IsAppended, IsNoteOf};
-ghost use Rattle.vlbi_core.specs.Restart.{Restarts, AppendsOutput, IsRunOf, IsNoRun, IsStatusOf, IsGenOf};
+ghost use Rattle.vlbi_core.specs.Restart.{Restarts, AppendsOutput, IsRunOf, IsNoRun, IsGenOf};
 ghost use Rattle.vlbi_core.specs.Steps.{IsNumbered, IsWorded, IsBehindWords, IsShort, IsUnnumbered, IsOfSample, Goes, Does, Leaves};
 
 use crate::check::check_job;
@@ -148,7 +148,7 @@ fn call<R: Threads + Sync, F: Shelf + Send, D: Disk + Send, S: Sink, G: Gate + S
     ensures does { WhereTold (F.told shelf.old) (λ files. Does (order_in (texts_of words.now)) files D.seen D.moment D.may_leave journal.old journal.new (S.told out.old) (S.told out.new) result) }
     ensures leaves { Leaves (order_in (texts_of words.now)) D.seen D.moment D.may_leave journal.old journal.new (S.told out.old) (S.told out.new) result }
     ensures words { IsWorded (order_in (texts_of words.now)) result }
-    ensures unnumbered { IsStatusOf (order_in (texts_of words.now)) → IfErr result IsUnnumbered }
+    ensures unnumbered { IsNoRun (order_in (texts_of words.now)) → IfErr result IsUnnumbered }
     ensures generated { IsGenOf (order_in (texts_of words.now)) → IfErr result IsOfSample }
     ensures reads { CountsReadsBeside (F.faults shelf.old) (F.faults shelf.new) result }
     ensures alone { IsNoRun (order_in (texts_of words.now)) → CountsReads (F.faults shelf.old) (F.faults shelf.new) result }
@@ -175,7 +175,7 @@ fn command<R: Threads + Sync, F: Shelf + Send, D: Disk + Send, S: Sink, G: Gate 
     ensures does { WhereTold (F.told shelf.old) (λ files. Does (Ok order.now) files D.seen D.moment D.may_leave journal.old journal.new (S.told out.old) (S.told out.new) result) }
     ensures leaves { Leaves (Ok order.now) D.seen D.moment D.may_leave journal.old journal.new (S.told out.old) (S.told out.new) result }
     ensures stage { IfErr result IsBehindWords }
-    ensures unnumbered { IsStatusOf (Ok order.now) → IfErr result IsUnnumbered }
+    ensures unnumbered { is_run order.now ≡ false → IfErr result IsUnnumbered }
     ensures generated { IsGenOf (Ok order.now) → IfErr result IsOfSample }
     ensures reads { CountsReadsBeside (F.faults shelf.old) (F.faults shelf.new) result }
     ensures alone { is_run order.now ≡ false → CountsReads (F.faults shelf.old) (F.faults shelf.new) result }

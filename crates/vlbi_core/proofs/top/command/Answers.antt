@@ -1,24 +1,24 @@
 use Rattle.std.proofs.Common.{Ok, sym, subst}
 use Rattle.run_words.specs.declared.order.Order.{Order}
 use Rattle.vis_writer.proofs.WritesLemmas.{where_then, where_always}
-use Rattle.vlbi_core.specs.Restart.{IsStatusOf, IsGenOf}
-use Rattle.vlbi_core.specs.Steps.{IsCheckOrder, IsPlainOrder, IsRunOrder, Does}
-use Rattle.vlbi_core.proofs.CommandLemmas.{reads-beside, run-not-alone, does-check, does-plain, does-dump, does-gen}
+use Rattle.vlbi_core.specs.Restart.{IsGenOf}
+use Rattle.vlbi_core.specs.Steps.{IsRunOrder, Does}
+use Rattle.vlbi_core.proofs.CommandLemmas.{reads-beside, run-not-alone, shows-stage, files-unnumbered, does-check, does-plain, does-dump, does-gen}
 use Rattle.vlbi_core.proofs.SampleLemmas.{of-files, reads-same}
 use Rattle.vlbi_core.proofs.top.command.Goals as goal
 
 pub returns-in-Check-clause-does : goal.returns-in-Check-clause-does
 returns-in-Check-clause-does g c =
     where_then (g.F.Shelf.told c.args.shelf.now) _ _
-    (λ files tells. does-check g.D.Disk.seen g.D.Disk.moment g.D.Disk.may_leave files c.args.order.now c.args.journal.now (g.S.Sink.told c.args.out.now) (g.S.Sink.told c.check_job.new.out) c.check_job.result
-    (subst IsCheckOrder (sym c.in-Check.is) tt) c.check_job.ensures.stage tells)
+    (λ files tells. does-check g.D.Disk.seen g.D.Disk.moment g.D.Disk.may_leave files c.args.order.now _ _ c.in-Check.is
+    c.args.journal.now (g.S.Sink.told c.args.out.now) (g.S.Sink.told c.check_job.new.out) c.check_job.result c.check_job.ensures.stage tells)
     c.check_job.ensures.tells
 
 pub returns-in-Plain-clause-does : goal.returns-in-Plain-clause-does
 returns-in-Plain-clause-does g c =
     where_then (g.F.Shelf.told c.args.shelf.now) _ _
-    (λ files tells. does-plain g.D.Disk.seen g.D.Disk.moment g.D.Disk.may_leave files c.args.order.now c.args.journal.now (g.S.Sink.told c.args.out.now) (g.S.Sink.told c.plain_job.new.out) c.plain_job.result
-    (subst IsPlainOrder (sym c.in-Plain.is) tt) c.plain_job.ensures.stage tells)
+    (λ files tells. does-plain g.D.Disk.seen g.D.Disk.moment g.D.Disk.may_leave files c.args.order.now _ _ c.in-Plain.is
+    c.args.journal.now (g.S.Sink.told c.args.out.now) (g.S.Sink.told c.plain_job.new.out) c.plain_job.result c.plain_job.ensures.stage tells)
     c.plain_job.ensures.tells
 
 pub returns-in-Dump-clause-does : goal.returns-in-Dump-clause-does
@@ -60,19 +60,19 @@ pub returns-in-Gen-clause-alone : goal.returns-in-Gen-clause-alone
 returns-in-Gen-clause-alone g c = λ alone. reads-same _ c.total_sample.result c.total_sample.ensures.stage
 
 pub returns-in-Run-clause-unnumbered : goal.returns-in-Run-clause-unnumbered
-returns-in-Run-clause-unnumbered g c = λ is. absurd (subst (λ (o : Order). IsStatusOf (Ok o)) c.in-Run.is is)
+returns-in-Run-clause-unnumbered g c = λ alone. absurd (run-not-alone c.args.order.now (subst IsRunOrder (sym c.in-Run.is) tt) alone)
 
 pub returns-in-Plain-clause-unnumbered : goal.returns-in-Plain-clause-unnumbered
-returns-in-Plain-clause-unnumbered g c = λ is. absurd (subst (λ (o : Order). IsStatusOf (Ok o)) c.in-Plain.is is)
+returns-in-Plain-clause-unnumbered g c = λ alone. files-unnumbered c.plain_job.result c.plain_job.ensures.stage
 
 pub returns-in-Check-clause-unnumbered : goal.returns-in-Check-clause-unnumbered
-returns-in-Check-clause-unnumbered g c = λ is. absurd (subst (λ (o : Order). IsStatusOf (Ok o)) c.in-Check.is is)
+returns-in-Check-clause-unnumbered g c = λ alone. files-unnumbered c.check_job.result c.check_job.ensures.stage
 
 pub returns-in-Dump-clause-unnumbered : goal.returns-in-Dump-clause-unnumbered
-returns-in-Dump-clause-unnumbered g c = λ is. absurd (subst (λ (o : Order). IsStatusOf (Ok o)) c.in-Dump.is is)
+returns-in-Dump-clause-unnumbered g c = λ alone. files-unnumbered c.show_records.result (shows-stage c.show_records.result c.show_records.ensures.stage)
 
 pub returns-in-Gen-clause-unnumbered : goal.returns-in-Gen-clause-unnumbered
-returns-in-Gen-clause-unnumbered g c = λ is. absurd (subst (λ (o : Order). IsStatusOf (Ok o)) c.in-Gen.is is)
+returns-in-Gen-clause-unnumbered g c = λ alone. files-unnumbered c.total_sample.result (of-files c.total_sample.result c.total_sample.ensures.stage)
 
 pub returns-in-Run-clause-generated : goal.returns-in-Run-clause-generated
 returns-in-Run-clause-generated g c = λ is. absurd (subst (λ (o : Order). IsGenOf (Ok o)) c.in-Run.is is)

@@ -49,6 +49,23 @@ not_both b first second = cc
 pub one-job : (a b : Call) → OfJob a ≡ OfJob b → a ≡ b
 one-job a b same = cc
 
+-- what holds of each order of `run`, and of `status`
+pub on-run : (P : Order → Type 0) → ((job : List ℕ) (vex : Option (List ℕ)) (workers piece : ℕ) → P (Run job vex workers piece)) → (order : Order) → IsRunOrder order → P order
+on-run P holds (Run job vex workers piece) is = holds job vex workers piece
+on-run P holds (Plain job vex) is = absurd is
+on-run P holds (Check job vex) is = absurd is
+on-run P holds (Status job vex) is = absurd is
+on-run P holds (Dump file) is = absurd is
+on-run P holds (Gen seed seconds workers piece) is = absurd is
+
+pub on-status : (P : Order → Type 0) → ((job : List ℕ) (vex : Option (List ℕ)) → P (Status job vex)) → (order : Order) → IsStatusOrder order → P order
+on-status P holds (Status job vex) is = holds job vex
+on-status P holds (Run job vex workers piece) is = absurd is
+on-status P holds (Plain job vex) is = absurd is
+on-status P holds (Check job vex) is = absurd is
+on-status P holds (Dump file) is = absurd is
+on-status P holds (Gen seed seconds workers piece) is = absurd is
+
 -- a text is no job
 no-job : (text : List ℕ) (call : Call) → OfText text ≡ OfJob call → ⊥
 no-job text call same = cc
@@ -67,12 +84,7 @@ reads-beside before now (Err (Journal kept)) reads = omega (arith, reads)
 reads-beside before now (Err Write) reads = reads
 
 pub run-not-alone : (order : Order) → IsRunOrder order → is_run order ≡ false → ⊥
-run-not-alone (Run job vex workers piece) run alone = cc
-run-not-alone (Plain job vex) run alone = run
-run-not-alone (Check job vex) run alone = run
-run-not-alone (Status job vex) run alone = run
-run-not-alone (Dump file) run alone = run
-run-not-alone (Gen seed seconds workers piece) run alone = run
+run-not-alone = on-run (λ (o : Order). is_run o ≡ false → ⊥) (λ job vex workers piece alone. not_both true refl alone)
 
 -- ---- numbers of epochs
 
@@ -244,21 +256,15 @@ module _ {D : Type 0} (seen : D → Option (List ℕ)) (moment : D → ℕ) (may
 
   pub run-files : (files : Files) (order : Order) (d : D) (old : Option (List ℕ)) (r : Refusal) → IsRunOrder order → IsOfFiles r → IsCause r (PlanOf files order)
       → Does (Ok order) files seen moment may_leave d d old old (Err r)
-  run-files files (Run job vex workers piece) d old r is stage cause = does-files files (Run job vex workers piece) (PlanOf files (Run job vex workers piece)) (λ o p. p) d old r stage cause
-  run-files files (Plain job vex) d old r is stage cause = absurd is
-  run-files files (Check job vex) d old r is stage cause = absurd is
-  run-files files (Status job vex) d old r is stage cause = absurd is
-  run-files files (Dump file) d old r is stage cause = absurd is
-  run-files files (Gen seed seconds workers piece) d old r is stage cause = absurd is
+  run-files files order d old r is stage =
+      on-run (λ (o : Order). IsCause r (PlanOf files o) → Does (Ok o) files seen moment may_leave d d old old (Err r))
+      (λ job vex workers piece cause. does-files files (Run job vex workers piece) (PlanOf files (Run job vex workers piece)) (λ o p. p) d old r stage cause) order is
 
   pub status-files : (files : Files) (order : Order) (d : D) (old : Option (List ℕ)) (r : Refusal) → IsStatusOrder order → IsOfFiles r → IsCause r (SurveyOf files order)
       → Does (Ok order) files seen moment may_leave d d old old (Err r)
-  status-files files (Status job vex) d old r is stage cause = does-files files (Status job vex) (SurveyOf files (Status job vex)) (λ o p. p) d old r stage cause
-  status-files files (Run job vex workers piece) d old r is stage cause = absurd is
-  status-files files (Plain job vex) d old r is stage cause = absurd is
-  status-files files (Check job vex) d old r is stage cause = absurd is
-  status-files files (Dump file) d old r is stage cause = absurd is
-  status-files files (Gen seed seconds workers piece) d old r is stage cause = absurd is
+  status-files files order d old r is stage =
+      on-status (λ (o : Order). IsCause r (SurveyOf files o) → Does (Ok o) files seen moment may_leave d d old old (Err r))
+      (λ job vex cause. does-files files (Status job vex) (SurveyOf files (Status job vex)) (λ o p. p) d old r stage cause) order is
 
   -- ---- commands that leave the journal alone
 

@@ -30,7 +30,7 @@ use Rattle.vlbi_core.specs.Texts.{IsSums, IsPart, IsRecords, epochs_for}
 use Rattle.vlbi_core.specs.Restart.{IsHonest}
 use Rattle.vlbi_core.specs.Steps.{OutcomeFrom, IsBehindWords, IsCauseOf, IsPartly, Goes, Does, MatchDue, MatchEarly, MatchVerdict, Leaves, IsRunOrder, SaysFor}
 use Rattle.vlbi_core.proofs.ExtendLemmas.{some_bodies, AreFrom-append, AreFrom-at, Extends-stays, Extends-joins, Extends-split, kept-of}
-use Rattle.vlbi_core.proofs.CommandLemmas.{call_of, planned, one-job, not_both, is_some_at, due-same, early-same}
+use Rattle.vlbi_core.proofs.CommandLemmas.{on-run, call_of, planned, one-job, not_both, is_some_at, due-same, early-same}
 
 -- the law of record files from sums
 abbrev pub SumsMakeOutput : Type 0
@@ -114,15 +114,12 @@ module _ {D : Type 0} (seen : D → Option (List ℕ)) (moment : D → ℕ) (may
       → Resumed told plan id sizes before after r
       → WhereTold told (λ files. Does (Ok order) files seen moment may_leave before after old old (Err r))
   run-resumed None order plan id sizes before after old r is there same cut h = tt
-  run-resumed (Some files) (Run job vex workers piece) plan id sizes before after old r is there same cut h =
-      does-resumed-at files job vex workers piece plan there before after old r
+  run-resumed (Some files) order plan id sizes before after old r is there same cut h =
+      on-run (λ (o : Order). PlanOf files o (Ok plan) → id ≡ identity_under files o plan → Does (Ok o) files seen moment may_leave before after old old (Err r))
+      (λ job vex workers piece there same. does-resumed-at files job vex workers piece plan there before after old r
       (subst (λ (i : List ℕ). Resumed (Some files) plan i (sizes_of plan) before after r) same
-      (subst (λ (z : JobSizes). Resumed (Some files) plan id z before after r) cut h))
-  run-resumed (Some files) (Plain job vex) plan id sizes before after old r is there same cut h = absurd is
-  run-resumed (Some files) (Check job vex) plan id sizes before after old r is there same cut h = absurd is
-  run-resumed (Some files) (Status job vex) plan id sizes before after old r is there same cut h = absurd is
-  run-resumed (Some files) (Dump file) plan id sizes before after old r is there same cut h = absurd is
-  run-resumed (Some files) (Gen seed seconds workers piece) plan id sizes before after old r is there same cut h = absurd is
+      (subst (λ (z : JobSizes). Resumed (Some files) plan id z before after r) cut h)))
+      order is there same
 
   resumed-verdict : (id sizes : List ℕ) (before after : D) (r : Refusal) → IsRefusedFor id sizes (seen before) (seen after) r
       → MatchVerdict r (seen after ≡ seen before) (Looks seen moment may_leave before after)
@@ -145,17 +142,13 @@ module _ {D : Type 0} (seen : D → Option (List ℕ)) (moment : D → ℕ) (may
 
   pub resumed-leaves : (order : Order) (id sizes : List ℕ) (before after : D) (old : Option (List ℕ)) (r : Refusal) → IsRunOrder order
       → IsRefusedFor id sizes (seen before) (seen after) r → Leaves (Ok order) seen moment may_leave before after old old (Err r)
-  resumed-leaves (Run job vex workers piece) id sizes before after old r is of = record {
-    nothing = due-same old r;
-    whole = λ _. early-same old r;
-    untouched = λ other. absurd (not_both true refl other);
-    verdict = resumed-verdict id sizes before after r of;
-  }
-  resumed-leaves (Plain job vex) id sizes before after old r is of = absurd is
-  resumed-leaves (Check job vex) id sizes before after old r is of = absurd is
-  resumed-leaves (Status job vex) id sizes before after old r is of = absurd is
-  resumed-leaves (Dump file) id sizes before after old r is of = absurd is
-  resumed-leaves (Gen seed seconds workers piece) id sizes before after old r is of = absurd is
+  resumed-leaves order id sizes before after old r is of =
+      on-run (λ (o : Order). Leaves (Ok o) seen moment may_leave before after old old (Err r)) (λ job vex workers piece. record {
+        nothing = due-same old r;
+        whole = λ _. early-same old r;
+        untouched = λ other. absurd (not_both true refl other);
+        verdict = resumed-verdict id sizes before after r of;
+      }) order is
 
   -- ---- the records of a journal that keeps all
 
@@ -347,15 +340,12 @@ module _ {D : Type 0} (seen : D → Option (List ℕ)) (moment : D → ℕ) (may
       → Emitted told plan id sizes journal before mid after old new result
       → WhereTold told (λ files. Does (Ok order) files seen moment may_leave before after old new result)
   run-emitted law None order plan id sizes journal before mid after old new result ranges few is there same cut h = tt
-  run-emitted law (Some files) (Run job vex workers piece) plan id sizes journal before mid after old new result ranges few is there same cut h =
-      does-emitted law files job vex workers piece plan there ranges few journal before mid after old new result
+  run-emitted law (Some files) order plan id sizes journal before mid after old new result ranges few is there same cut h =
+      on-run (λ (o : Order). PlanOf files o (Ok plan) → id ≡ identity_under files o plan → Does (Ok o) files seen moment may_leave before after old new result)
+      (λ job vex workers piece there same. does-emitted law files job vex workers piece plan there ranges few journal before mid after old new result
       (subst (λ (i : List ℕ). Emitted (Some files) plan i (sizes_of plan) journal before mid after old new result) same
-      (subst (λ (z : JobSizes). Emitted (Some files) plan id z journal before mid after old new result) cut h))
-  run-emitted law (Some files) (Plain job vex) plan id sizes journal before mid after old new result ranges few is there same cut h = absurd is
-  run-emitted law (Some files) (Check job vex) plan id sizes journal before mid after old new result ranges few is there same cut h = absurd is
-  run-emitted law (Some files) (Status job vex) plan id sizes journal before mid after old new result ranges few is there same cut h = absurd is
-  run-emitted law (Some files) (Dump file) plan id sizes journal before mid after old new result ranges few is there same cut h = absurd is
-  run-emitted law (Some files) (Gen seed seconds workers piece) plan id sizes journal before mid after old new result ranges few is there same cut h = absurd is
+      (subst (λ (z : JobSizes). Emitted (Some files) plan id z journal before mid after old new result) cut h)))
+      order is there same
 
   pub emitted-behind : (epochs : ℕ) (old new : Option (List ℕ)) (result : Result (Unit {0}) Refusal) → IfErr result (IsOfRecords epochs old new) → IfErr result IsBehindWords
   emitted-behind epochs old new (Ok x) of = tt
@@ -369,12 +359,13 @@ module _ {D : Type 0} (seen : D → Option (List ℕ)) (moment : D → ℕ) (may
 
   pub emitted-leaves : (order : Order) (epochs : ℕ) (before after : D) (old new : Option (List ℕ)) (result : Result (Unit {0}) Refusal) → IsRunOrder order
       → IfErr result (IsOfRecords epochs old new) → Leaves (Ok order) seen moment may_leave before after old new result
-  emitted-leaves (Run job vex workers piece) epochs before after old new result is of = record {
-    nothing = nothing result of;
-    whole = λ _. whole result of;
-    untouched = λ other. absurd (not_both true refl other);
-    verdict = verdict result of;
-  }
+  emitted-leaves order epochs before after old new result is of =
+      on-run (λ (o : Order). Leaves (Ok o) seen moment may_leave before after old new result) (λ job vex workers piece. record {
+        nothing = nothing result of;
+        whole = λ _. whole result of;
+        untouched = λ other. absurd (not_both true refl other);
+        verdict = verdict result of;
+      }) order is
     where
       nothing : (q : Result (Unit {0}) Refusal) → IfErr q (IsOfRecords epochs old new) → IfErr q (λ r. MatchDue r (new ≡ old))
       nothing (Ok x) of = tt
@@ -405,8 +396,3 @@ module _ {D : Type 0} (seen : D → Option (List ℕ)) (moment : D → ℕ) (may
       verdict (Err Read) of = tt
       verdict (Err (Journal kept)) of = tt
       verdict (Err Write) of = tt
-  emitted-leaves (Plain job vex) epochs before after old new result is of = absurd is
-  emitted-leaves (Check job vex) epochs before after old new result is of = absurd is
-  emitted-leaves (Status job vex) epochs before after old new result is of = absurd is
-  emitted-leaves (Dump file) epochs before after old new result is of = absurd is
-  emitted-leaves (Gen seed seconds workers piece) epochs before after old new result is of = absurd is

@@ -23,7 +23,7 @@ use Rattle.vlbi_core.specs.Texts.{epochs_for}
 use Rattle.vlbi_core.specs.Faults.{written_with}
 use Rattle.vlbi_core.specs.Steps.{OutcomeFrom, IsBehindWords, IsUnnumbered, IsLookedFor, IsCauseOf, IsPartly, Does, MatchDue, MatchVerdict, Leaves, IsStatusOrder}
 use Rattle.vlbi_core.proofs.ExtendLemmas.{kept-of}
-use Rattle.vlbi_core.proofs.CommandLemmas.{call_of, planned, one-job, not_both, is_some_at}
+use Rattle.vlbi_core.proofs.CommandLemmas.{on-status, call_of, planned, one-job, not_both, is_some_at}
 
 -- ---- looks at the journal
 
@@ -85,19 +85,16 @@ module _ {D : Type 0} (seen : D → Option (List ℕ)) (moment : D → ℕ) (may
       → IsStatusOrder order → SurveyOf files order (Ok plan) → id ≡ identity_under files order plan → sizes ≡ sizes_of plan
       → IsLookedFor id (body_sizes sizes) (seen before) r → Looks seen moment may_leave before after
       → Does (Ok order) files seen moment may_leave before after old old (Err r)
-  does-looked files (Status job vex) plan id sizes before after old r is there same cut of looks = record {
-    goes = inl looks;
-    done = tt;
-    cause = looked-cause files job vex plan (may_leave after (moment after)) (seen before) (seen after) old r there
-        (subst (λ (i : List ℕ). IsLookedFor i (body_sizes (sizes_of plan)) (seen before) r) same
-        (subst (λ (z : JobSizes). IsLookedFor id (body_sizes z) (seen before) r) cut of));
-    part = looked-part (OutcomeFrom (Ok (Status job vex)) files) files id (body_sizes sizes) (seen before) (seen before) (seen after) old r of;
-  }
-  does-looked files (Run job vex workers piece) plan id sizes before after old r is there same cut of looks = absurd is
-  does-looked files (Plain job vex) plan id sizes before after old r is there same cut of looks = absurd is
-  does-looked files (Check job vex) plan id sizes before after old r is there same cut of looks = absurd is
-  does-looked files (Dump file) plan id sizes before after old r is there same cut of looks = absurd is
-  does-looked files (Gen seed seconds workers piece) plan id sizes before after old r is there same cut of looks = absurd is
+  does-looked files order plan id sizes before after old r is there same cut of looks =
+      on-status (λ (o : Order). SurveyOf files o (Ok plan) → id ≡ identity_under files o plan → Does (Ok o) files seen moment may_leave before after old old (Err r))
+      (λ job vex there same. record {
+        goes = inl looks;
+        done = tt;
+        cause = looked-cause files job vex plan (may_leave after (moment after)) (seen before) (seen after) old r there
+            (subst (λ (i : List ℕ). IsLookedFor i (body_sizes (sizes_of plan)) (seen before) r) same
+            (subst (λ (z : JobSizes). IsLookedFor id (body_sizes z) (seen before) r) cut of));
+        part = looked-part (OutcomeFrom (Ok (Status job vex)) files) files id (body_sizes sizes) (seen before) (seen before) (seen after) old r of;
+      }) order is there same
 
   -- the number of epochs that was read, and its line
   module _ (files : Files) (job : List ℕ) (vex : Option (List ℕ)) (plan : Plan) (there : SurveyOf files (Status job vex) (Ok plan)) (kept epochs : ℕ)
@@ -159,15 +156,12 @@ module _ {D : Type 0} (seen : D → Option (List ℕ)) (moment : D → ℕ) (may
       → WhereTold (seen before) (ReadsMany id (body_sizes sizes) kept)
       → Appends old new (kept_line kept epochs) count now r
       → Does (Ok order) files seen moment may_leave before after old new (written_with r)
-  does-kept files (Status job vex) plan id sizes kept epochs before after old new count now r is there same cut many looks reads appends =
-      does-kept-at files job vex plan there kept epochs (many ∙ ap (λ (z : JobSizes). length (epochs_of z)) cut) before after old new count now r looks
+  does-kept files order plan id sizes kept epochs before after old new count now r is there same cut many looks reads appends =
+      on-status (λ (o : Order). SurveyOf files o (Ok plan) → id ≡ identity_under files o plan → Does (Ok o) files seen moment may_leave before after old new (written_with r))
+      (λ job vex there same. does-kept-at files job vex plan there kept epochs (many ∙ ap (λ (z : JobSizes). length (epochs_of z)) cut) before after old new count now r looks
       (subst (λ (i : List ℕ). WhereTold (seen before) (ReadsMany i (body_sizes (sizes_of plan)) kept)) same
-      (subst (λ (z : JobSizes). WhereTold (seen before) (ReadsMany id (body_sizes z) kept)) cut reads)) appends
-  does-kept files (Run job vex workers piece) plan id sizes kept epochs before after old new count now r is there same cut many looks reads appends = absurd is
-  does-kept files (Plain job vex) plan id sizes kept epochs before after old new count now r is there same cut many looks reads appends = absurd is
-  does-kept files (Check job vex) plan id sizes kept epochs before after old new count now r is there same cut many looks reads appends = absurd is
-  does-kept files (Dump file) plan id sizes kept epochs before after old new count now r is there same cut many looks reads appends = absurd is
-  does-kept files (Gen seed seconds workers piece) plan id sizes kept epochs before after old new count now r is there same cut many looks reads appends = absurd is
+      (subst (λ (z : JobSizes). WhereTold (seen before) (ReadsMany id (body_sizes z) kept)) cut reads)) appends)
+      order is there same
 
   -- and where the shelf may tell nothing
   pub status-looked : (told : Option Files) (order : Order) (plan : Plan) (id : List ℕ) (sizes : JobSizes) (before after : D) (old : Option (List ℕ)) (r : Refusal)
@@ -199,18 +193,14 @@ module _ {D : Type 0} (seen : D → Option (List ℕ)) (moment : D → ℕ) (may
 
   pub status-leaves : (order : Order) (before after : D) (old new : Option (List ℕ)) (result : Result (Unit {0}) Refusal) → IsStatusOrder order
       → Looks seen moment may_leave before after → IfErr result (λ r. MatchDue r (new ≡ old)) → Leaves (Ok order) seen moment may_leave before after old new result
-  status-leaves (Status job vex) before after old new result is looks nothing = record {
-    nothing = nothing;
-    whole = λ run. absurd (not_both false run refl);
-    untouched = λ _. looks;
-    verdict = by result;
-  }
+  status-leaves order before after old new result is looks nothing =
+      on-status (λ (o : Order). Leaves (Ok o) seen moment may_leave before after old new result) (λ job vex. record {
+        nothing = nothing;
+        whole = λ run. absurd (not_both false run refl);
+        untouched = λ _. looks;
+        verdict = by result;
+      }) order is
     where
       by : (q : Result (Unit {0}) Refusal) → IfErr q (λ r. MatchVerdict r (seen after ≡ seen before) (Looks seen moment may_leave before after))
       by (Ok x) = tt
       by (Err r) = verdict-looks before after r looks
-  status-leaves (Run job vex workers piece) before after old new result is looks nothing = absurd is
-  status-leaves (Plain job vex) before after old new result is looks nothing = absurd is
-  status-leaves (Check job vex) before after old new result is looks nothing = absurd is
-  status-leaves (Dump file) before after old new result is looks nothing = absurd is
-  status-leaves (Gen seed seconds workers piece) before after old new result is looks nothing = absurd is

@@ -14,10 +14,9 @@ use Rattle.job_plan.specs.declared.plan.StationPlan.{StationPlan}
 use Rattle.job_plan.specs.declared.plan.Plan.{Plan}
 use Rattle.checkpoint_journal.specs.Identity.{identity_of}
 use Rattle.run_words.specs.declared.order.Order.{Order}
-use Rattle.run_words.specs.declared.order.Order.TheVariants.{Run, Plain, Check, Status, Dump, Gen}
 use Rattle.run_ready.specs.declared.recordings.StationFiles.{StationFiles}
 use Rattle.run_ready.specs.Outcome.{job_names}
-use Rattle.run_ready.specs.Identities.{schedule_text, lengths_of, identity_under}
+use Rattle.run_ready.specs.Identities.{schedule_text, lengths_of, identity_named, identity_under}
 use Rattle.run_ready.specs.Sizes.{IsSizedBy, AreShelved, sizes_in}
 use Rattle.run_ready.proofs.FilesLemmas.{length-shelved}
 
@@ -124,13 +123,14 @@ same_identity : (files : Files) (sizes : List ℕ) (job other : List ℕ) (vex a
 same_identity files sizes job other vex another same alike =
     ap₂ (λ (v : Option (List ℕ)) (j : List ℕ). identity_of (schedule_text files v) (bytes_under files j) sizes) alike same
 
+identity_named-names : (files : Files) (names : Option (List ℕ × Option (List ℕ))) (plan : Plan) (job : List ℕ) (vex : Option (List ℕ))
+    → IsSome names → IfSome names (λ n. job ≡ n.0) → IfSome names (λ n. vex ≡ n.1)
+    → identity_of (schedule_text files vex) (bytes_under files job) (lengths_of files plan.stations) ≡ identity_named files names plan
+identity_named-names files None plan job vex there same alike = absurd cc
+identity_named-names files (Some n) plan job vex there same alike = same_identity files (lengths_of files plan.stations) job n.0 vex n.1 same alike
+
 -- the identity by the names is the order's
 pub identity_under-names : (files : Files) (order : Order) (plan : Plan) (job : List ℕ) (vex : Option (List ℕ))
     → IsSome (job_names order) → IfSome (job_names order) (λ names. job ≡ names.0) → IfSome (job_names order) (λ names. vex ≡ names.1)
     → identity_of (schedule_text files vex) (bytes_under files job) (lengths_of files plan.stations) ≡ identity_under files order plan
-identity_under-names files (Run j v workers piece) plan job vex there same alike = same_identity files (lengths_of files plan.stations) job j vex v same alike
-identity_under-names files (Plain j v) plan job vex there same alike = same_identity files (lengths_of files plan.stations) job j vex v same alike
-identity_under-names files (Check j v) plan job vex there same alike = same_identity files (lengths_of files plan.stations) job j vex v same alike
-identity_under-names files (Status j v) plan job vex there same alike = same_identity files (lengths_of files plan.stations) job j vex v same alike
-identity_under-names files (Dump file) plan job vex there same alike = absurd cc
-identity_under-names files (Gen seed seconds workers piece) plan job vex there same alike = absurd cc
+identity_under-names files order = identity_named-names files (job_names order)

@@ -7,7 +7,6 @@ use Rattle.job_text.specs.Inline.{scans_of}
 use Rattle.job_join.specs.Joined.{joined}
 use Rattle.job_plan.specs.declared.plan.Plan.{Plan}
 use Rattle.run_words.specs.declared.order.Order.{Order}
-use Rattle.run_words.specs.declared.order.Order.TheVariants.{Run, Plain, Check, Status, Dump, Gen}
 use Rattle.run_notes.specs.Answers.{Answer, words_answer, other_answer}
 use Rattle.run_notes.specs.Refusals.{Outcomes, IsCause, due_answer}
 use Rattle.run_notes.specs.declared.refusal.Refusal.{Refusal}
@@ -16,7 +15,7 @@ use Rattle.run_ready.specs.Due.{IsDue}
 use Rattle.run_ready.specs.Steps.{Is, Then, answered, unless, or_else}
 use Rattle.run_ready.specs.Stage.{IsOfFiles}
 use Rattle.run_ready.specs.Recordings.{files_answer, first_foreign, recordings_answer}
-use Rattle.run_ready.specs.Outcome.{cause_answer, Wrong, Joins, JobOf, ScheduleOf, PlanUnder, PlanBy, SurveyOf, PlanOf}
+use Rattle.run_ready.specs.Outcome.{job_names, cause_answer, Wrong, Joins, JobOf, ScheduleOf, PlanUnder, PlanNamed, PlanBy, SurveyOf, PlanOf}
 
 -- another outcome, which is the same where it is an answer
 abbrev Stays : {A : Type 0} → Result A Answer → Result A Answer → Type 0
@@ -53,14 +52,14 @@ PlanUnder-turn files w v job (Some vex) x y stays turns p =
     (λ scans. Then-turn (JobOf files job false) (λ fields. Joins w fields scans) (λ fields. Joins v fields scans) x y stays
     (λ fields. Joins-turn w v fields scans x y stays turns)) p
 
+PlanNamed-turn : (files : Files) (w v : Wrong) (names : Option (List ℕ × Option (List ℕ))) (x y : Result Plan Answer)
+    → Stays x y → Turns w v x y → PlanNamed files w names x → PlanNamed files v names y
+PlanNamed-turn files w v None x y stays turns p = absurd p
+PlanNamed-turn files w v (Some names) x y stays turns p = PlanUnder-turn files w v names.0 names.1 x y stays turns p
+
 PlanBy-turn : (files : Files) (w v : Wrong) (order : Order) (x y : Result Plan Answer)
     → Stays x y → Turns w v x y → PlanBy files w order x → PlanBy files v order y
-PlanBy-turn files w v (Run job vex workers piece) x y stays turns p = PlanUnder-turn files w v job vex x y stays turns p
-PlanBy-turn files w v (Plain job vex) x y stays turns p = PlanUnder-turn files w v job vex x y stays turns p
-PlanBy-turn files w v (Check job vex) x y stays turns p = PlanUnder-turn files w v job vex x y stays turns p
-PlanBy-turn files w v (Status job vex) x y stays turns p = PlanUnder-turn files w v job vex x y stays turns p
-PlanBy-turn files w v (Dump file) x y stays turns p = absurd p
-PlanBy-turn files w v (Gen seed seconds workers piece) x y stays turns p = absurd p
+PlanBy-turn files w v order = PlanNamed-turn files w v (job_names order)
 
 -- a plan whose files stand becomes what its recordings come to
 turns-plan : (files : Files) (plan : Plan) (o : Option Answer) → first_foreign files plan.stations ≡ o

@@ -14,11 +14,10 @@ use Rattle.job_join.specs.Joined.{joined}
 use Rattle.job_join.specs.declared.fault.Quantity.TheVariants.{Schedule, Job}
 use Rattle.job_plan.specs.declared.plan.Plan.{Plan}
 use Rattle.run_words.specs.declared.order.Order.{Order}
-use Rattle.run_words.specs.declared.order.Order.TheVariants.{Run, Plain, Check, Status, Dump, Gen}
 use Rattle.run_notes.specs.Answers.{Answer, vex_answer, schedule_answer, job_answer}
 use Rattle.run_notes.specs.Refusals.{Outcomes}
 use Rattle.run_ready.specs.Steps.{Is, Then, answered, unless}
-use Rattle.run_ready.specs.Outcome.{text_under, ScansOf, cause_answer, Wrong, Joins, JobOf, ScheduleOf, PlanUnder, PlanBy}
+use Rattle.run_ready.specs.Outcome.{job_names, text_under, ScansOf, cause_answer, Wrong, Joins, JobOf, ScheduleOf, PlanUnder, PlanNamed, PlanBy}
 
 -- there is at most one of these outcomes
 abbrev pub AreOne : {A : Type 0} → Outcomes A → Type 0
@@ -117,10 +116,9 @@ PlanUnder-one laws files wrong job (Some vex) =
     Then-one (ScheduleOf files vex) (λ scans. Then (JobOf files job false) (λ fields. Joins wrong fields scans)) (ScheduleOf-one laws files vex)
     (λ scans. Then-one (JobOf files job false) (λ fields. Joins wrong fields scans) (JobOf-one files job false) (λ fields. Joins-one wrong fields scans))
 
+PlanNamed-one : AreLaws → (files : Files) (wrong : Wrong) (names : Option (List ℕ × Option (List ℕ))) → AreOne (PlanNamed files wrong names)
+PlanNamed-one laws files wrong None a b p q = absurd p
+PlanNamed-one laws files wrong (Some names) a b p q = PlanUnder-one laws files wrong names.0 names.1 a b p q
+
 pub PlanBy-one : AreLaws → (files : Files) (wrong : Wrong) (order : Order) → AreOne (PlanBy files wrong order)
-PlanBy-one laws files wrong (Run job vex workers piece) a b p q = PlanUnder-one laws files wrong job vex a b p q
-PlanBy-one laws files wrong (Plain job vex) a b p q = PlanUnder-one laws files wrong job vex a b p q
-PlanBy-one laws files wrong (Check job vex) a b p q = PlanUnder-one laws files wrong job vex a b p q
-PlanBy-one laws files wrong (Status job vex) a b p q = PlanUnder-one laws files wrong job vex a b p q
-PlanBy-one laws files wrong (Dump file) a b p q = absurd p
-PlanBy-one laws files wrong (Gen seed seconds workers piece) a b p q = absurd p
+PlanBy-one laws files wrong order = PlanNamed-one laws files wrong (job_names order)

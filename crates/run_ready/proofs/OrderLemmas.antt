@@ -1,5 +1,5 @@
 -- The plan of an order by the names in it, and the stations of a plan.
-use Rattle.std.proofs.Common.{◌≡◌, ◌<◌, ◌^◌, ℕ, List, length, Option, Result, subst, arith}
+use Rattle.std.proofs.Common.{◌≡◌, ◌<◌, ◌^◌, ℕ, List, length, Option, None, Some, Result, subst, arith}
 use Rattle.std.specs.Prelude.{IsSome, IfSome}
 use Rattle.std.specs.List.{All}
 use Rattle.corr_model.specs.Files.{Files}
@@ -7,9 +7,8 @@ use Rattle.job_plan.specs.declared.plan.StationPlan.{StationPlan}
 use Rattle.job_plan.specs.declared.plan.Plan.{Plan}
 use Rattle.job_plan.specs.Ranges.{IsPlan}
 use Rattle.run_words.specs.declared.order.Order.{Order}
-use Rattle.run_words.specs.declared.order.Order.TheVariants.{Run, Plain, Check, Status, Dump, Gen}
 use Rattle.run_notes.specs.Answers.{Answer}
-use Rattle.run_ready.specs.Outcome.{job_names, Wrong, PlanUnder, PlanBy}
+use Rattle.run_ready.specs.Outcome.{job_names, Wrong, PlanUnder, PlanNamed, PlanBy}
 use Rattle.run_ready.specs.Sizes.{HasFiles}
 
 -- the files of a plan's stations can be looked up
@@ -25,13 +24,13 @@ same_names : (files : Files) (wrong : Wrong) (job other : List ℕ) (vex another
 same_names files wrong job other vex another outcome same alike is =
     subst (λ (v : Option (List ℕ)). PlanUnder files wrong other v outcome) alike (subst (λ (j : List ℕ). PlanUnder files wrong j vex outcome) same is)
 
+named-names : (files : Files) (wrong : Wrong) (names : Option (List ℕ × Option (List ℕ))) (job : List ℕ) (vex : Option (List ℕ)) (outcome : Result Plan Answer)
+    → IsSome names → IfSome names (λ n. job ≡ n.0) → IfSome names (λ n. vex ≡ n.1) → PlanUnder files wrong job vex outcome → PlanNamed files wrong names outcome
+named-names files wrong None job vex outcome some same alike is = absurd (cc)
+named-names files wrong (Some n) job vex outcome some same alike is = same_names files wrong job n.0 vex n.1 outcome same alike is
+
 -- what the names come to, the order comes to
 pub PlanBy-names : (files : Files) (wrong : Wrong) (order : Order) (job : List ℕ) (vex : Option (List ℕ)) (outcome : Result Plan Answer)
     → IsSome (job_names order) → IfSome (job_names order) (λ names. job ≡ names.0) → IfSome (job_names order) (λ names. vex ≡ names.1)
     → PlanUnder files wrong job vex outcome → PlanBy files wrong order outcome
-PlanBy-names files wrong (Run j v workers piece) job vex outcome some same alike is = same_names files wrong job j vex v outcome same alike is
-PlanBy-names files wrong (Plain j v) job vex outcome some same alike is = same_names files wrong job j vex v outcome same alike is
-PlanBy-names files wrong (Check j v) job vex outcome some same alike is = same_names files wrong job j vex v outcome same alike is
-PlanBy-names files wrong (Status j v) job vex outcome some same alike is = same_names files wrong job j vex v outcome same alike is
-PlanBy-names files wrong (Dump file) job vex outcome some same alike is = absurd (cc)
-PlanBy-names files wrong (Gen seed seconds workers piece) job vex outcome some same alike is = absurd (cc)
+PlanBy-names files wrong order = named-names files wrong (job_names order)

@@ -16,10 +16,10 @@ schedule_text files (Some vex) = bytes_under files vex
 abbrev pub lengths_of : Files → List StationPlan → List ℕ
 lengths_of files stations = map (λ name. length (bytes_under files name)) (flat_map (λ (s : StationPlan). s.files) stations)
 
--- the texts of the schedule and of the job, and the lengths of the recordings
+-- the texts of the schedule and of the job with these names, and the lengths of the recordings; nothing where there are none
+abbrev pub identity_named : Files → Option (List ℕ × Option (List ℕ)) → Plan → List ℕ
+identity_named files None plan = []
+identity_named files (Some names) plan = identity_of (schedule_text files names.1) (bytes_under files names.0) (lengths_of files plan.stations)
+
 abbrev pub identity_under : Files → Order → Plan → List ℕ
-identity_under files order plan = by (job_names order)
-  where
-    by : Option (List ℕ × Option (List ℕ)) → List ℕ
-    by None = []
-    by (Some names) = identity_of (schedule_text files names.1) (bytes_under files names.0) (lengths_of files plan.stations)
+identity_under files order plan = identity_named files (job_names order) plan

@@ -109,12 +109,13 @@ PlanUnder files wrong job None = Then (JobOf files job true) (λ fields. Joins w
 PlanUnder files wrong job (Some vex) =
     Then (ScheduleOf files vex) (λ scans. Then (JobOf files job false) (λ fields. Joins wrong fields scans))
 
+-- the plan of the job with these names; nothing where there are none
+abbrev pub PlanNamed : Files → Wrong → Option (List ℕ × Option (List ℕ)) → Outcomes Plan
+PlanNamed files wrong None outcome = ⊥
+PlanNamed files wrong (Some names) outcome = PlanUnder files wrong names.0 names.1 outcome
+
 abbrev pub PlanBy : Files → Wrong → Order → Outcomes Plan
-PlanBy files wrong order = by (job_names order)
-  where
-    by : Option (List ℕ × Option (List ℕ)) → Outcomes Plan
-    by None outcome = ⊥
-    by (Some names) outcome = PlanUnder files wrong names.0 names.1 outcome
+PlanBy files wrong order = PlanNamed files wrong (job_names order)
 
 -- the plan of an order for a job, as far as the lengths of its files show
 abbrev pub SurveyOf : Files → Order → Outcomes Plan

@@ -1,5 +1,5 @@
 //! The values of a scan.
-ghost use Rattle.std.specs.Prelude.{◌≡◌, ◌≤◌, ◌≤ℤ◌, ◌<ℤ◌, ◌⊎◌, ℕ, ℤ, pos, ◌==◌, length, map, None, IfOk};
+ghost use Rattle.std.specs.Prelude.{◌≡◌, ◌-◌, ◌≤◌, ◌≤ℤ◌, ◌<ℤ◌, ◌⊎◌, ℕ, ℤ, pos, ◌==◌, length, map, None, IfOk};
 ghost use Rattle.std.specs.List.{position};
 ghost use Rattle.dev_traits.specs.Told.{WhereTold};
 ghost use Rattle.job_plan.specs.declared.plan.StayPlan.{StayPlan};
@@ -43,6 +43,7 @@ impl ScanValues {
         requires recorded { WhereTold (F.told shelf.old) (λ files. AreRecorded files plan.now.stations recordings.now) }
         requires order { from ≤ to }
         requires end { to ≤ scan.now.samples }
+        requires few { to - from ≤ 4195328 }
         ensures same { F.told shelf.new ≡ F.told shelf.old }
         ensures values { IfOk result (λ v. WhereTold (F.told shelf.old) (λ files. (station chan : ℕ) (n : ℤ) → pos from ≤ℤ n → n <ℤ pos to
             → values_of v station chan n ≡ rotated plan.now files scan.now station chan n)) }

@@ -1,5 +1,5 @@
 //! The values of one station's part of a scan.
-ghost use Rattle.std.specs.Prelude.{◌≡◌, ◌≤◌, ◌≤ℤ◌, ◌<ℤ◌, ℕ, ℤ, pos, true, is_some, length, IfOk};
+ghost use Rattle.std.specs.Prelude.{◌≡◌, ◌-◌, ◌≤◌, ◌≤ℤ◌, ◌<ℤ◌, ℕ, ℤ, pos, true, is_some, length, IfOk};
 ghost use Rattle.dev_traits.specs.Told.{WhereTold};
 ghost use Rattle.job_plan.specs.Ranges.{IsPlan, IsScanPlan, IsStay};
 ghost use Rattle.job_plan.specs.Values.{stay_of, stay_value};
@@ -14,7 +14,8 @@ use job_plan::{Plan, ScanPlan, StayPlan};
 use std::alloc::Global;
 
 /// The values of a station's part of a scan at the samples from `from` up to, not including, `to`, for each of the job's channels,
-/// in the room of spare lists. `stay` is one of the scan's, and `recordings` are those of the plan's stations, in their order.
+/// in the room of spare lists. They are at most 4,195,328: those of an epoch, and 512 on each side. `stay` is one of the scan's, and
+/// `recordings` are those of the plan's stations, in their order.
 pub fn stay_stream<F: Shelf>(
     alloc: Global,
     spare: &mut Vec<Vec<u8>>,
@@ -34,6 +35,7 @@ pub fn stay_stream<F: Shelf>(
     requires recorded { WhereTold (F.told shelf.old) (λ files. AreRecorded files plan.now.stations recordings.now) }
     requires order { from ≤ to }
     requires end { to ≤ scan.now.samples }
+    requires few { to - from ≤ 4195328 }
     ensures same { F.told shelf.new ≡ F.told shelf.old }
     ensures window { IfOk result (IsOfWindow from to) }
     ensures chans { IfOk result (λ s. length s.values ≡ length plan.now.channels) }

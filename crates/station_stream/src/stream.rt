@@ -43,7 +43,8 @@ impl Model for Stream {
 }
 
 impl Stream {
-    /// Reads the values of a station's channels at the samples from `from` up to, not including, `to` of a scan.
+    /// Reads the values of a station's channels at the samples from `from` up to, not including, `to` of a scan. They are at most
+    /// 4,195,328: those of an epoch, and 512 on each side.
     pub fn load<F: Shelf>(
         alloc: Global,
         shelf: &mut F,
@@ -56,6 +57,7 @@ impl Stream {
         requires begin { pos 0 ≤ℤ from }
         requires order { from ≤ℤ to }
         requires end { to ≤ℤ pos part.now.track.samples }
+        requires few { (to -ℤ from) ≤ℤ pos 4195328 }
         ensures same { F.told shelf.new ≡ F.told shelf.old }
         ensures window { IfOk result (λ s. (s.from ≡ from) × ((s.to ≡ to) × (length s.values ≡ length part.now.chans.now))) }
         ensures values { IfOk result (λ s. WhereTold (F.told shelf.old) (λ told. (chan : ℕ) (n : ℤ) → from ≤ℤ n → n <ℤ to
@@ -79,6 +81,7 @@ impl Stream {
         requires begin { pos 0 ≤ℤ from }
         requires order { from ≤ℤ to }
         requires end { to ≤ℤ pos part.now.track.samples }
+        requires few { (to -ℤ from) ≤ℤ pos 4195328 }
         ensures same { F.told shelf.new ≡ F.told shelf.old }
         ensures window { IfOk result (λ s. (s.from ≡ from) × ((s.to ≡ to) × (length s.values ≡ length part.now.chans.now))) }
         ensures values { IfOk result (λ s. WhereTold (F.told shelf.old) (λ told. (chan : ℕ) (n : ℤ) → from ≤ℤ n → n <ℤ to

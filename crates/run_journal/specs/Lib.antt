@@ -1,3 +1,4 @@
 pub mod Extended
 pub mod Refused
 pub mod Steps
+pub mod Counted

@@ -4,43 +4,39 @@ use Rattle.piece_plan.specs.Epochs.{JobSizes}
 use Rattle.checkpoint_journal.specs.declared.fault.OpenFault.{OpenFault}
 use Rattle.checkpoint_journal.specs.declared.fault.OpenFault.TheVariants.{Disk, Other as OtherJob, Memory as NoMemory}
 use Rattle.checkpoint_journal.specs.Image.{body_sizes, cells_of_epoch, gate_at}
-use Rattle.run_notes.specs.declared.refusal.Due.TheVariants.{Other}
-use Rattle.run_notes.specs.declared.refusal.Refusal.{Refusal}
-use Rattle.run_notes.specs.declared.refusal.Refusal.TheVariants.{Memory, Due as DueRefusal, Read, Journal, Write}
 use Rattle.run_sums.specs.declared.ahead.Ahead.{Ahead}
+use Rattle.run_journal.specs.declared.fault.ResumeFault.{ResumeFault}
+use Rattle.run_journal.specs.declared.fault.ResumeFault.TheVariants.{Memory, Other, Read, Journal}
 
--- the refusal of a journal that is not opened
-abbrev pub refusal_of : OpenFault → Refusal
-refusal_of Disk = Journal None
-refusal_of (OtherJob d) = DueRefusal (Other d)
-refusal_of NoMemory = Memory
+-- the fault of a journal that is not opened
+abbrev pub opening_fault : OpenFault → ResumeFault
+opening_fault Disk = Journal None
+opening_fault (OtherJob d) = Other d
+opening_fault NoMemory = Memory
 
--- what a journal may be refused for before it is open
-abbrev pub IsOfOpening : Refusal → Type 0
+-- the faults of a journal before it is open
+abbrev pub IsOfOpening : ResumeFault → Type 0
 IsOfOpening Memory = ⊤
-IsOfOpening (DueRefusal due) = ⊤
+IsOfOpening (Other d) = ⊤
 IsOfOpening Read = ⊥
 IsOfOpening (Journal None) = ⊤
 IsOfOpening (Journal (Some kept)) = ⊥
-IsOfOpening Write = ⊥
 
--- what an append may be refused for
-abbrev pub IsOfAppend : Refusal → Type 0
+-- the fault of an append
+abbrev pub IsOfAppend : ResumeFault → Type 0
 IsOfAppend Memory = ⊥
-IsOfAppend (DueRefusal due) = ⊥
+IsOfAppend (Other d) = ⊥
 IsOfAppend Read = ⊥
 IsOfAppend (Journal None) = ⊥
 IsOfAppend (Journal (Some kept)) = ⊤
-IsOfAppend Write = ⊥
 
--- what a round may be refused for, in which epochs are read, summed and appended
-abbrev pub IsOfEpoch : Refusal → Type 0
+-- the faults of a round, in which epochs are read, summed and appended
+abbrev pub IsOfEpoch : ResumeFault → Type 0
 IsOfEpoch Memory = ⊤
-IsOfEpoch (DueRefusal due) = ⊥
+IsOfEpoch (Other d) = ⊥
 IsOfEpoch Read = ⊤
 IsOfEpoch (Journal None) = ⊥
 IsOfEpoch (Journal (Some kept)) = ⊤
-IsOfEpoch Write = ⊥
 
 -- the body of each epoch, the gates before and behind it and one byte more end below 2^63
 pub record HasRoom (id : List ℕ) (job : JobSizes) : Type 0 where

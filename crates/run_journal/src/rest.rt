@@ -6,24 +6,23 @@ ghost use Rattle.station_stream.specs.Recorded.{AreRecorded};
 ghost use Rattle.checkpoint_journal.specs.Image.{body_sizes};
 ghost use Rattle.checkpoint_journal.specs.Standing.{Stands};
 ghost use Rattle.checkpoint_journal.specs.Runs.{Changes, Spares, KeepsBodies};
-ghost use Rattle.run_notes.specs.Counted.{CountsReadsBeside, CountsJournal};
+ghost use Rattle.run_journal.specs.Counted.{CountsReadsBeside, CountsJournal};
 ghost use Rattle.run_journal.specs.Extended.{IsSummed, Extends};
 ghost use Rattle.run_journal.specs.Refused.{IsOurs, IsRefusedFor, KeepsNamed};
 ghost use Rattle.run_journal.specs.Steps.{IsOfOpening, HasRoom};
 
-use crate::kept::refusal_of;
+use crate::fault::{ResumeFault, opening_fault};
 use crate::rounds::round;
 use checkpoint_journal::Journal;
 use dev_traits::{Disk, Gate, Shelf};
 use ready_job::Ready;
-use run_notes::Refusal;
 use run_sums::{Ahead, Spare};
 use std::alloc::Global;
 use std::thread::Threads;
 
 /// Opens the job's journal, and reads, sums and appends every epoch that it does not keep yet, in their order, with `workers`
 /// threads for the sums, 1 to 64, and pieces of at most `piece` samples, 64 to 4,194,304. While an epoch is summed, the next one
-/// is read, its planes are made, by as many threads again, and the one before it is appended. What the journal kept is neither
+/// is read, its planes are made by the thread that reads, and the one before it is appended. What the journal kept is neither
 /// summed nor written again. Where the journal and the shelf fail at the same time, the fault is the journal's. In memory are at
 /// most the planes of two epochs, the codes of one, and the room that epochs before them have left.
 pub fn resume<R: Threads + Sync, F: Shelf + Send, D: Disk + Send, G: Gate + Sync>(
@@ -35,7 +34,7 @@ pub fn resume<R: Threads + Sync, F: Shelf + Send, D: Disk + Send, G: Gate + Sync
     workers: u32,
     piece: u64,
     gate: &G,
-) -> Result<Journal, Refusal>
+) -> Result<Journal, ResumeFault>
     requires recorded { WhereTold (F.told shelf.old) (λ files. AreRecorded files ready.now.plan.stations ready.now.recordings.items) }
     requires workers { (1 ≤ workers) × (workers ≤ 64) }
     requires piece { (64 ≤ piece) × (piece ≤ 4194304) }
@@ -87,7 +86,7 @@ fn epoch_count(ready: &Ready) -> u64
 }
 
 // Opens the job's journal.
-fn open<D: Disk>(alloc: Global, ready: &Ready, disk: &mut D) -> Result<Journal, Refusal>
+fn open<D: Disk>(alloc: Global, ready: &Ready, disk: &mut D) -> Result<Journal, ResumeFault>
     ensures stands { IfOk result (λ journal. Stands ready.now.identity ready.now.epochs journal (D.seen disk.new) (D.may_leave disk.new (D.moment disk.new))) }
     ensures ours { OnOk result (WhereTold (D.seen disk.old) (IsOurs ready.now.identity (body_sizes ready.now.epochs))) }
     ensures changes { Changes D.seen D.moment D.may_leave
@@ -99,6 +98,6 @@ fn open<D: Disk>(alloc: Global, ready: &Ready, disk: &mut D) -> Result<Journal, 
 {
     match Journal::open_on(alloc, disk, &ready.identity, &ready.epochs) {
         Ok(journal) => Ok(journal),
-        Err(fault) => Err(refusal_of(fault)),
+        Err(fault) => Err(opening_fault(fault)),
     }
 }

@@ -7,20 +7,21 @@ ghost use Rattle.station_stream.specs.Recorded.{AreRecorded};
 ghost use Rattle.checkpoint_journal.specs.Image.{body_sizes, cells_of_epoch};
 ghost use Rattle.checkpoint_journal.specs.Standing.{Stands};
 ghost use Rattle.checkpoint_journal.specs.Runs.{Changes};
-ghost use Rattle.run_notes.specs.Counted.{CountsReadsBeside, CountsJournal};
 ghost use Rattle.run_sums.specs.Ahead.{behind, AreSumsOf, IsAhead};
 ghost use Rattle.run_sums.specs.Reach.{IsReached};
+ghost use Rattle.run_journal.specs.Counted.{CountsReadsBeside, CountsJournal};
 ghost use Rattle.run_journal.specs.Extended.{IsSummed, Extends};
 ghost use Rattle.run_journal.specs.Refused.{KeepsNamed};
 ghost use Rattle.run_journal.specs.Steps.{IsOfAppend, IsOfEpoch, HasRoom, steps_left};
 
+use crate::fault::ResumeFault;
 use crate::spread::join_spread;
 use atomic_sums::EpochSums;
 use checkpoint_journal::{AppendFault, Journal};
 use dev_traits::{Disk, Gate, Shelf};
 use ready_job::Ready;
-use run_notes::Refusal;
 use run_sums::{Ahead, Spare, advance, behind};
+use station_stream::StreamFault;
 use std::alloc::Global;
 use std::thread::Threads;
 
@@ -38,7 +39,7 @@ pub(crate) fn round<R: Threads + Sync, F: Shelf + Send, D: Disk + Send, G: Gate 
     workers: u32,
     piece: u64,
     gate: &G,
-) -> Result<Ahead, Refusal>
+) -> Result<Ahead, ResumeFault>
     requires recorded { WhereTold (F.told shelf.old) (λ files. AreRecorded files ready.now.plan.stations ready.now.recordings.items) }
     requires stands { Stands ready.now.identity ready.now.epochs journal.old (D.seen disk.old) (D.may_leave disk.old (D.moment disk.old)) }
     requires more { journal.old.kept < length (epochs_of ready.now.epochs) }
@@ -85,7 +86,11 @@ pub(crate) fn round<R: Threads + Sync, F: Shelf + Send, D: Disk + Send, G: Gate 
         },
     );
     appended?;
-    advanced
+    match advanced {
+        Ok(next) => Ok(next),
+        Err(StreamFault::Read) => Err(ResumeFault::Read),
+        Err(StreamFault::Memory) => Err(ResumeFault::Memory),
+    }
 }
 
 // Appends the sums of the first epoch that the journal does not keep, where they are there.
@@ -94,7 +99,7 @@ fn append_summed<D: Disk>(
     disk: &mut D,
     journal: &mut Journal,
     sums: &Option<EpochSums>,
-) -> Result<(), Refusal>
+) -> Result<(), ResumeFault>
     requires stands { Stands ready.now.identity ready.now.epochs journal.old (D.seen disk.old) (D.may_leave disk.old (D.moment disk.old)) }
     requires count { IfSome sums.now (λ s. cells_of_epoch ready.now.epochs journal.old.kept ≡ Some (length s.cells)) }
     requires room { HasRoom ready.now.identity ready.now.epochs }
@@ -118,7 +123,7 @@ fn append<D: Disk>(
     disk: &mut D,
     journal: &mut Journal,
     sums: &EpochSums,
-) -> Result<(), Refusal>
+) -> Result<(), ResumeFault>
     requires stands { Stands ready.now.identity ready.now.epochs journal.old (D.seen disk.old) (D.may_leave disk.old (D.moment disk.old)) }
     requires count { cells_of_epoch ready.now.epochs journal.old.kept ≡ Some (length sums.now.cells) }
     requires room { HasRoom ready.now.identity ready.now.epochs }
@@ -133,6 +138,6 @@ fn append<D: Disk>(
     let kept = journal.kept();
     match journal.append(disk, &ready.epochs, sums) {
         Ok(()) => Ok(()),
-        Err(AppendFault::Disk) => Err(Refusal::Journal(Some(kept))),
+        Err(AppendFault::Disk) => Err(ResumeFault::Journal(Some(kept))),
     }
 }

@@ -1,4 +1,3 @@
-pub mod Refused
 pub mod Found
 pub mod Pairs
 pub mod Parts

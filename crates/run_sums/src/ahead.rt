@@ -1,15 +1,14 @@
 //! What is summed and read ahead.
-ghost use Rattle.std.specs.Prelude.{◌≡◌, ◌^◌, ◌<◌, ◌≤◌, ◌↔◌, Option, IfOk, IfErr, IfSome, IsSome, is_some, length, slice_get};
+ghost use Rattle.std.specs.Prelude.{◌≡◌, ◌^◌, ◌<◌, ◌≤◌, ◌↔◌, Option, IfOk, IfSome, IsSome, is_some, length, slice_get};
 ghost use Rattle.std.specs.Option.{option_map_or};
 ghost use Rattle.dev_traits.specs.Told.{WhereTold};
 ghost use Rattle.corr_model.specs.Files.{Files};
 ghost use Rattle.piece_plan.specs.Epochs.{epochs_of};
+ghost use Rattle.station_stream.specs.Faults.{CountsReads};
 ghost use Rattle.station_stream.specs.Recorded.{AreRecorded};
 ghost use Rattle.epoch_run.specs.Sums.{pieces_in_epoch};
-ghost use Rattle.run_notes.specs.Counted.{CountsReads};
 ghost use Rattle.run_sums.specs.Ahead.{behind, AreSumsOf, IsAhead};
 ghost use Rattle.run_sums.specs.Reach.{HaveGroups, IsReached};
-ghost use Rattle.run_sums.specs.Refused.{IsOfReads};
 
 use crate::reached::reach;
 use crate::spare::Spare;
@@ -18,7 +17,7 @@ use crate::values::EpochValues;
 use atomic_sums::EpochSums;
 use dev_traits::{Gate, Shelf};
 use ready_job::Ready;
-use run_notes::Refusal;
+use station_stream::StreamFault;
 use std::alloc::{AllocError, Global};
 use std::thread::{Threads, join_mut};
 
@@ -55,7 +54,7 @@ pub fn advance<R: Threads + Sync, F: Shelf + Send, G: Gate + Sync>(
     workers: u32,
     piece: u64,
     gate: &G,
-) -> Result<Ahead, Refusal>
+) -> Result<Ahead, StreamFault>
     requires recorded { WhereTold (F.told shelf.old) (λ files. AreRecorded files ready.now.plan.stations ready.now.recordings.items) }
     requires within { e ≤ length (epochs_of ready.now.epochs) }
     requires reached { IfSome values.now (λ v. IsReached (F.told shelf.old) ready.now e v) }
@@ -67,9 +66,7 @@ pub fn advance<R: Threads + Sync, F: Shelf + Send, G: Gate + Sync>(
     ensures read { IfOk result (λ ahead. IsSome ahead.values ↔ (behind values.now e < length (epochs_of ready.now.epochs))) }
     ensures pieces { IfOk result (λ ahead. IfSome ahead.sums (λ sums. sums.pieces
         ≡ option_map_or (λ e. pieces_in_epoch e piece) (slice_get (epochs_of ready.now.epochs) e) 0)) }
-    ensures stage { IfErr result IsOfReads }
     ensures counts { CountsReads (F.faults shelf.old) (F.faults shelf.new) result }
-    ensures no_fall { F.faults shelf.old ≤ F.faults shelf.new }
 {
     are_of_epoch(shelf, ready, values, e);
     let next = behind(values, e);
@@ -105,14 +102,12 @@ fn reach_next<F: Shelf>(
     ready: &Ready,
     shelf: &mut F,
     i: u64,
-) -> Result<Option<EpochValues>, Refusal>
+) -> Result<Option<EpochValues>, StreamFault>
     requires recorded { WhereTold (F.told shelf.old) (λ files. AreRecorded files ready.now.plan.stations ready.now.recordings.items) }
     ensures same { F.told shelf.new ≡ F.told shelf.old }
     ensures values { IfOk result (λ values. IfSome values (λ v. IsReached (F.told shelf.old) ready.now i v)) }
     ensures read { IfOk result (λ values. IsSome values ↔ (i < length (epochs_of ready.now.epochs))) }
-    ensures stage { IfErr result IsOfReads }
     ensures counts { CountsReads (F.faults shelf.old) (F.faults shelf.new) result }
-    ensures no_fall { F.faults shelf.old ≤ F.faults shelf.new }
 {
     if i < ready.epochs.epochs() {
         Ok(Some(reach(alloc, spare, ready, shelf, i)?))

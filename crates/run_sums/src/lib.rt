@@ -1,10 +1,12 @@
-//! The sums of the epochs of a job that is ready. It stands on `run_ready` for the job, on `station_stream` for the values of an
+//! The sums of the epochs of a job that is ready. It stands on `ready_job` for the job, on `station_stream` for the values of an
 //! epoch's stations in a window around it, and on `epoch_run` for their planes and for the workers. The sums are those of the
 //! definition, whatever the number of workers and the length of a piece. While an epoch is summed, the values of the next one are
-//! read, part by part, and the planes of each part made at once, in room of epochs that are over.
+//! read, part by part, and the planes of each part made at once, in room of epochs that are over. A call fails for want of memory,
+//! or for a read of the shelf.
 #![tactic(auto)]
 
 mod ahead;
+mod correlate;
 mod epochs;
 mod pairs;
 mod parts;
@@ -15,6 +17,7 @@ mod values;
 mod window;
 
 pub use ahead::{Ahead, advance, behind};
+pub use correlate::correlate;
 pub use reached::reach;
 pub use spare::Spare;
 pub use sums::sum;

@@ -1,18 +1,16 @@
 //! The planes of an epoch's stations, read part by part.
-ghost use Rattle.std.specs.Prelude.{◌≡◌, ◌<◌, ◌≤◌, ◌%◌, pos, ℕ, ℤ, None, IfOk, IfErr, OnOk, length};
+ghost use Rattle.std.specs.Prelude.{◌≡◌, ◌<◌, ◌≤◌, ◌-◌, ◌%◌, pos, ℕ, ℤ, None, IfOk, OnOk, length};
 ghost use Rattle.dev_traits.specs.Told.{WhereTold};
 ghost use Rattle.job_plan.specs.Ranges.{IsPlan, IsScanPlan};
+ghost use Rattle.station_stream.specs.Faults.{CountsReads};
 ghost use Rattle.station_stream.specs.Recorded.{AreNamed, AreRecorded};
 ghost use Rattle.station_stream.specs.Stream.{IsOfWindow};
 ghost use Rattle.epoch_run.specs.Planes.{HaveRange, planed};
-ghost use Rattle.run_notes.specs.Counted.{CountsReads};
 ghost use Rattle.run_sums.specs.Parts.{HoldsPart, HoldPart, HoldParts, HaveNone, AreSameBeside};
-ghost use Rattle.run_sums.specs.Refused.{IsOfReads};
 
 use dev_traits::Shelf;
 use epoch_run::EpochPlanes;
 use job_plan::{Plan, ScanPlan};
-use run_notes::Refusal;
 use station_stream::{Recording, Stream, StreamFault, stay_stream};
 use std::alloc::{AllocError, Global};
 
@@ -23,6 +21,7 @@ const CODES: u64 = 262_144;
 fn part_len(chans: u64) -> u64
     ensures some { 0 < result }
     ensures words { result % 64 ≡ 0 }
+    ensures most { result ≤ 262144 }
 {
     64 * (CODES / 64 / chans.max(1)).max(1)
 }
@@ -59,7 +58,7 @@ fn read_part<F: Shelf>(
     place: usize,
     from: u64,
     to: u64,
-) -> Result<Stream, Refusal>
+) -> Result<Stream, StreamFault>
     requires plan { IsPlan plan.now }
     requires scan { IsScanPlan plan.now scan.now }
     requires named { AreNamed plan.now.stations recordings.now }
@@ -67,20 +66,15 @@ fn read_part<F: Shelf>(
     requires place { place < length scan.now.stays }
     requires order { from ≤ to }
     requires end { to ≤ scan.now.samples }
+    requires few { to - from ≤ 4195328 }
     ensures same { F.told shelf.new ≡ F.told shelf.old }
     ensures window { IfOk result (IsOfWindow from to) }
     ensures chans { IfOk result (λ s. length s.values ≡ length plan.now.channels) }
     ensures values { IfOk result (λ s. WhereTold (F.told shelf.old) (HoldsPart plan.now scan.now place from to s)) }
-    ensures stage { IfErr result IsOfReads }
     ensures counts { CountsReads (F.faults shelf.old) (F.faults shelf.new) result }
-    ensures no_fall { F.faults shelf.old ≤ F.faults shelf.new }
 {
     let stay = &scan.stays.items()[place];
-    match stay_stream(alloc, codes, shelf, plan, scan, stay, recordings, from, to) {
-        Ok(stream) => Ok(stream),
-        Err(StreamFault::Read) => Err(Refusal::Read),
-        Err(StreamFault::Memory) => Err(Refusal::Memory),
-    }
+    stay_stream(alloc, codes, shelf, plan, scan, stay, recordings, from, to)
 }
 
 // Fills the planes of the station at a place, at the samples from `from` up to, not including, `to`: a part is read when the planes
@@ -96,7 +90,7 @@ fn fill_station<F: Shelf>(
     from: u64,
     to: u64,
     planes: &mut EpochPlanes,
-) -> Result<(), Refusal>
+) -> Result<(), StreamFault>
     requires plan { IsPlan plan.now }
     requires scan { IsScanPlan plan.now scan.now }
     requires named { AreNamed plan.now.stations recordings.now }
@@ -110,9 +104,7 @@ fn fill_station<F: Shelf>(
     ensures range { OnOk result (HaveRange (length scan.now.stays) (length plan.now.channels) (pos from) (pos to) planes.new) }
     ensures values { OnOk result (WhereTold (F.told shelf.old) (HoldPart plan.now scan.now place from to planes.new)) }
     ensures beside { OnOk result (AreSameBeside place planes.old planes.new) }
-    ensures stage { IfErr result IsOfReads }
     ensures counts { CountsReads (F.faults shelf.old) (F.faults shelf.new) result }
-    ensures no_fall { F.faults shelf.old ≤ F.faults shelf.new }
 {
     let part = part_len(plan.channels.items().len() as u64);
     let mut at = from;
@@ -138,7 +130,7 @@ pub(crate) fn fill_stations<F: Shelf>(
     from: u64,
     to: u64,
     planes: &mut EpochPlanes,
-) -> Result<(), Refusal>
+) -> Result<(), StreamFault>
     requires plan { IsPlan plan.now }
     requires scan { IsScanPlan plan.now scan.now }
     requires named { AreNamed plan.now.stations recordings.now }
@@ -151,9 +143,7 @@ pub(crate) fn fill_stations<F: Shelf>(
     ensures range { OnOk result (HaveRange (length scan.now.stays) (length plan.now.channels) (pos from) (pos to) planes.new) }
     ensures values { OnOk result (WhereTold (F.told shelf.old)
         (HoldParts plan.now scan.now (length scan.now.stays) from to planes.new)) }
-    ensures stage { IfErr result IsOfReads }
     ensures counts { CountsReads (F.faults shelf.old) (F.faults shelf.new) result }
-    ensures no_fall { F.faults shelf.old ≤ F.faults shelf.new }
 {
     for place in 0..scan.stays.items().len() {
         fill_station(

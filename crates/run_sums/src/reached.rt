@@ -1,11 +1,10 @@
 //! The epoch that is read.
-ghost use Rattle.std.specs.Prelude.{◌≡◌, ◌<◌, ◌≤◌, IfOk, IfErr, length};
+ghost use Rattle.std.specs.Prelude.{◌≡◌, ◌<◌, ◌≤◌, IfOk, length};
 ghost use Rattle.dev_traits.specs.Told.{WhereTold};
 ghost use Rattle.piece_plan.specs.Epochs.{epochs_of};
+ghost use Rattle.station_stream.specs.Faults.{CountsReads};
 ghost use Rattle.station_stream.specs.Recorded.{AreRecorded};
-ghost use Rattle.run_notes.specs.Counted.{CountsReads};
 ghost use Rattle.run_sums.specs.Reach.{IsReached};
-ghost use Rattle.run_sums.specs.Refused.{IsOfReads};
 
 use crate::epochs::found;
 use crate::pairs::pairs_of;
@@ -15,7 +14,7 @@ use crate::values::EpochValues;
 use crate::window::{reach_from, reach_to};
 use dev_traits::Shelf;
 use ready_job::Ready;
-use run_notes::Refusal;
+use station_stream::StreamFault;
 use std::alloc::Global;
 
 /// Reads the values of the samples that the lags of epoch `i` reach, part by part, and makes their planes, in room of `spare` where
@@ -27,14 +26,12 @@ pub fn reach<F: Shelf>(
     ready: &Ready,
     shelf: &mut F,
     i: u64,
-) -> Result<EpochValues, Refusal>
+) -> Result<EpochValues, StreamFault>
     requires recorded { WhereTold (F.told shelf.old) (λ files. AreRecorded files ready.now.plan.stations ready.now.recordings.items) }
     requires inside { i < length (epochs_of ready.now.epochs) }
     ensures same { F.told shelf.new ≡ F.told shelf.old }
     ensures values { IfOk result (λ v. IsReached (F.told shelf.old) ready.now i v) }
-    ensures stage { IfErr result IsOfReads }
     ensures counts { CountsReads (F.faults shelf.old) (F.faults shelf.new) result }
-    ensures no_fall { F.faults shelf.old ≤ F.faults shelf.new }
 {
     let plan = ready.plan.plan();
     let (e, scan) = found(plan, &ready.epochs, i);

@@ -44,7 +44,7 @@ loop-at-preserved g c =
       within = omega arith;
       word = λ less. omega (arith, less, c.loop-at.invariant.begun, c.loop-at.invariant.word c.loop-at-test.true, c.part_len-part.ensures.words);
       same = c.in_ok-stream.ensures.same ∙ c.loop-at.invariant.same;
-      faults = c.in_ok-stream.ensures.counts ∙ c.loop-at.invariant.faults;
+      faults = c.in_ok-stream.ensures.counts.kept ∙ c.loop-at.invariant.faults;
       range = c.fill.ensures.range _ _ _ _ c.loop-at.invariant.range;
       values = HoldPart-more told c.args.plan.now c.args.scan.now c.args.place c.args.from c.loop-at.at _ c.loop-at.planes c.fill.new.self s
           c.in_ok-stream.ensures.window c.fill.ensures.before c.fill.ensures.here c.loop-at.invariant.values

@@ -19,7 +19,7 @@ loop-place-preserved g c =
     let done = c.in_ok-fill_station.ensures in
     record {
       same = done.same ∙ c.loop-place.invariant.same;
-      faults = done.counts ∙ c.loop-place.invariant.faults;
+      faults = done.counts.kept ∙ c.loop-place.invariant.faults;
       range = done.range;
       values = HoldParts-more told c.args.plan.now c.args.scan.now c.loop-place.place c.args.from c.args.to c.loop-place.planes c.fill_station.new.planes
           done.beside c.loop-place.invariant.values (rw c.loop-place.invariant.same at done.values);

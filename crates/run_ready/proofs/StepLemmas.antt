@@ -36,7 +36,7 @@ pub IsCause-unless : {A : Type 0} (r : Refusal) (v : Option Answer) (x : A) → 
 IsCause-unless Memory v x due = tt
 IsCause-unless (Words fault) v x due = ap (λ o. unless o x) (sym due)
 IsCause-unless (DueRefusal d) v x due = ap (λ o. unless o x) (sym due)
-IsCause-unless (Other x) v x due = ap (λ o. unless o x) (sym due)
+IsCause-unless (Other d) v x due = ap (λ o. unless o x) (sym due)
 IsCause-unless Read v x due = tt
 IsCause-unless (Journal kept) v x due = absurd due
 IsCause-unless Write v x due = absurd due

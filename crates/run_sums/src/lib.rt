@@ -6,19 +6,19 @@
 #![tactic(auto)]
 
 mod ahead;
-mod correlate;
 mod epochs;
 mod pairs;
 mod parts;
 mod reached;
 mod spare;
+mod summed;
 mod sums;
 mod values;
 mod window;
 
 pub use ahead::{Ahead, advance, behind};
-pub use correlate::correlate;
 pub use reached::reach;
 pub use spare::Spare;
+pub use summed::correlate;
 pub use sums::sum;
 pub use values::EpochValues;

@@ -1,6 +1,7 @@
 -- What the engine's parts say of their faults holds of the refusals that these become.
 use Rattle.std.specs.Prelude.{IfOk, IfErr}
 use Rattle.std.proofs.Common.{◌≡◌, ℕ, ◌≤◌, List, Option, None, Some, Result, Ok, Err, ap}
+use Rattle.dev_traits.specs.Fault.{HasRisen}
 use Rattle.dev_traits.specs.Told.{WhereTold}
 use Rattle.dev_traits.proofs.ToldLemmas.{WhereTold-weaker}
 use Rattle.job_plan.specs.declared.plan.Plan.{Plan}
@@ -19,6 +20,7 @@ use Rattle.run_records.specs.declared.fault.EmitFault.TheVariants.{Memory as Emi
 use Rattle.run_records.specs.Kept.{WritesKept, Grows}
 use Rattle.run_records.specs.Refused.{IsOfRecords as IsEmitFaultOf}
 use Rattle.run_records.specs.Counted.{CountsJournal as CountsEmitJournal, CountsWrites as CountsEmitWrites}
+use Rattle.run_notes.specs.Refusals.{MatchJournal}
 use Rattle.run_notes.specs.Counted.{CountsReads, CountsReadsBeside, CountsJournal, CountsWrites}
 use Rattle.vlbi_core.specs.Engine.{sums_answer, opening_refusal, resume_answer, emit_answer, IsRefusedFor, KeepsNamed, IsOfRecords}
 use Rattle.vlbi_core.specs.Steps.{IsLookedFor}
@@ -41,7 +43,7 @@ opened-looked id sizes seen OpenDisk of = tt
 opened-looked id sizes seen (OpenOther d) of = of
 opened-looked id sizes seen OpenMemory of = tt
 
-pub opened-counts : {T : Type 0} (before now : ℕ) (fault : OpenFault) → CountsFault before now fault → CountsJournal {T = T} before now (Err (opening_refusal fault))
+pub opened-counts : (before now : ℕ) (fault : OpenFault) → CountsFault before now fault → MatchJournal (opening_refusal fault) (HasRisen before now) (now ≡ before)
 opened-counts before now OpenDisk counts = counts
 opened-counts before now (OpenOther d) counts = counts
 opened-counts before now OpenMemory counts = counts

@@ -140,15 +140,26 @@ outcome-one law shown wanted files =
 
 -- ---- statuses
 
+-- the statuses of what is wrong with the files
+abbrev IsFilesStatus : ℕ → Type 0
+IsFilesStatus status = (status ≡ 3) ⊎ ((status ≡ 4) ⊎ ((status ≡ 5) ⊎ ((status ≡ 6) ⊎ (status ≡ 11))))
+
+due-files : (due : Due) → IsFilesStatus (due_answer due).status
+due-files (Vex fault) = inl refl
+due-files (Schedule fault) = inl refl
+due-files (Job fault) = inr (inl refl)
+due-files (Join fault name) = inr (inl refl)
+due-files (Recording key field) = inr (inr (inl refl))
+due-files (Records fault) = inr (inr (inl refl))
+due-files (Limit quantity value) = inr (inr (inr (inl refl)))
+due-files (NoFile name) = inr (inr (inr (inr refl)))
+
 due-verdict : (due : Due) → IsVerdictStatus (due_answer due).status
-due-verdict (Vex fault) = inr (inl refl)
-due-verdict (Schedule fault) = inr (inl refl)
-due-verdict (Job fault) = inr (inr (inl refl))
-due-verdict (Join fault name) = inr (inr (inl refl))
-due-verdict (Recording key field) = inr (inr (inr (inl refl)))
-due-verdict (Records fault) = inr (inr (inr (inl refl)))
-due-verdict (Limit quantity value) = inr (inr (inr (inr (inl refl))))
-due-verdict (NoFile name) = inr (inr (inr (inr (inr refl))))
+due-verdict due = inr (due-files due)
+
+-- none is that of the words or of another job's journal
+files-not : (status other : ℕ) → IsFilesStatus status → status ≡ other → (other ≡ 2) ⊎ (other ≡ 10) → ⊥
+files-not status other is same of = grind arith
 
 pub refusal-status : (r : Refusal) → IsStatus (answer_of r).status
 refusal-status Memory = inr (inl refl)
@@ -188,7 +199,7 @@ not-ok (Err fault) ok err = cc
 pub status-words : (wanted : Result Order WordsFault) (r : Refusal) → IsWordedBy wanted r → (answer_of r).status ≡ 2 → IsErr wanted
 status-words wanted Memory by is = absurd cc
 status-words wanted (Words fault) by is = subst (λ (w : Result Order WordsFault). IsErr w) (sym by) refl
-status-words wanted (DueRefusal due) by is = absurd cc
+status-words wanted (DueRefusal due) by is = absurd (files-not (due_answer due).status 2 (due-files due) is (inl refl))
 status-words wanted (Other d) by is = absurd cc
 status-words wanted Read by is = absurd cc
 status-words wanted (Journal kept) by is = absurd (not_journal kept 2 is (λ e. cc))
@@ -209,7 +220,7 @@ words-status wanted Write by err = absurd (not-ok wanted by err)
 pub words-line : (wanted : Result Order WordsFault) (r : Refusal) → IsWordedBy wanted r → (answer_of r).status ≡ 2 → IsWordsLine wanted (answer_of r).note
 words-line wanted Memory by is = absurd cc
 words-line wanted (Words fault) by is = (fault, by, refl)
-words-line wanted (DueRefusal due) by is = absurd cc
+words-line wanted (DueRefusal due) by is = absurd (files-not (due_answer due).status 2 (due-files due) is (inl refl))
 words-line wanted (Other d) by is = absurd cc
 words-line wanted Read by is = absurd cc
 words-line wanted (Journal kept) by is = absurd (not_journal kept 2 is (λ e. cc))
@@ -528,7 +539,7 @@ verdict-fact Write P Q fact is = absurd (due-not 9 9 (inr is) refl (inr (inr (in
 pub other-fact : (r : Refusal) (P Q : Type 0) → MatchVerdict r P Q → (answer_of r).status ≡ 10 → P
 other-fact Memory P Q fact is = absurd cc
 other-fact (Words fault) P Q fact is = absurd cc
-other-fact (DueRefusal due) P Q fact is = absurd cc
+other-fact (DueRefusal due) P Q fact is = absurd (files-not (due_answer due).status 10 (due-files due) is (inr refl))
 other-fact (Other d) P Q fact is = fact
 other-fact Read P Q fact is = absurd cc
 other-fact (Journal kept) P Q fact is = absurd (not_journal kept 10 is (λ e. cc))

@@ -8,7 +8,7 @@ the moment at which the wave front is at the centre, and positive where the stat
 and earth, the offset of the antenna's axes, and the dry atmosphere. Coordinates are those of an ITRF and delays those of a clock on earth, as
 analyses have them.
 
-Left out, with what each comes to: the solid earth's tide (0.4 m, 1 ns), water (0.1 to 0.3 m at the zenith), the pressure of the day
+Left out, with what each comes to: the solid earth's tide (0.3 m, 1 ns), water (0.1 to 0.3 m at the zenith), the pressure of the day
 (0.1 m), ocean loading (0.05 m), the daily tides of the earth's rotation (0.02 m), the ionosphere, and the antenna's own bending.
 """
 from __future__ import annotations

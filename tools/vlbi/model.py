@@ -32,6 +32,7 @@ NODES = 16
 CHECKED = 25             # places of a part at which a fit is compared
 KNOTS_TRIED = 8          # places of a part at which whole numbers are compared
 LEAST_ROWS = 4           # rows of a table for each part: as many as a cubic needs
+CHEBYSHEV = ((1,), (0, 1), (-1, 0, 2), (0, -3, 0, 4), (1, 0, -8, 0, 8), (0, 5, 0, -20, 0, 16))  # the first six polynomials
 
 
 @dataclasses.dataclass(frozen=True)
@@ -162,13 +163,13 @@ def cut(part: Part, longest: int, at: Iterable[int]) -> list[Part]:
 def fitted(part: Part, late: Callable[[Reals], Reals]) -> Fit:
     """The Fit of a delay, which is a function of the seconds behind the part's begin, by as few of six terms as come near."""
     span = max(part.seconds, 1.0)
-    nodes = -numpy.cos((numpy.arange(NODES) + 0.5) * math.pi / NODES)
+    angles = (numpy.arange(NODES) + 0.5) * math.pi / NODES
     checked = numpy.linspace(0.0, span, CHECKED)
-    values = late(numpy.concatenate([(nodes + 1) / 2 * span, checked]))
+    values = late(numpy.concatenate([(numpy.cos(angles) + 1) / 2 * span, checked]))
+    series = [float((values[:NODES] * numpy.cos(number * angles)).sum()) * (2 if number else 1) / NODES for number in range(jobs.MOST_TERMS)]
     best = Fit(part, (), math.inf)
     for terms in range(1, jobs.MOST_TERMS + 1):
-        found = numpy.linalg.lstsq(numpy.vander(nodes, terms, increasing=True), values[:NODES], rcond=None)[0]
-        coefficients = of_seconds(found.tolist(), span)
+        coefficients = of_seconds(of_powers(series[:terms]), span)
         residual = float(numpy.abs(polynomial(coefficients, checked) - values[NODES:]).max())
         if residual < best.residual:
             best = Fit(part, coefficients, residual)
@@ -177,12 +178,18 @@ def fitted(part: Part, late: Callable[[Reals], Reals]) -> Fit:
     return best
 
 
+def of_powers(series: Sequence[float]) -> list[float]:
+    """A series of Chebyshev polynomials by powers."""
+    return [math.fsum(value * CHEBYSHEV[number][power] for number, value in enumerate(series) if power <= number) for power in range(len(series))]
+
+
 def of_seconds(coefficients: Sequence[float], span: float) -> tuple[float, ...]:
     """A polynomial of -1 to 1 over a span of seconds, by powers of the seconds behind its begin."""
-    return tuple(
-        sum(coefficient * math.comb(power, down) * (-1) ** (power - down) for power, coefficient in enumerate(coefficients)) * (2 / span) ** down
-        for down in range(len(coefficients))
-    )
+    def of_power(down: int) -> float:
+        signed = (coefficients[power] * math.comb(power, down) * (-1.0) ** (power - down) for power in range(down, len(coefficients)))
+        return float(math.fsum(signed) * (2 / span) ** down)
+
+    return tuple(of_power(power) for power in range(len(coefficients)))
 
 
 def polynomial(coefficients: Sequence[float], seconds: Reals) -> Reals:
@@ -262,4 +269,4 @@ def table(origin: Origin, parts: Sequence[Part], step: int) -> Iterator[str]:
         delays, places = origin.places(part, numpy.arange(rows) * float(step))
         for row in range(rows):
             u, v, w = places[row]
-            yield f"{part.key} {part.target} {vex.vex_time(part.begin + row * step)} {delays[row]:.16e} {u:.4f} {v:.4f} {w:.4f}"
+            yield f"{part.key} {part.target} {vex.vex_time(part.begin + row * step)} {delays[row]:.13e} {u:.4f} {v:.4f} {w:.4f}"

@@ -21,7 +21,7 @@ if TYPE_CHECKING:
 
 NAME = "vlbi-model"
 PICO = 1e12
-LEFT_OUT = "left out: the solid earth's tide (up to 0.4 m, 1 ns), water vapour (0.1 to 0.3 m at the zenith), the pressure of the day (0.1 m), the ionosphere"
+LEFT_OUT = "left out: the solid earth's tide (some 0.3 m, 1 ns), water vapour (0.1 to 0.3 m at the zenith), the pressure of the day (0.1 m), the ionosphere"
 TABLE = """The table JOBPART.uvw has a row for each station and moment: station, source (the name of its def), time (UTC), delay in seconds (positive
 where the station gets the wave later than the centre of the earth; without the clock), and u, v and w in metres: the station's position
 against the centre of the earth in J2000 axes, u to the east and v to the north of the source, w towards it. Lines with # are comments.

@@ -1,6 +1,7 @@
 """`vlbi.model` and what it stands on: the delay of a wave at a station, the earth, the atmosphere, the lines of a job."""
 from __future__ import annotations
 
+import dataclasses
 import decimal
 import fractions
 import math
@@ -39,9 +40,9 @@ $CLOCK;
 def Ef; clock_early = 2010y115d00h00m00s : 1.25 usec : 2010y115d08h00m00s : 1e-12; clock_early = 2010y115d08h30m10s : 2 usec; enddef;
 $EOP;
 def A; TAI-UTC = 34 sec; eop_ref_epoch = 2010y113d; num_eop_points = 5; eop_interval = 24 hr;
-  ut1-utc = -0.0230 sec : -0.0241 sec : -0.0251 sec : -0.0260 sec : -0.0267 sec;
-  x_wobble = 0.0000 asec : 0.0014 asec : 0.0028 asec : 0.0042 asec : 0.0057 asec;
-  y_wobble = 0.3680 asec : 0.3693 asec : 0.3708 asec : 0.3722 asec : 0.3735 asec; enddef;
+  ut1-utc = -0.0109741 sec : -0.0127474 sec : -0.0146273 sec : -0.0165350 sec : -0.0183205 sec;
+  x_wobble = -0.069994 asec : -0.070343 asec : -0.070748 asec : -0.071127 asec : -0.070811 asec;
+  y_wobble = 0.371843 asec : 0.374067 asec : 0.376327 asec : 0.378538 asec : 0.380923 asec; enddef;
 $MODE;
 def M; ref $FREQ = F; enddef;
 $FREQ;
@@ -112,12 +113,12 @@ def test_a_plane_wave_meets_moving_stations(right_ascension: float, declination:
         unit = [one / length for one in exact(to)]
         due = [met(unit, exact(x), exact(w), exact(velocity), decimal.Decimal(potential), decimal.Decimal(bent)) for x, w in stations]
     found = [
-        float(delay.vacuum(numpy.array(to), *(numpy.array([one]) for one in (x, w, velocity, potential, bent)))[0]) for x, w in stations  # type: ignore[call-arg]
+        float(delay.vacuum(numpy.array(to), *(numpy.array([one]) for one in (x, w, velocity, potential, bent)))[0]) for x, w in stations
     ]
     for here, there in zip(found, due):
         assert abs(here - float(there)) < 0.1 * PICO
     assert abs(found[1] - found[0] - float(due[1] - due[0])) < 0.1 * PICO
-    assert max(map(abs, found)) > 1e-3
+    assert max(abs(one) for one in found) > 1e-3
 
 
 def longer_way(mass: float, to: earth.Reals, centre: earth.Reals, station: earth.Reals) -> float:
@@ -200,7 +201,7 @@ def test_orientation_that_does_not_reach() -> None:
         orientation.at(earth.Moments(vex.second_of("2010y115d08h29m00s"), numpy.zeros(1)))
     wrong = earth.of_schedule(vex.from_bytes(NIGHT.replace("TAI-UTC = 34", "TAI-UTC = 32").encode()))
     assert wrong is not None
-    with pytest.raises(Fault, match="UT1-UTC is 1.975 seconds: are UT1-UTC and TAI-UTC right"):
+    with pytest.raises(Fault, match="UT1-UTC is 1.985 seconds: are UT1-UTC and TAI-UTC right"):
         wrong.at(earth.Moments(vex.second_of("2010y115d08h29m00s"), numpy.zeros(1)))
 
 
@@ -216,19 +217,46 @@ def test_tables_of_the_iers() -> None:
     pytest.importorskip("astropy")
     tables, stated = earth.of_tables(), theory().orientation
     moments = earth.Moments(vex.second_of("2010y115d08h29m00s"), numpy.linspace(0.0, 60.0, 4))
-    for found, due, most in zip(tables.at(moments), stated.at(moments), (2e-3, 2e-2 * earth.ARC_SECOND, 1e-3 * earth.ARC_SECOND)):
+    for found, due, most in zip(tables.at(moments), stated.at(moments), (1e-7, 1e-6 * earth.ARC_SECOND, 1e-3 * earth.ARC_SECOND)):
         assert numpy.abs(found - due).max() < most
+    assert numpy.abs(tables.at(moments)[2]).max() == pytest.approx(0.16e-3 * earth.ARC_SECOND, rel=0.1)  # that day's, as the IERS has it
     assert "astropy" in tables.origin
+    part = all_parts()[0]
+    late = [delay.Theory(night(), one).late(part, numpy.array([0.0]))[0] for one in (tables, stated)]
+    assert abs(late[0] - late[1]) < 20 * PICO  # 0.2 milliarcseconds of the earth's radius are 6 millimetres
 
 
 def test_against_casacore() -> None:
-    """u, v, w of a baseline by casacore's measures.
+    """u, v, w of a baseline of 8,200 km by casacore's measures.
 
-    They differ by 0.02 m of 8,000 km at most where aberration is left out as here: casacore has precession and nutation of IAU 1976/1980 with
-    the IERS' corrections or without, which is some 0.05 arc seconds, and its own table of UT1. Its axes are J2000 too.
+    Casacore has a baseline against the apparent source: it turns it by the angle of aberration from there to the source of J2000, 18 arc seconds
+    here, which is 700 m in w and 9 m in u. Here a baseline is not turned. Turned in the same way it agrees within 3 m, 0.08 arc seconds: casacore's
+    nutation is that of IAU 1980 without what was found since, some 0.05, and it has the bending by the sun, 0.014. Debian's casacore has no table of
+    UT1 and the pole, which are 0 for both; the frame's position is at the pole, where nothing moves in a day.
     """
-    measures_of = pytest.importorskip("casacore.measures")
-    pytest.skip(f"not compared yet: {measures_of.__name__}")
+    measures = pytest.importorskip("casacore.measures").measures()
+    source, places = night().source("3C84"), [night().site(key).position for key in ("Ef", "Sh")]
+    between = numpy.array(places[1]) - numpy.array(places[0])
+    try:
+        measures.do_frame(measures.epoch("UTC", "2010/04/25/08:29:00"))
+        measures.do_frame(measures.direction("J2000", f"{source.right_ascension!r} rad", f"{source.declination!r} rad"))
+        measures.do_frame(measures.position("ITRF", "0 m", "1 m", "6356752 m"))
+        due = measures.to_uvw(measures.baseline("ITRF", *(f"{one!r} m" for one in between.tolist())))["xyz"].get_value()
+    except RuntimeError as error:
+        pytest.skip(f"casacore lacks its tables: {error}")
+    still = numpy.array([55310.0, 55312.0]), numpy.array([-34.0, -34.0]), numpy.zeros((2, 2)), numpy.zeros((2, 2))
+    frames = earth.frames(earth.Moments(vex.second_of("2010y115d08h29m00s"), numpy.zeros(1)), earth.Orientation("none", *still))
+    antenna = dataclasses.replace(delay.antenna_of(night(), "Ef", 0), place=between)
+    found = delay.projected(antenna, source, frames)[0]
+    assert numpy.abs(found - due).max() == pytest.approx(700, abs=10)
+    to, apparent = delay.direction(source), delay.seen(delay.direction(source), frames.velocity)[0]
+    turned = dataclasses.replace(antenna, place=frames.celestial[0].T @ turned_with(apparent, to, frames.turned(between)[0]))
+    assert numpy.abs(delay.projected(turned, source, frames)[0] - due).max() < 3.0
+
+
+def turned_with(begin: earth.Reals, end: earth.Reals, vector: earth.Reals) -> earth.Reals:
+    """A vector, turned by the small turn that takes one direction to another."""
+    return vector + numpy.cross(numpy.cross(begin, end), vector)
 
 
 # The atmosphere
@@ -236,10 +264,10 @@ def test_against_casacore() -> None:
 def test_published_numbers_of_the_mapping() -> None:
     """Green Bank on 12 August 2009 at a zenith distance of 1.278564131 rad, as in the test cases that the IERS Conventions (2010) print for other
     mappings to the dry atmosphere: 3.425245519 by GMF (at 844.715 m) and 3.425088088 by VMF1 (at 824.17 m). Niell's agrees with both in a
-    few parts of 10,000, as published comparisons have it."""
+    few parts of 100,000."""
     sine = numpy.array([math.cos(1.278564131)])
     for height, due in ((844.715, 3.425245519), (824.17, 3.425088088)):
-        assert atmosphere.mapping(sine, 0.6708665767, height, 224.0)[0] == pytest.approx(due, rel=5e-4)
+        assert atmosphere.mapping(sine, 0.6708665767, height, 224.0)[0] == pytest.approx(due, rel=5e-5)
 
 
 def test_the_mapping_in_its_table() -> None:
@@ -247,7 +275,7 @@ def test_the_mapping_in_its_table() -> None:
     a, b, c = 1.2465397e-3, 2.9288445e-3, 63.721774e-3
     sine = math.sin(math.radians(5))
     due = (1 + a / (1 + b / (1 + c))) / (sine + a / (sine + b / (sine + c)))
-    assert due == pytest.approx(10.15, abs=0.01)
+    assert due == pytest.approx(10.129, abs=1e-3)
     for latitude in (math.pi / 4, -math.pi / 4):
         assert atmosphere.mapping(numpy.array([sine, 1.0]), latitude, 0.0, 28 + 365.25 / 4) == pytest.approx([due, 1.0], rel=1e-12)
 
@@ -292,7 +320,7 @@ def call(folder: Path, *words: str, schedule: str = NIGHT) -> tuple[int, str]:
     return status, (folder / "model.txt").read_text() if status == 0 else ""
 
 
-@pytest.mark.parametrize("stretch", ["7", "120", "600"])
+@pytest.mark.parametrize("stretch", ["40", "600"])
 def test_the_lines_are_the_delays(stretch: str, tmp_path: Path, capsys: pytest.CaptureFixture[str]) -> None:
     """Each polynomial in whole numbers, with its clock, is within 1 ps of delay and clock all over its stretch, and what is said of it holds."""
     status, text = call(tmp_path, "--stretch", stretch)
@@ -315,7 +343,8 @@ def test_the_lines_are_the_delays(stretch: str, tmp_path: Path, capsys: pytest.C
             behind = numpy.linspace(0, end - begin, 14)[:-1] if end - begin > 1 else numpy.zeros(1)
             samples = numpy.floor(behind * rate).astype(int)
             found = [in_whole_numbers(coefficients, knot, (*clock[1], (begin - clock[0]) * rate), rate, int(one)) for one in samples]  # type: ignore[arg-type]
-            read = [early(part.key, begin, int(one) / rate) for one in samples]
+            read = [(clock[1][0] + clock[1][1] * (begin - clock[0] + one / rate)) / (rate * 2 ** 32) for one in samples.tolist()]
+            assert abs(read[-1] - early(part.key, begin, float(samples[-1]) / rate)) < 3 * PICO  # a drift is rounded to 6 * 10^-17
             due = origin.late(part, begin - part.begin + samples / rate) + numpy.array(read)
             greatest = max(greatest, float(numpy.abs(numpy.array(found) / (rate * 2.0 ** 32) - due).max()))
     assert greatest < PICO
@@ -344,11 +373,14 @@ def test_parts_of_scans_that_overlap() -> None:
 
 def test_parts_are_cut() -> None:
     part = all_parts()[0]
-    for longest, at, due in ((300, [], [0]), (100, [], [0, 70, 140]), (300, [part.begin + 70, part.begin - 5, part.begin + 210], [0, 70]), (60, [part.begin + 70], [0, 35, 70, 117, 164])):
-        made = model.cut(part, longest, at)
+    cases: list[tuple[int, list[int], list[int]]] = [
+        (300, [], [0]), (100, [], [0, 70, 140]), (300, [70, -5, 210], [0, 70]), (60, [70], [0, 35, 70, 117, 164]),
+    ]
+    for longest, at, due in cases:
+        made = model.cut(part, longest, [part.begin + one for one in at])
         assert [one.begin - part.begin for one in made] == due
         assert [one.end for one in made] == [*(float(one.begin) for one in made[1:]), part.end]
-    short = model.cut(model.dataclasses.replace(part, end=part.begin + 2.5), 1, [])
+    short = model.cut(dataclasses.replace(part, end=part.begin + 2.5), 1, [])
     assert [(one.begin - part.begin, one.end - part.begin) for one in short] == [(0, 1.0), (1, 2.0), (2, 2.5)]
 
 
@@ -406,7 +438,7 @@ def test_the_sign_by_a_fringe(tmp_path: Path) -> None:
     lines of the other sign."""
     start, rate = vex.second_of("2010y115d08h29m00s"), 80_000
     part_a, part_b = all_parts()[:2]
-    fits = [theory().fit(model.dataclasses.replace(part, end=part.begin + 2.0)) for part in (part_a, part_b)]
+    fits = [theory().fit(dataclasses.replace(part, end=part.begin + 2.0)) for part in (part_a, part_b)]
     knot = model.knot_of(fits, rate)
     lines = model.job_part(vex.from_bytes(b"VEX_rev = 1.5; $STATION; def Ef; enddef; def Sh; enddef;"), "", ("Ef", "Sh"), fits, rate, knot).splitlines()[2:]
     stations = tuple(simulate.Station(fit.part.key, fit.coefficients) for fit in fits)
@@ -414,9 +446,9 @@ def test_the_sign_by_a_fringe(tmp_path: Path) -> None:
     simulate.simulate(sky, str(tmp_path), lags=64)
     job = (tmp_path / "job.txt").read_text()
     found = peak(tmp_path, lines, job)
-    assert abs(found.lag) < 0.5 and found.amplitude > 0.2
-    turned = [re.sub(r" (-?\d+)", lambda number: f" {-int(number.group(1))}", line) if line.startswith("poly") else line for line in lines]
-    assert peak(tmp_path, turned, job).amplitude < 0.1
+    assert abs(found.lag) < 0.5
+    turned = [re.sub(r" (-?\d+)(?= |$)", lambda number: f" {-int(number.group(1))}", line) if line.startswith("poly") else line for line in lines]
+    assert found.amplitude > 5 * peak(tmp_path, turned, job).amplitude
 
 
 # The texts of DiFX
@@ -435,11 +467,11 @@ def im_text(parts: list[model.Part], origin: delay.Theory, seconds: int = 120, b
             second = begin + poly * seconds
             lines += [f"SCAN {scan} POLY {poly} MJD:  {second // 86400 + 40587}", f"SCAN {scan} POLY {poly} SEC:  {second % 86400}"]
             for part in own:
-                piece = model.dataclasses.replace(part, begin=second, end=float(second + seconds))
+                piece = dataclasses.replace(part, begin=second, end=float(second + seconds))
                 number = keys.index(part.key)
                 terms = [-one * 1e6 for one in origin.fit(piece).coefficients]
                 places = origin.places(piece, numpy.arange(5) * 30.0)[1]
-                columns = [numpy.polynomial.Polynomial.fit(numpy.arange(5) * 30.0, -places[:, axis], 4).convert().coef for axis in range(3)]
+                columns = numpy.linalg.solve(numpy.vander(numpy.arange(5) * 30.0, increasing=True), -places).T.tolist()
                 lines += [f"SRC {centre} ANT {number} DELAY (us):\t" + "\t".join(f"{one:.15e}" for one in (terms if centre else [0.0])) for centre in (0, 1)]
                 lines += [f"SRC 1 ANT {number} {axis} (m):\t" + "\t".join(f"{one:.15e}" for one in column) for axis, column in zip("UVW", columns)]
                 lines.append(f"SRC 1 ANT {number} EL GEOM:\t4.5e+01\t1e-3")
@@ -453,7 +485,7 @@ def test_polynomials_of_an_im_file(tmp_path: Path, capsys: pytest.CaptureFixture
     assert status == 0, capsys.readouterr()
     knot = int(text.split("knot ")[1].split()[0])
     begins = {key: [begin - vex.second_of("2010y115d08h29m00s") for of, begin, _ in lines_of(text, "poly") if of == key] for key in ("Ef", "Sh")}
-    assert begins == {"Ef": [0, 70, 90, 210], "Sh": [0, 90, 240]}
+    assert begins == {"Ef": [0, 70, 90, 180, 210], "Sh": [0, 90, 180, 210, 240]}
     rate, origin = 2_000_000, theory()
     for part in all_parts():
         for key, begin, coefficients in lines_of(text, "poly"):
@@ -470,7 +502,7 @@ def test_polynomials_of_an_im_file(tmp_path: Path, capsys: pytest.CaptureFixture
 
 @pytest.mark.parametrize("old, new, said", [
     ("TELESCOPE 1 NAME:   SH", "TELESCOPE 1 NAME:   WB", "no telescope Sh"),
-    ("SCAN 1 POLY 0 SEC:  ", "SCAN 1 POLY 0 SEC:  1", "which scan No0002 needs"),
+    ("INTERVAL (SECS):    120", "INTERVAL (SECS):    60", "no DELAY (us) of Ef for 3C84 from 2010y115d08h29m00s on, which scan No0001 needs"),
     ("INTERVAL (SECS):    120", "INTERVAL (SECS):    x", "line 3: invalid literal for int"),
     ("DELAY (us):\t1", "DELAY (us):\t-1", "is negative at an elevation of 45.0 degrees, and should be positive"),
     ("SCAN 0 POLY", "SCAN 0 PLY", "terms before any SCAN"),

@@ -113,7 +113,7 @@ def bent_by_all(to: Reals, place: Reals, frames: Frames) -> Reals:
 
     The earth's own part at its centre, where the formula has none, is that at the height of its radius, for all stations alike.
     """
-    total = 2 * EARTH_MASS / LIGHT ** 3 * numpy.log(EARTH_RADIUS / (length(place) + place @ to))
+    total: Reals = 2 * EARTH_MASS / LIGHT ** 3 * numpy.log(EARTH_RADIUS / (length(place) + place @ to))
     later = -(place @ to / LIGHT)
     for body in frames.bodies:
         # where the body was as the wave passed it, and no later than now

@@ -157,9 +157,11 @@ def of_tables() -> Orientation:
 
     with iers.conf.set_temp("auto_download", False):
         table = iers.IERS_Auto.open()
-    columns = {name: numpy.array(table[name].value if hasattr(table[name], "value") else table[name], numpy.float64) for name in IERS_UNITS}
+    columns = {
+        name: numpy.array(getattr(table[name], "unmasked", table[name]).to_value(unit), numpy.float64) for name, unit in IERS_UNITS.items()
+    }
     known = numpy.all([numpy.isfinite(columns[name]) for name in ("MJD", "UT1_UTC", "PM_x", "PM_y")], axis=0) & (columns["MJD"] > FIRST_MJD)
-    columns = {name: numpy.nan_to_num(values[known] * IERS_UNITS[name]) for name, values in columns.items()}
+    columns = {name: numpy.nan_to_num(values[known]) for name, values in columns.items()}
     return Orientation(
         f"of the IERS in astropy {astropy.__version__}",
         columns["MJD"],
@@ -170,7 +172,7 @@ def of_tables() -> Orientation:
 
 
 FIRST_MJD = 44239  # 1980: what is before it is not read
-IERS_UNITS = {"MJD": 1.0, "UT1_UTC": 1.0, "PM_x": ARC_SECOND, "PM_y": ARC_SECOND, "dX_2000A": ARC_SECOND / 1e3, "dY_2000A": ARC_SECOND / 1e3}
+IERS_UNITS = {"MJD": "d", "UT1_UTC": "s", "PM_x": "rad", "PM_y": "rad", "dX_2000A": "rad", "dY_2000A": "rad"}
 
 
 # Frames
@@ -212,7 +214,8 @@ class Frames:
     @functools.cached_property
     def potential(self) -> Reals:
         """The potential of all bodies but the earth at its centre, in m^2/s^2."""
-        return numpy.sum([body.mass / length(body.position - self.position) for body in self.bodies], axis=0)
+        found: Reals = numpy.sum([body.mass / length(body.position - self.position) for body in self.bodies], axis=0)
+        return found
 
 
 def length(vectors: Reals) -> Reals:

@@ -149,7 +149,7 @@ class Given:
             terms = piece.of(self.telescope(part.key), quantity)
             if piece.begin <= part.begin and piece.end >= part.end and terms:
                 return moved(terms, fractions.Fraction(part.begin - piece.begin))
-        raise ImFault(f"no {quantity} of {part.key} for {part.target} from {vex.vex_time(part.begin)} on, which scan {part.scan} needs", self.path)
+        raise self.lacking(part, quantity)
 
     def fit(self, part: model.Part) -> model.Fit:
         terms = self.terms(part, DELAY)
@@ -171,20 +171,23 @@ class Given:
     def places(self, part: model.Part, behind: Reals) -> tuple[Reals, Reals]:
         """The delay, and u, v and w, w being towards the source; behind the last piece they go on as in it."""
         pieces = self.pieces(part)
-        delays, places = numpy.empty(len(behind)), numpy.empty((len(behind), 3))
-        for row, seconds in enumerate(behind.tolist()):
-            reached = [one for one in pieces if one.begin <= part.begin + seconds] or pieces
+        if not pieces:
+            raise self.lacking(part, DELAY)
+        reached = numpy.maximum(numpy.searchsorted([one.begin for one in pieces], part.begin + behind, side="right") - 1, 0)
+        found = numpy.empty((len(behind), 1 + len(PLACES)))
+        for number, piece in enumerate(pieces):
+            rows = reached == number
             for column, quantity in enumerate((DELAY, *PLACES)):
-                terms = reached[-1].of(self.telescope(part.key), quantity) if reached else None
+                terms = piece.of(self.telescope(part.key), quantity)
                 if terms is None:
-                    raise ImFault(f"no {quantity} of {part.key} for {part.target} in scan {part.scan}", self.path)
-                value = model.value_at(terms, fractions.Fraction(seconds) + part.begin - reached[-1].begin)
-                if column:
-                    places[row, column - 1] = value
-                else:
-                    delays[row] = -value / 10 ** 6
+                    raise self.lacking(part, quantity)
+                found[rows, column] = model.polynomial([float(term) for term in terms], behind[rows] + (part.begin - piece.begin))
+        delays, places = -found[:, 0] / 1e6, found[:, 1:]
         # w is the light way by which a station is nearer to the source: some programs write all three with the other sign
         return delays, places if numpy.sum(places[:, 2] * delays) <= 0 else -places
+
+    def lacking(self, part: model.Part, quantity: str) -> ImFault:
+        return ImFault(f"no {quantity} of {part.key} for {part.target} from {vex.vex_time(part.begin)} on, which scan {part.scan} needs", self.path)
 
 
 def moved(terms: Terms, by: fractions.Fraction) -> Terms:

@@ -172,7 +172,9 @@ class Theory:
         self.schedule = schedule
         self.orientation = orientation
         self.air = air
+        self.keys: dict[str, None] = {}  # the stations so far
         self.low: dict[tuple[str, str], float] = {}  # the lowest sine for a station and a scan in which the atmosphere is held
+        self.antenna = functools.lru_cache(maxsize=None)(functools.partial(antenna_of, schedule))
         self.frames_at = functools.lru_cache(maxsize=4)(self.make_frames)
 
     @property
@@ -182,10 +184,15 @@ class Theory:
 
     @property
     def notes(self) -> tuple[str, ...]:
-        return tuple(
+        held = (
             f"station {key} observes in scan {scan} down to {math.degrees(math.asin(sine)):.1f} degrees: its atmosphere is held at that of one degree"
             for (key, scan), sine in self.low.items()
         )
+        still = (
+            f"station {key} has a site_velocity and no site_position_epoch: it stands still"
+            for key in self.keys if self.schedule.site(key).velocity is not None and self.schedule.site(key).epoch is None
+        )
+        return (*held, *still)
 
     def cuts(self, part: model.Part) -> tuple[int, ...]:
         return ()
@@ -194,12 +201,13 @@ class Theory:
         return earth.frames(earth.Moments(begin, numpy.array(behind)), self.orientation)
 
     def fit(self, part: model.Part) -> model.Fit:
+        self.keys[part.key] = None
         return model.fitted(part, functools.partial(self.late, part))
 
     def late(self, part: model.Part, behind: Reals) -> Reals:
         """The delay so many seconds behind the part's begin."""
         frames = self.frames_at(part.begin, tuple(behind.tolist()))
-        antenna, to = antenna_of(self.schedule, part.key, part.begin), direction(part.source)
+        antenna, to = self.antenna(part.key, part.begin), direction(part.source)
         self.look_down(part, behind, elevation_sine(antenna, to, frames))
         return late(antenna, to, frames, time.gmtime(part.begin).tm_yday if self.air else None)
 
@@ -211,5 +219,5 @@ class Theory:
 
     def places(self, part: model.Part, behind: Reals) -> tuple[Reals, Reals]:
         """The delay, and u, v and w."""
-        antenna = antenna_of(self.schedule, part.key, part.begin)
+        antenna = self.antenna(part.key, part.begin)
         return self.late(part, behind), projected(antenna, part.source, self.frames_at(part.begin, tuple(behind.tolist())))

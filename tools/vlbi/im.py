@@ -166,7 +166,8 @@ class Given:
                 elevation = piece.of(self.telescope(part.key), quantity)
                 delay = piece.of(self.telescope(part.key), DELAY)
                 if elevation and delay and elevation[0] > UP and delay[0] < 0:
-                    raise ImFault(f"the delay of {part.key} is negative at an elevation of {float(elevation[0]):.1f} degrees, and should be positive", self.path)
+                    high = f"{float(elevation[0]):.1f} degrees"
+                    raise ImFault(f"the delay of {part.key} is negative at an elevation of {high}, and should be positive", self.path)
 
     def places(self, part: model.Part, behind: Reals) -> tuple[Reals, Reals]:
         """The delay, and u, v and w, w being towards the source; behind the last piece they go on as in it."""

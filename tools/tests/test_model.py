@@ -443,8 +443,7 @@ def test_the_sign_by_a_fringe(tmp_path: Path) -> None:
     part_a, part_b = all_parts()[:2]
     fits = [theory().fit(dataclasses.replace(part, end=part.begin + 2.0)) for part in (part_a, part_b)]
     knot = model.knot_of(fits, rate)
-    unclocked = vex.from_bytes(b"VEX_rev = 1.5; $STATION; def Ef; enddef; def Sh; enddef;")
-    lines = model.job_part(unclocked, "", ("Ef", "Sh"), fits, rate, knot).splitlines()[2:]
+    lines = model.job_part("", {"Ef": [], "Sh": []}, fits, rate, knot).splitlines()[2:]
     stations = tuple(simulate.Station(fit.part.key, fit.coefficients) for fit in fits)
     sky = simulate.Sky(stations, rate=rate, seconds=1, start=start, frequency=1_400_000_000, common=0.5)
     simulate.simulate(sky, str(tmp_path), lags=64)

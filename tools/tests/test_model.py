@@ -229,6 +229,23 @@ def test_tables_of_the_iers() -> None:
     assert abs(late[0] - late[1]) < 20 * PICO  # 0.2 milliarcseconds of the earth's radius are 6 millimetres
 
 
+def test_against_astropy() -> None:
+    """Place and velocity of a station in celestial axes; between days astropy has straight lines, which moves it by 2 millimetres here."""
+    pytest.importorskip("astropy")
+    from astropy.coordinates import EarthLocation
+    from astropy.time import Time
+    from astropy.utils import iers
+
+    moments = earth.Moments(vex.second_of("2010y115d08h29m00s"), numpy.array([0.0]))
+    site = night().site("Ef").position
+    with iers.conf.set_temp("auto_download", False):
+        place, velocity = EarthLocation.from_geocentric(*site, unit="m").get_gcrs_posvel(Time(moments.begin, format="unix"))
+    frames = earth.frames(moments, theory().orientation)
+    found = frames.turned(numpy.array(site))
+    assert numpy.abs(found[0] - place.xyz.to_value("m")).max() < 5e-3
+    assert numpy.abs(frames.moved(found)[0] - velocity.xyz.to_value("m/s")).max() < 1e-6
+
+
 def test_against_casacore() -> None:
     """u, v, w of a baseline of 8,200 km by casacore's measures.
 

@@ -431,7 +431,7 @@ def test_a_low_source_is_told(tmp_path: Path, capsys: pytest.CaptureFixture[str]
     ("sample_rate = 2 Ms/sec", "sample_rate = 2 Ms/sec", ["--station", "Wb"], "no station Wb in the scans"),
     ("mode = M; source = 3C84;\n  station = Ef : 0 sec : 200", "mode = M;\n  station = Ef : 0 sec : 200", [], "scan No0001 has no source"),
     ("ref_coord_frame = J2000", "ref_coord_frame = B1950", [], "source 0316+413 is in the frame B1950; J2000, ICRF, ICRS are known"),
-    ("clock_early = 2010y115d00h", "clock_early = 2010y115d09h", [], "the clock of station Ef counts from 2010y115d08h30m10s on, and its first scan is before that"),
+    ("clock_early = 2010y115d00h", "clock_early = 2010y115d09h", [], "the clock of station Ef counts from 2010y115d08h30m10s on"),
     ("def 3C84", "def 3C85", [], "no 3C84 in $SOURCE"),
     ("4033947.2355 m", "4033.9472355 m", [], "is -"),
 ])
@@ -492,8 +492,9 @@ def im_text(parts: list[model.Part], origin: delay.Theory, seconds: int = 120, b
                 terms = [-one * 1e6 for one in origin.fit(piece).coefficients]
                 places = origin.places(piece, numpy.arange(5) * 30.0)[1]
                 columns = numpy.linalg.solve(numpy.vander(numpy.arange(5) * 30.0, increasing=True), -places).T.tolist()
-                lines += [f"SRC {centre} ANT {number} DELAY (us):\t" + "\t".join(f"{one:.15e}" for one in (terms if centre else [0.0])) for centre in (0, 1)]
-                lines += [f"SRC 1 ANT {number} {axis} (m):\t" + "\t".join(f"{one:.15e}" for one in column) for axis, column in zip("UVW", columns)]
+                lines.append(f"SRC 0 ANT {number} DELAY (us):\t0.0")
+                for name, column in zip(("DELAY (us)", "U (m)", "V (m)", "W (m)"), (terms, *columns)):
+                    lines.append(f"SRC 1 ANT {number} {name}:\t" + "\t".join(f"{one:.15e}" for one in column))
                 lines.append(f"SRC 1 ANT {number} EL GEOM:\t4.5e+01\t1e-3")
     return "\n".join(lines) + "\n"
 

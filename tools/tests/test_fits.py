@@ -3,6 +3,7 @@ from __future__ import annotations
 
 import math
 import os
+import shutil
 import struct
 import subprocess
 import sys
@@ -152,14 +153,14 @@ def folder(tmp_path: Path, monkeypatch: pytest.MonkeyPatch) -> Folder:
 
 
 def plain_spectrum(cells: NDArray[Any], side: str) -> Complexes:
-    """The spectrum of a record's cells by the sum that it is, channel by channel, with whole turns left out."""
+    """The spectrum of a record's cells by the sum that it is, channel by channel from the band's edge on; a lower sideband's runs down from there."""
     found = numpy.zeros(LAGS // 2, numpy.complex128)
     for k in range(LAGS // 2):
         for place in range(LAGS):
             if cells["count"][place] > 0:
                 turn = (k * (place - LAGS // 2) % LAGS) / LAGS
                 found[k] += complex(cells["re"][place], cells["im"][place]) / float(cells["count"][place]) * numpy.exp(2j * numpy.pi * turn)
-    return found if side == "U" else found.conj()
+    return found if side == "U" else found.conj()[::-1]
 
 
 def due_rows() -> list[tuple[int, int, int]]:
@@ -212,10 +213,10 @@ def test_tables(folder: Folder) -> None:
     assert sites["MNTSTA"].tolist() == [0, 1, 0] and sites["DIAMETER"].tolist() == [100, 25, 0]
     assert sites["STAXOF"][:, 0] == pytest.approx([0.0135, 4.95, 0])
     assert antennas["NO_LEVELS"].tolist() == [4, 4, 4] and antennas["POLTYA"].tolist() == ["R"] * 3 and antennas["POLTYB"].tolist() == ["L"] * 3
-    assert bands["SIDEBAND"].tolist() == [[1, -1]] and bands["BANDFREQ"].tolist() == [[0, 16e6]]
+    assert bands["SIDEBAND"].tolist() == [[1, 1]] and bands["BANDFREQ"].tolist() == [[0, 16e6 - 7 * 62500]]
     assert bands["CH_WIDTH"].tolist() == [[62500, 62500]] and bands["TOTAL_BANDWIDTH"].tolist() == [[500_000, 500_000]]
     assert folder.frequencies()[0].tolist() == [8400e6 + 62500 * k for k in range(8)]
-    assert folder.frequencies()[1].tolist() == [8416e6 - 62500 * k for k in range(8)]
+    assert folder.frequencies()[1].tolist() == [8416e6 - 62500 * k for k in reversed(range(8))]
     assert sources["SOURCE"].tolist() == ["3C84", "1641+399"] and sources["SOURCE_ID"].tolist() == [1, 2]
     assert sources["RAEPO"] == pytest.approx([15 * (3 + 19 / 60 + 48.160096 / 3600), 15 * (16 + 42 / 60 + 58.809969 / 3600)], abs=1e-11)
     assert sources["DECEPO"] == pytest.approx([41 + 30 / 60 + 42.104043 / 3600, 39 + 48 / 60 + 36.99396 / 3600], abs=1e-11)
@@ -321,16 +322,18 @@ def test_simulated_stations_have_the_phase_of_the_sky_frequency(folder: Folder, 
     from vlbi import simulate
 
     rate, lags, delay = 20_000, 32, 3.25 / 20_000
-    sky = simulate.Sky((simulate.Station("Ef"), simulate.Station("Wb", delay=(delay,))), rate=rate, seconds=1, sideband=side, common=0.9, frequency=8_400_001_234)
+    stations = simulate.Station("Ef"), simulate.Station("Wb", delay=(delay,))
+    sky = simulate.Sky(stations, rate=rate, seconds=1, sideband=side, common=0.9, frequency=8_400_001_234)
     simulate.simulate(sky, "day", lags=lags, blind_integration=rate)
     (folder.path / "day" / "sky.vis").write_bytes(correlator.correlate("day", "blind.txt", "sky.vex"))
     words = ["day/sky.vis", "--job", "day/blind.txt", "--vex", "day/sky.vex", "-o", "sky.fits", "--source", "S", "--ra", "03h19m48s", "--dec", "41d30'42\""]
     assert command.main([*words, *(word for key in ("Ef", "Wb") for word in ("--site", f"{key}={','.join(map(str, SITES[key]))}"))]) == 0
     _, found = folder.rows()
     frequencies = folder.frequencies()[0]
-    step = rate / lags if side == "U" else -rate / lags
-    assert frequencies == pytest.approx(sky.frequencies[0] + step * numpy.arange(lags // 2), abs=1e-6)
-    off = numpy.angle(found[0, 0, 1:, 0] * numpy.exp(-2j * numpy.pi * (frequencies[1:] * delay)), deg=True)
+    places = rate / lags * numpy.arange(lags // 2)
+    assert frequencies == pytest.approx(sky.frequencies[0] + places if side == "U" else sky.frequencies[0] - places[::-1], abs=1e-6)
+    inner = places > 0 if side == "U" else places[::-1] > 0  # the channel at the edge lies half in the mirror image
+    off = numpy.angle(found[0, 0, inner, 0] * numpy.exp(-2j * numpy.pi * (frequencies[inner] * delay)), deg=True)
     assert abs(off).max() < 20 and abs(off.mean()) < 4
 
 
@@ -371,6 +374,56 @@ def test_a_source_off_the_phase_centre_comes_out_where_it_was_put(folder: Folder
         east, north = east + step[0], north + step[1]
     assert [east / second, north / second] == pytest.approx([-2, 3], abs=5e-5)
     assert abs(off(east, north)).max() < 0.02
+
+
+# By casacore's reader
+
+READER = """#include <casacore/msfits/MSFits/MSFitsIDI.h>
+
+int main(int, char** names) { return casacore::MSFitsIDI(names[1], names[2], casacore::True).fillMS() ? 0 : 1; }
+"""
+LIBRARIES = ("msfits", "ms", "measures", "tables", "fits", "casa")
+CORRELATIONS = {5: "RR", 6: "RL", 7: "LR", 8: "LL"}  # casacore's numbers of them
+
+
+def test_a_measurement_set(folder: Folder) -> None:
+    """Its rows are those of the file, band by band; its phases are turned round, as casacore has them."""
+    casacore = pytest.importorskip("casacore.tables")
+    if shutil.which("g++") is None or not Path("/usr/include/casacore/msfits/MSFits/MSFitsIDI.h").exists():
+        pytest.skip("there is no g++, or casacore's headers are not there")
+    folder.write(record_file(random_cells))
+    (folder.path / "reader.cpp").write_text(READER)
+    subprocess.run(["g++", "-std=c++17", "reader.cpp", "-o", "reader", *(f"-lcasa_{name}" for name in LIBRARIES)], check=True)
+    subprocess.run(["./reader", "sky.fits", "sky.ms"], check=True, capture_output=True)
+
+    def column(name: str, of: str = "") -> Any:
+        with casacore.table(f"sky.ms{of}", ack=False) as table:
+            return table.getcol(name)
+
+    assert column("NAME", "/ANTENNA") == list(KEYS) and column("POSITION", "/ANTENNA").tolist() == [list(site) for site in SITES.values()]
+    assert column("NAME", "/FIELD") == ["3C84", "1641+399"]
+    places = column("PHASE_DIR", "/FIELD").reshape(2, 2) % (2 * math.pi)
+    sources = list(vex.from_bytes(SKY.encode()).sources.values())
+    assert abs(places - [[one.right_ascension, one.declination] for one in sources]).max() < 1e-12
+    frequencies = column("CHAN_FREQ", "/SPECTRAL_WINDOW")
+    assert frequencies.tolist() == [[8400e6 + 62500 * k for k in range(8)], [8416e6 - 62500 * k for k in reversed(range(8))]]
+    assert (column("CHAN_WIDTH", "/SPECTRAL_WINDOW") == 62500).all()
+
+    rows, _ = folder.rows()
+    found, stokes = column("DATA"), [CORRELATIONS[one] for one in column("CORR_TYPE", "/POLARIZATION")[0]]
+    assert len(found) == 2 * len(rows)
+    for name, due in {
+        "ANTENNA1": rows["BASELINE"] // 256 - 1, "ANTENNA2": rows["BASELINE"] % 256 - 1, "FIELD_ID": rows["SOURCE_ID"] - 1, "EXPOSURE": rows["INTTIM"],
+        "TIME": (rows["DATE"] - 2400000.5 + rows["TIME"]) * 86400, "UVW": numpy.stack([rows["UU"], rows["VV"], rows["WW"]], axis=1) * LIGHT,
+    }.items():
+        assert abs(column(name) - numpy.repeat(due, 2, axis=0)).max() < 1e-4
+    assert column("DATA_DESC_ID").tolist() == [0, 1] * len(rows)
+    for row, (scan, m, b) in enumerate(due_rows()):
+        for p, (x, y) in enumerate(PRODUCTS):
+            cells = random_cells(scan, m, p, b)
+            plain = plain_spectrum(cells, "UL"[p // 4]) * (cells["count"][LAGS // 2] > 0)
+            plain = plain.real + 0j if BASELINES[b][0] == BASELINES[b][1] and x == y else plain
+            assert abs(found[2 * row + p // 4, :, stokes.index(CHANNELS[x] + CHANNELS[y])] - plain.conj()).max() <= 2e-6 * max(1, abs(plain).max())
 
 
 # Amplitudes
@@ -479,7 +532,7 @@ def test_a_job_that_states_its_scans(folder: Folder) -> None:
     tables = folder.tables()
     assert (tables["UV_DATA"].header["STK_1"], tables["UV_DATA"].header["NO_STKD"], tables["UV_DATA"].header["NO_BAND"]) == (-2, 1, 2)
     assert tables["SOURCE"].data["SOURCE"].tolist() == ["3C84"]
-    assert folder.frequencies()[1].tolist() == [8416e6 - 62500 * k for k in range(8)]
+    assert folder.frequencies()[1].tolist() == [8416e6 - 62500 * k for k in reversed(range(8))]
     assert "HISTORY" not in tables["PRIMARY"].header or not any("assumed" in line for line in tables["PRIMARY"].header["HISTORY"])
 
 
@@ -505,7 +558,8 @@ def test_a_band_that_is_narrower_than_the_samples(folder: Folder) -> None:
     (": B : L :", ": B : X :", (), "product CH01 CH02: FITS has no polarisations R with X"),
     ("def On; ref $SITE = ON; enddef;", "", (), "sky.vex: nobody says where station On is: --site On=X,Y,Z does"),
     ("site_position = 3370605.7 m", "site_position = 3370605.7 miles", (), "sky.vex: def ON of $SITE at byte"),
-    ("ref_coord_frame = J2000;", "ref_coord_frame = B1950;", (), "sky.vex: source 3C84 is in the frame B1950, not in J2000: --source 3C84 with --ra and --dec states it"),
+    ("ref_coord_frame = J2000;", "ref_coord_frame = B1950;", (),
+     "sky.vex: source 3C84 is in the frame B1950, not in J2000: --source 3C84 with --ra and --dec states it"),
     ("8416.00 MHz : L : 0.5", "8416.00 MHz : L : 0.25", (), "the scans have no band, or not equally many, or bands of more than one bandwidth"),
 ])
 def test_what_is_wrong_is_one_line(folder: Folder, capsys: pytest.CaptureFixture[str], old: str, new: str, words: tuple[str, ...], said: str) -> None:

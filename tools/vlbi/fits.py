@@ -47,7 +47,7 @@ class Shape:
     bands     the number of bands
     channels  the channels of a band
     width     that of a channel in hertz
-    reference the sky frequency in hertz from which those of the bands are counted
+    reference  the sky frequency in hertz from which those of the bands are counted
     day       the first second of the first scan's day, since 1970-01-01
     """
 
@@ -71,9 +71,10 @@ def shape_of(seen: Observation) -> Shape:
     if len(bands) != 1 or len(widths) != 1:
         raise Fault("the scans have no band, or not equally many, or bands of more than one bandwidth: they go into no one file of FITS")
     day = min(scan.start for scan in seen.records.scans) // DAY * DAY
-    reference = seen.setups[0].bands[0].hertz
-    channels = spectrum.channels(head.lags, head.rate, widths.pop())
-    return Shape(stokes_of(seen.setups), bands.pop(), channels, head.rate / head.lags, float(reference), day)
+    channels, width = spectrum.channels(head.lags, head.rate, widths.pop()), head.rate / head.lags
+    first = seen.setups[0].bands[0]
+    reference = spectrum.first_channel(first.hertz, first.side, channels, width)
+    return Shape(stokes_of(seen.setups), bands.pop(), channels, width, reference, day)
 
 
 def stokes_of(setups: tuple[Setup, ...]) -> tuple[int, ...]:
@@ -203,14 +204,15 @@ def antennas(seen: Observation, shape: Shape) -> Any:
 
 
 def frequencies(seen: Observation, shape: Shape) -> Any:
-    """The bands of each setup: channel k, from 0, is at the frequency of its band plus, or in a lower sideband less, k widths."""
+    """The bands of each setup, in each the channels by rising frequency, those of a lower sideband too: not all readers look at SIDEBAND."""
     setups = [setup.bands for setup in seen.setups]
+    firsts = [[spectrum.first_channel(band.hertz, band.side, shape.channels, shape.width) for band in bands] for bands in setups]
     return table("FREQUENCY", seen, shape, 2, [
         column("FREQID", "1J", range(1, len(setups) + 1)),
-        column("BANDFREQ", f"{shape.bands}D", [[band.hertz - shape.reference for band in bands] for bands in setups], "HZ"),
+        column("BANDFREQ", f"{shape.bands}D", [[first - shape.reference for first in row] for row in firsts], "HZ"),
         column("CH_WIDTH", f"{shape.bands}E", numpy.full((len(setups), shape.bands), shape.width), "HZ"),
         column("TOTAL_BANDWIDTH", f"{shape.bands}E", numpy.full((len(setups), shape.bands), shape.width * shape.channels), "HZ"),
-        column("SIDEBAND", f"{shape.bands}J", [[band.sign for band in bands] for bands in setups]),
+        column("SIDEBAND", f"{shape.bands}J", numpy.ones((len(setups), shape.bands))),
         column("BB_CHAN", f"{shape.bands}J", [list(range(1, shape.bands + 1)) for _ in setups]),
     ])
 
@@ -285,7 +287,7 @@ def visibility_header(seen: Observation, shape: Shape, rows: int) -> Any:
     for number, (size, name, step, at) in enumerate(axes, 1):
         header.update({f"MAXIS{number}": size, f"CTYPE{number}": name, f"CDELT{number}": step, f"CRPIX{number}": 1.0, f"CRVAL{number}": at})
     header.update({
-        "TELESCOP": "VLBI", "OBSERVER": seen.code, "DATE-OBS": shape.date, "EQUINOX": "J2000", "WEIGHTYP": "NORMAL", "SORT": "TB", "VIS_SCAL": 1.0,
+        "TELESCOP": "VLBI", "OBSERVER": seen.code, "DATE-OBS": shape.date, "EQUINOX": 2000.0, "WEIGHTYP": "NORMAL", "SORT": "TB", "VIS_SCAL": 1.0,
     })
     return header
 

@@ -36,15 +36,20 @@ def channels(lags: int, rate: int, bandwidth: int | None = None) -> int:
 
 
 def of_lags(means: Complexes, side: str, many: int) -> Complexes:
-    """The first channels of the spectra of these lags, complex128 (.., K) from (.., L), by rising distance from the band's edge.
+    """The channels in the band of the spectra of these lags, complex128 (.., K) from (.., L), by rising sky frequency.
 
     means  by rising lag from -L/2 on, along the last axis
-    side   `U` or `L`: channel k is at the sky frequency F + k * rate / L, or at F - k * rate / L
+    side   `U` or `L`: what was recorded at the frequency f is at the sky frequency F + f or F - f
     many   K, the number of channels, as `channels` says
     """
     size = means.shape[-1]
     found: Complexes = numpy.fft.ifft(numpy.fft.ifftshift(means, axes=-1), axis=-1)[..., :many] * size
-    return found if side == "U" else numpy.conj(found)
+    return found if side == "U" else numpy.conj(found)[..., ::-1]
+
+
+def first_channel(hertz: int, side: str, many: int, width: float) -> float:
+    """The sky frequency of the first of these channels, of so many hertz each, of a band with its edge at this one: the lowest."""
+    return float(hertz) if side == "U" else hertz - (many - 1) * width
 
 
 def level_gain(bits: int, threshold: float = BEST_THRESHOLD) -> float:

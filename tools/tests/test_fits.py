@@ -314,9 +314,12 @@ def test_a_fringe_at_a_lag_turns_the_phase_over_the_band(folder: Folder, late: i
         assert abs(chosen[:, band] / 0.1 - due).max() < 1e-6
 
 
-@pytest.mark.parametrize("side", ["U", "L"])
-def test_simulated_stations_have_the_phase_of_the_sky_frequency(folder: Folder, side: str) -> None:
-    """Recordings in which the wave reaches the second station late: at each channel the phase is 2 pi times its sky frequency times the delay."""
+@pytest.mark.parametrize("known, side", [("blind", "U"), ("blind", "L"), ("job", "U"), ("job", "L")])
+def test_simulated_stations_have_the_phase_of_the_sky_frequency(folder: Folder, known: str, side: str) -> None:
+    """Recordings in which the wave reaches the second station late: at each channel the phase is 2 pi times its sky frequency times the delay.
+
+    A job that knows the delay takes it out, but for a quarter of a sample: with that corrected no phase is left.
+    """
     import correlator
 
     from vlbi import simulate
@@ -324,9 +327,11 @@ def test_simulated_stations_have_the_phase_of_the_sky_frequency(folder: Folder, 
     rate, lags, delay = 20_000, 32, 3.25 / 20_000
     stations = simulate.Station("Ef"), simulate.Station("Wb", delay=(delay,))
     sky = simulate.Sky(stations, rate=rate, seconds=1, sideband=side, common=0.9, frequency=8_400_001_234)
-    simulate.simulate(sky, "day", lags=lags, blind_integration=rate)
-    (folder.path / "day" / "sky.vis").write_bytes(correlator.correlate("day", "blind.txt", "sky.vex"))
-    words = ["day/sky.vis", "--job", "day/blind.txt", "--vex", "day/sky.vex", "-o", "sky.fits", "--source", "S", "--ra", "03h19m48s", "--dec", "41d30'42\""]
+    simulate.simulate(sky, "day", lags=lags, integration=rate, blind_integration=rate)
+    (folder.path / "day" / "sky.vis").write_bytes(correlator.correlate("day", f"{known}.txt", "sky.vex"))
+    words = ["day/sky.vis", "--job", f"day/{known}.txt", "--vex", "day/sky.vex", "-o", "sky.fits", "--correct"]
+    words += ["--source", "S", "--ra", "03h19m48s", "--dec", "41d30'42\""]
+    delay = 0.0 if known == "job" else delay
     assert command.main([*words, *(word for key in ("Ef", "Wb") for word in ("--site", f"{key}={','.join(map(str, SITES[key]))}"))]) == 0
     _, found = folder.rows()
     frequencies = folder.frequencies()[0]
@@ -470,27 +475,33 @@ def test_the_gain_of_levels_is_their_slope() -> None:
         assert spectrum.level_gain(bits) ** 2 == pytest.approx(float(theory.level_product(1e-4, bits)) / 1e-4, rel=1e-6)
 
 
-def test_the_rotation_is_corrected(folder: Folder) -> None:
-    """The second station's fringe turns fast, that of the third stands: amplitudes by theory, and by the sector in which the third one stands."""
+@pytest.mark.parametrize("products, edge, sign, side", [((("CH01", "CH01"),), 8400e6, 1, "U"), ((("CH04", "CH04"),), 8416e6, -1, "L")])
+def test_rotation_and_whole_delays_are_corrected(folder: Folder, products: tuple[tuple[str, str], ...], edge: float, sign: int, side: str) -> None:
+    """The second station's fringe turns fast and its delay runs through whole samples, the third one's stand: amplitudes by theory and by sums."""
     delays = {"Wb": [1e-7, 2e-7], "On": [0.3e-10]}
     lines = [job.poly_line(key, START - 10, delay, RATE) for key, delay in delays.items()]
-    product = spectrum.level_gain(2) ** 2
-    turns = 8400e6 * 0.3e-10
-    stands = theory.three_levels(turns) * numpy.exp(-2j * numpy.pi * turns)
+    (folder.path / "job.txt").write_text(job_text(products=products, more="\n".join(lines) + "\n"))
+    stands = sign * edge * 0.3e-10
+    parts = {
+        (0, 1): 2 * theory.rotated_amplitude(0.02, numpy.zeros(1), 2),  # at lag 0 half of the band's spectrum adds up
+        (0, 2): 0.02 * spectrum.level_gain(2) ** 2 * numpy.conj(theory.three_levels(stands) * numpy.exp(-2j * numpy.pi * stands)),
+    }
 
     def cells(scan: int, m: int, p: int, b: int) -> NDArray[Any]:
-        if BASELINES[b] == (0, 1):
-            part = theory.rotated_amplitude(0.02, numpy.zeros(1), 2) + 0j  # at lag 0, where half of the band's spectrum adds up
-        elif BASELINES[b] == (0, 2):
-            part = 0.02 / 2 * product * numpy.conj(stands)
-        else:
-            part = 0j
-        return cells_of(wave(lambda places: numpy.full(len(places), 2 * part), "U"))
+        begin, end = (min(samples, SCANS[0][2]) / RATE for samples in (m * INTEGRATION, (m + 1) * INTEGRATION))
+        late = RATE * (1e-7 + 2e-7 * (10 + begin + (end - begin) * (numpy.arange(5000) + 0.5) / 5000))
+        early = (numpy.floor(late + 0.5) - late) / RATE if BASELINES[b] == (0, 1) else 3e-11 * numpy.array([-1.0]) * (BASELINES[b] == (0, 2))
 
-    (folder.path / "job.txt").write_text(job_text(products=PRODUCTS[:1], more="\n".join(lines) + "\n"))
-    folder.write(record_file(cells, PRODUCTS[:1], SCANS[:1]), "--correct")
+        def turns(places: Reals) -> Complexes:
+            made: Complexes = parts.get(BASELINES[b], 0j) * numpy.exp(-2j * numpy.pi * places[:, None] * early).mean(axis=1)
+            return made
+
+        # `wave` turns a lower sideband's phases round, which these are not: they are those of what was recorded
+        return cells_of(wave(turns if side == "U" else lambda places: turns(places).conj(), side))
+
+    folder.write(record_file(cells, products, SCANS[:1]), "--correct")
     rows, found = folder.rows()
-    assert abs(found[rows["BASELINE"] == 258] - 0.02).max() < 4e-4
+    assert len(rows) == 5 * len(BASELINES) and abs(found[rows["BASELINE"] == 258] - 0.02).max() < 4e-4
     assert abs(found[rows["BASELINE"] == 259] - 0.02).max() < 1e-5
 
 
@@ -501,6 +512,14 @@ def test_what_the_rotation_leaves() -> None:
     due = [(theory.three_levels(one) * numpy.exp(-2j * numpy.pi * one)).mean() for one in fine]
     assert abs(rotation.gain(places) - due).max() < 1e-4
     assert abs(rotation.power(places) - [(abs(theory.three_levels(one)) ** 2).mean() for one in fine]).max() < 1e-3
+
+
+def test_what_whole_delays_leave() -> None:
+    delays = numpy.array([[0.3, 0.3], [0.2, 0.7], [-3.9, 0.35], [1e5 + 0.5, 1e5 + 123.4], [2.6, -0.6]])
+    bands = numpy.array([0, 0.1, 0.4375])
+    fine = [begin + (end - begin) * (numpy.arange(100_000) + 0.5) / 100_000 for begin, end in delays]
+    due = [numpy.exp(2j * numpy.pi * (numpy.floor(late + 0.5) - late)[:, None] * bands).mean(axis=0) for late in fine]
+    assert abs(rotation.rests(delays, bands) - due).max() < 1e-4
 
 
 def test_delays_of_a_job() -> None:

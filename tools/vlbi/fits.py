@@ -25,7 +25,7 @@ from numpy.typing import NDArray
 from vlbi import __version__, geometry, rotation, spectrum
 from vlbi.faults import Fault
 from vlbi.geometry import DAY, UNIX_EPOCH, Geometry
-from vlbi.observation import Observation, Setup
+from vlbi.observation import Band, Observation, Setup
 from vlbi.records import Scan
 
 Reals = NDArray[numpy.float64]
@@ -34,7 +34,7 @@ Complexes = NDArray[numpy.complex128]
 LIGHT = 299_792_458  # metres a second
 BLOCK = 1 << 20      # cells that are transformed at once
 FITS_BLOCK = 2880    # bytes
-PIECES = 16          # stretches of an integration in each of which a fringe is taken to turn evenly
+PIECES = 4           # stretches of an integration in each of which a delay is taken to change evenly
 MOUNTS = {("az", "el"): 0, ("ha", "dec"): 1, ("x", "yew"): 3, ("x", "yns"): 3}
 DEGREES_PER_DAY = 360.9856473354  # that the earth turns
 
@@ -338,7 +338,7 @@ def fill_visibilities(rows: NDArray[Any], setup: Setup, shape: Shape, scan: Scan
         means = (cells["re"] + 1j * cells["im"]) / numpy.maximum(cells["count"], 1)
         found = spectrum.of_lags(means, setup.bands[band].side, shape.channels)
         weights: Reals = cells["count"][..., scan.head.lags // 2] / scan.head.integration
-        found = amplitudes.scaled(found, scan, chosen, product, setup.bands[band].sign * setup.bands[band].hertz)
+        found = amplitudes.scaled(found, scan, chosen, product, setup.bands[band])
         found = numpy.where(weights[..., None] > 0, found, 0)
         for baseline, (a, b) in enumerate(scan.baselines):
             if a == b and scan.head.products[product][0] == scan.head.products[product][1]:
@@ -352,72 +352,78 @@ class Amplitudes:
     """What visibilities are: mean products of levels, or coefficients of correlation.
 
     Of a weak correlation the mean product of levels is a known part: that of the quantisation, by each station's bits and thresholds, and
-    that of the three-level fringe rotation, by each station's delays. A coefficient is the mean product over this part. The thresholds of two bits
-    are those that the power of the station's own samples tells, where the job has `auto`, and else the best ones. A station with itself is no
-    weak correlation: it is divided by its power.
+    those of the three-level fringe rotation and of whole delays, by each station's delays. A coefficient is the mean product over this part; where
+    both stations of a baseline have delays, each is taken to run by itself. The thresholds of two bits are those that the power of the station's own
+    samples tells, where the job has `auto`, and else the best ones. A station with itself is no weak correlation: it is divided by its power.
     """
 
     def __init__(self, seen: Observation, correct: bool) -> None:
         self.seen = seen
         self.correct = correct
         self.delays = rotation.Delays(seen.job, seen.records.head.rate)
-        self.measured = False
         self.found: dict[tuple[int, int, int, int], float] = {}
 
     @property
     def words(self) -> list[str]:
         """What the file says of its amplitudes."""
-        said = ["Visibilities are coefficients of correlation: mean products of levels over what", "quantisation and three-level rotation leave of a weak one."]
-        said = said if self.correct else ["Visibilities are mean products of levels."]
+        said = ["Visibilities are mean products of levels."]
+        if self.correct:
+            said = ["Visibilities are coefficients of correlation: mean products of levels over", "what quantisation, rotation and whole delays leave of a weak one."]
         said += ["Weights are pairs of samples over the samples of an integration."]
         if self.seen.assumed:
             said.append(f"Polarisation R is assumed of {', '.join(self.seen.assumed)}.")
         return said
 
-    def scaled(self, found: Complexes, scan: Scan, chosen: slice, product: int, hertz: int) -> Complexes:
-        """The visibilities of some integrations of a product, complex128 (M, B, K), of the sky frequency with the sideband's sign."""
+    def scaled(self, found: Complexes, scan: Scan, chosen: slice, product: int, band: Band) -> Complexes:
+        """The visibilities of some integrations of a product, complex128 (M, B, K), in this band."""
         if not self.correct:
             return found
         made = numpy.zeros_like(found)
-        edges = self.edges(scan, chosen)
         stations = {one for pair in scan.baselines for one in pair}
-        gains = {one: self.gain(scan, one, hertz, edges) for one in stations}
+        gains = {one: self.gain(scan, one, band, chosen, found.shape[-1]) for one in stations}
+        x, y = scan.head.products[product]
         for baseline, (a, b) in enumerate(scan.baselines):
-            x, y = scan.head.products[product]
             if (a, x) == (b, y):
                 own = scan.cells[chosen, product, baseline, scan.head.lags // 2]
                 made[:, baseline] = found[:, baseline] * (own["count"] / numpy.maximum(own["re"], 1))[:, None]
                 continue
-            levels = self.levels(scan, a, x, hertz) * self.levels(scan, b, y, hertz)
-            turned = gains[a] * numpy.conj(gains[b])
-            made[:, baseline] = found[:, baseline] / (levels * (turned if hertz >= 0 else numpy.conj(turned)))[:, None]
+            levels = self.levels(scan, a, x, band) * self.levels(scan, b, y, band)
+            kept_part = gains[a] * numpy.conj(gains[b]) if a != b else self.squares(scan, a, band, chosen)[:, None]
+            made[:, baseline] = found[:, baseline] / (levels * kept_part)
         return made
 
-    def edges(self, scan: Scan, chosen: slice) -> Reals:
-        """The stretches of some integrations, PIECES in each."""
+    def late(self, scan: Scan, station: int, chosen: slice) -> Reals:
+        """A station's delay in samples at the begins and the ends of the stretches of some integrations, PIECES in each."""
         begins = scan.begins[chosen]
         ends = numpy.minimum(begins + scan.head.integration, scan.samples)
-        return rotation.stretches(begins / scan.head.rate, ends / scan.head.rate, PIECES)
+        edges = rotation.stretches(begins / scan.head.rate, ends / scan.head.rate, PIECES)
+        return self.delays.samples(scan.head.stations[station], scan.start, edges)
 
-    def gain(self, scan: Scan, station: int, hertz: int, edges: Reals) -> Complexes:
-        """What the rotation leaves of a station's signal in each integration: complex128 (M,)."""
-        turns = self.delays.turns(scan.head.stations[station], hertz, scan.start, edges)
-        found: Complexes = rotation.gain(turns).reshape(-1, PIECES).mean(axis=1)
+    def gain(self, scan: Scan, station: int, band: Band, chosen: slice, many: int) -> Complexes:
+        """What rotation and whole delays leave of a station's signal, in each integration and channel: complex128 (M, K)."""
+        late = self.late(scan, station, chosen)
+        turned = rotation.gain(late * (band.sign * band.hertz / scan.head.rate)).reshape(-1, PIECES).mean(axis=1)
+        rested = rotation.rests(late, numpy.arange(many) / scan.head.lags).reshape(-1, PIECES, many).mean(axis=1)
+        found: Complexes = turned[:, None] * rested
+        return found if band.side == "U" else numpy.conj(found)[:, ::-1]
+
+    def squares(self, scan: Scan, station: int, band: Band, chosen: slice) -> Reals:
+        """The mean square of a station's rotation in each integration: float64 (M,)."""
+        turns = self.late(scan, station, chosen) * (band.sign * band.hertz / scan.head.rate)
+        found: Reals = rotation.power(turns).reshape(-1, PIECES).mean(axis=1)
         return found
 
-    def levels(self, scan: Scan, station: int, channel: str, hertz: int) -> float:
+    def levels(self, scan: Scan, station: int, channel: str, band: Band) -> float:
         """The gain of a station's levels in a channel."""
         if self.seen.bits[station] == 1:
             return spectrum.level_gain(1)
         pairs = (channel, channel)
         if (station, station) not in scan.baselines or pairs not in scan.head.products:
             return spectrum.level_gain(2)
-        key = self.seen.records.scans.index(scan), station, scan.head.products.index(pairs), hertz
+        key = self.seen.records.scans.index(scan), station, scan.head.products.index(pairs), band.sign * band.hertz
         if key not in self.found:
             cells = scan.cells[:, key[2], scan.baselines.index((station, station)), scan.head.lags // 2]
-            turns = self.delays.turns(scan.head.stations[station], hertz, scan.start, self.edges(scan, slice(0, len(scan.cells))))
-            squares = rotation.power(turns).reshape(-1, PIECES).mean(axis=1)
-            pairs_turned = float((cells["count"] * squares).sum())
-            mean = float(cells["re"].sum(dtype=numpy.float64)) / pairs_turned if pairs_turned > 0 else 0.0
+            turned = float((cells["count"] * self.squares(scan, station, band, slice(0, len(scan.cells)))).sum())
+            mean = float(cells["re"].sum(dtype=numpy.float64)) / turned if turned > 0 else 0.0
             self.found[key] = spectrum.level_gain(2, spectrum.threshold_of(mean))
         return self.found[key]

@@ -1,9 +1,12 @@
-"""What the three-level fringe rotation of the correlator `vlbi` leaves of a correlation, by the delays that a job takes out.
+"""What whole delays and the three-level fringe rotation of the correlator `vlbi` leave of a correlation, by the delays that a job takes out.
 
     delays = rotation.Delays(job.job_lines(text), rate)
-    rotation.gain(delays.turns("Wb", hertz, scan.start, edges))
+    late = delays.samples("Wb", scan.start, edges)
+    rotation.gain(late * (hertz / rate))
+    rotation.rests(late, numpy.arange(32) / 64)
 
 A station's value is its sample times a cosine and a sine of three levels. Of that product the part counts which turns as the fringe does.
+The sample is the one at the nearest whole delay, which is up to half a sample early or late.
 """
 from __future__ import annotations
 
@@ -65,10 +68,6 @@ class Delays:
         clock: Reals = float(offset) + float(drift) * (seconds + float(when - since))
         return total + clock
 
-    def turns(self, key: str, hertz: int, start: int, edges: Reals) -> Reals:
-        """The same delays in turns of a sky frequency in hertz, which is negative in the lower sideband."""
-        return self.samples(key, start, edges) * (hertz / self.rate)
-
 
 def entries(lines: dict[str, list[list[str]]], word: str) -> dict[str, list[Entry]]:
     """The `poly` or `clock` lines of each station, by rising time."""
@@ -105,13 +104,35 @@ def power(turns: Reals) -> Reals:
     return squares.real
 
 
+def rests(late: Reals, places: Reals) -> Complexes:
+    """What whole delays leave at these places in the band: complex128 (N, K), the mean turn of a wave that is up to half a sample early.
+
+    late    float64 (N, 2): the delay in samples at the begin and the end of each stretch, between which it changes evenly
+    places  float64 (K,): frequencies in turns a sample
+    """
+    def value(delays: Reals) -> Complexes:
+        found: Complexes = numpy.exp(-2j * numpy.pi * places * (delays - numpy.floor(delays + 0.5))[..., None])
+        return found
+
+    def integral(delays: Reals) -> Complexes:
+        whole = numpy.floor(delays + 0.5)
+        rest = (delays - whole)[..., None]
+        # from -1/2 to the rest, of exp(-2 pi i places x)
+        middle, half = (rest - 0.5) / 2, (rest + 0.5) / 2
+        found: Complexes = whole[..., None] * numpy.sinc(places) + 2 * half * numpy.sinc(2 * half * places) * numpy.exp(-2j * numpy.pi * places * middle)
+        return found
+
+    return mean_over(late, integral, value)
+
+
 def mean_over(turns: Reals, integral: Callable[[Reals], Complexes], value: Callable[[Reals], Complexes]) -> Complexes:
-    """The mean of a function of the fringe over each stretch, by its integral from 0 on; its value where the fringe stands."""
+    """The mean of a function of period 1 over each stretch, by its integral; its value where the stretch has no length."""
     begins = turns[:, 0] - numpy.floor(turns[:, 0])
     change = turns[:, 1] - turns[:, 0]
     stands = abs(change) < STANDS
-    moved = integral(begins + change) - integral(begins)
-    found: Complexes = numpy.where(stands, value(begins), moved / numpy.where(stands, 1, change))
+    moved, held = integral(begins + change) - integral(begins), value(begins)
+    further = (1,) * (held.ndim - 1)  # a function may have more than one value at a place
+    found: Complexes = numpy.where(stands.reshape(-1, *further), held, moved / numpy.where(stands, 1, change).reshape(-1, *further))
     return found
 
 

@@ -30,7 +30,7 @@ def parser() -> argparse.ArgumentParser:
     made.add_argument("--vex", metavar="SCHEDULE", help="its schedule, where it has one")
     made.add_argument("--output", "-o", required=True, metavar="FILE", help="the file that is written")
     made.add_argument("--correct", action="store_true",
-                      help="coefficients of correlation: correct for what quantisation and fringe rotation leave of a weak correlation")
+                      help="coefficients of correlation: correct for what quantisation, fringe rotation and whole delays leave of a weak correlation")
     made.add_argument("--uvw", metavar="TABLE", help="a table of u, v and w, as vlbi-model writes it (computed from the sites)")
     made.add_argument("--source", metavar="NAME", help="the source of scans that name none")
     made.add_argument("--ra", metavar="HhMmSs", help="its right ascension, as 03h19m48.16s, in J2000 (that of the schedule)")

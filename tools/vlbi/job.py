@@ -77,6 +77,21 @@ def fits(counts: Iterable[int]) -> bool:
     return sum(abs(count) for count in counts) < MOST_POLY
 
 
+def poly_value(counts: Sequence[int], knot: int, samples: int) -> int:
+    """The delay of a `poly` line in 2^-32 sample, so many samples behind its second, as docs/MODEL.md has it: without a clock."""
+    number, rest = divmod(samples, knot)
+    here, next_one = (nested(counts, one) for one in (number, number + 1))
+    return here + (next_one - here) * rest // knot
+
+
+def nested(counts: Sequence[int], number: int) -> int:
+    """The polynomial at the knot of this number."""
+    total = 0
+    for count in reversed(counts):
+        total = count + total * number // KNOTS
+    return total
+
+
 def largest_knot(delays: Sequence[Sequence[float | str]], rate: int) -> int | None:
     """The largest knot, 32768 samples or a smaller power of two, with which the `poly` lines of all these delays can be written.
 

@@ -23,15 +23,16 @@ from astropy.io import fits
 from numpy.typing import NDArray
 
 from vlbi import __version__, geometry, rotation, spectrum
+from vlbi.earth import LIGHT, UNIX_DAY, UNIX_MJD
 from vlbi.faults import Fault
-from vlbi.geometry import DAY, UNIX_EPOCH, Geometry
+from vlbi.geometry import Geometry
 from vlbi.observation import Band, Observation, Setup
 from vlbi.records import Scan
 
 Reals = NDArray[numpy.float64]
 Complexes = NDArray[numpy.complex128]
 
-LIGHT = 299_792_458  # metres a second
+DAY = 86400
 BLOCK = 1 << 20      # cells that are transformed at once
 FITS_BLOCK = 2880    # bytes
 PIECES = 4           # stretches of an integration in each of which a delay is taken to change evenly
@@ -156,12 +157,11 @@ def column(name: str, form: str, rows: Any, unit: str | None = None) -> Any:
 
 def array_geometry(seen: Observation, shape: Shape) -> Any:
     """The stations' sites, at the first scan's day."""
-    day = shape.day / DAY + UNIX_EPOCH - geometry.MJD
     sites = [one.site for one in seen.stations]
     offsets = [one.antenna.offset if one.antenna else 0.0 for one in seen.stations]
     made = table("ARRAY_GEOMETRY", seen, shape, 1, [
         column("ANNAME", "8A", [one.key for one in seen.stations]),
-        column("STABXYZ", "3D", [geometry.position(site, day) for site in sites], "METERS"),
+        column("STABXYZ", "3D", [geometry.position(site, shape.day / DAY + UNIX_MJD) for site in sites], "METERS"),
         column("DERXYZ", "3E", [numpy.array(site.velocity or (0, 0, 0)) / (geometry.YEAR * DAY) for site in sites], "M/SEC"),
         fits.Column(name="ORBPARM", format="0D"),
         column("NOSTA", "1J", range(1, len(sites) + 1)),
@@ -169,11 +169,10 @@ def array_geometry(seen: Observation, shape: Shape) -> Any:
         column("STAXOF", "3E", [(offset, 0, 0) for offset in offsets], "METERS"),
         column("DIAMETER", "1E", [(one.antenna.diameter if one.antenna else None) or 0.0 for one in seen.stations], "METERS"),
     ])
-    earth = geometry.earth_orientation(day, seen.orientation)
+    day = geometry.day_of(shape.day, seen.orientation)
     made.header.update({
         "FRAME": "GEOCENTRIC", "ARRAYX": 0.0, "ARRAYY": 0.0, "ARRAYZ": 0.0, "NUMORB": 0, "FREQ": shape.reference, "TIMSYS": "UTC",
-        "GSTIA0": geometry.sidereal(shape.day, earth), "DEGPDY": DEGREES_PER_DAY, "UT1UTC": earth.ut1_utc, "IATUTC": earth.tai_utc,
-        "POLARX": float(numpy.degrees(earth.pole_x)) * 3600, "POLARY": float(numpy.degrees(earth.pole_y)) * 3600,
+        "GSTIA0": day.sidereal, "DEGPDY": DEGREES_PER_DAY, "UT1UTC": day.ut1_utc, "IATUTC": day.tai_utc, "POLARX": day.pole[0], "POLARY": day.pole[1],
     })
     return made
 
@@ -220,9 +219,8 @@ def frequencies(seen: Observation, shape: Shape) -> Any:
 def sources(seen: Observation, shape: Shape) -> Any:
     """The sources' places, in J2000 and as they appear on the first scan's day."""
     many = len(seen.sources)
-    earth = geometry.earth_orientation(shape.day / DAY + UNIX_EPOCH - geometry.MJD, seen.orientation)
     all_sources = [one.source for one in seen.sources]
-    places = [geometry.apparent(one, shape.day, earth) for one in all_sources]
+    places = [geometry.apparent(one, shape.day) for one in all_sources]
     none = numpy.zeros((many, shape.bands))
     each, exact = f"{shape.bands}E", f"{shape.bands}D"
     return table("SOURCE", seen, shape, 2, [
@@ -320,7 +318,7 @@ def fill_places(rows: NDArray[Any], seen: Observation, number: int, scan: Scan, 
         rows["BASELINE"][:, baseline] = 256 * (a + 1) + b + 1
     midnights = numpy.floor(seconds / DAY)
     lasts = numpy.minimum(scan.begins[chosen] + scan.head.integration, scan.samples)
-    rows["DATE"] = (midnights + UNIX_EPOCH)[:, None]
+    rows["DATE"] = (midnights + UNIX_DAY)[:, None]
     rows["TIME"] = (seconds / DAY - midnights)[:, None]
     rows["INTTIM"] = ((lasts - scan.begins[chosen]) / scan.head.rate)[:, None]
     rows["ARRAY"] = 1
@@ -368,8 +366,9 @@ class Amplitudes:
         """What the file says of its amplitudes."""
         said = ["Visibilities are mean products of levels."]
         if self.correct:
-            said = ["Visibilities are coefficients of correlation: mean products of levels over", "what quantisation, rotation and whole delays leave of a weak one."]
-        said += ["Weights are pairs of samples over the samples of an integration."]
+            said = ["Visibilities are coefficients of correlation: mean products of levels over"]
+            said += ["what quantisation, rotation and whole delays leave of a weak one."]
+        said += ["Weights are pairs of samples over the samples of an integration.", f"Earth orientation {self.seen.orientation.origin}."]
         if self.seen.assumed:
             said.append(f"Polarisation R is assumed of {', '.join(self.seen.assumed)}.")
         return said

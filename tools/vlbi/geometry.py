@@ -3,28 +3,31 @@
     place = geometry.read_table("model.txt.uvw")
     place.uvw("Ef", target, seconds)
 
-A table has lines of a station, the name of a source's def, a time, a delay in seconds, and u, v and w in metres. Where there is none,
-`Computed` works them out; it needs the Python package erfa, which comes with astropy.
+A table is one of `vlbi-model`: lines of a station, the name of a source's def, a time, a delay in seconds, and u, v and w in metres. Where
+there is none, `Computed` works them out.
 """
 from __future__ import annotations
 
 import dataclasses
+import functools
+import math
 from collections.abc import Mapping, Sequence
 from typing import Protocol
 
+import erfa
 import numpy
 from numpy.typing import NDArray
 
-from vlbi import vex
+from vlbi import earth, vex
+from vlbi.earth import DAY, UNIX_MJD
 from vlbi.faults import Fault
 
 Reals = NDArray[numpy.float64]
 
-DAY = 86400
-UNIX_EPOCH = 2440587.5  # Julian date of 1970-01-01, 00:00
-MJD = 2400000.5         # Julian date of the modified Julian day 0
-YEAR = 365.25           # days
-TT_TAI = 32.184         # seconds
+YEAR = 365.25    # days
+STEP = 10.0      # seconds between the moments from which all others are made by cubics
+LEAST_ROWS = 4
+UNKNOWN = "that nobody says: 0"  # the origin of an orientation that is none
 
 
 @dataclasses.dataclass(frozen=True)
@@ -44,24 +47,39 @@ class Geometry(Protocol):
 
 # Computed
 
-
 @dataclasses.dataclass(frozen=True)
 class Computed:
     """u, v and w from the stations' sites and the earth's orientation, with respect to its centre.
 
     They are those of straight rays: the earth's own motion, which changes them by up to one part in ten thousand, is left out.
-    orientation  that of the days around; a day that is not among them is looked up in the tables of astropy, and is 0 where it has none
     """
 
     sites: Mapping[str, vex.Site]
-    orientation: Sequence[vex.EarthOrientation] = ()
+    orientation: earth.Orientation
 
     def uvw(self, key: str, target: Target, seconds: Reals) -> Reals:
-        middle = float(seconds.mean()) if len(seconds) else 0.0
-        day = middle / DAY + UNIX_EPOCH - MJD
-        there = celestial(position(self.sites[key], day), seconds, earth_orientation(day, self.orientation))
-        found: Reals = there @ axes(target.source).T
-        return found
+        begin = math.floor(seconds.min())
+        behind = numpy.arange(max(LEAST_ROWS, math.ceil((seconds.max() - begin) / STEP) + 1)) * STEP
+        frames = earth.frames(earth.Moments(begin, behind), self.orientation)
+        there = frames.turned(position(self.sites[key], begin / DAY + UNIX_MJD))
+        return cubic(begin + behind, there @ axes(target.source).T, seconds)
+
+
+def orientation_of(schedule: vex.Schedule | None, first: int, last: int) -> earth.Orientation:
+    """The earth's orientation from one second since 1970-01-01 to another: that of `$EOP`, of astropy's tables, or where none reaches 0."""
+    days = first / DAY + UNIX_MJD, last / DAY + UNIX_MJD
+    stated = earth.of_schedule(schedule) if schedule is not None else None
+    for found in (stated or tables(), tables()):
+        if found.days[0] <= days[0] and days[1] <= found.days[-1]:
+            return found
+    none = numpy.zeros((2, 2))
+    return earth.Orientation(UNKNOWN, numpy.array(days), numpy.full(2, -earth.tai_utc(first)), none, none)
+
+
+@functools.lru_cache(maxsize=1)
+def tables() -> earth.Orientation:
+    """The orientation of astropy's tables, which are read once."""
+    return earth.of_tables()
 
 
 def position(site: vex.Site, day: float) -> Reals:
@@ -75,66 +93,42 @@ def axes(source: vex.Source) -> Reals:
     """The directions of u, v and w, a row each."""
     a, d = source.right_ascension, source.declination
     return numpy.array([
-        [-numpy.sin(a), numpy.cos(a), 0],
-        [-numpy.sin(d) * numpy.cos(a), -numpy.sin(d) * numpy.sin(a), numpy.cos(d)],
-        [numpy.cos(d) * numpy.cos(a), numpy.cos(d) * numpy.sin(a), numpy.sin(d)],
+        [-math.sin(a), math.cos(a), 0.0],
+        [-math.sin(d) * math.cos(a), -math.sin(d) * math.sin(a), math.cos(d)],
+        [math.cos(d) * math.cos(a), math.cos(d) * math.sin(a), math.sin(d)],
     ])
 
 
-def celestial(place: Reals, seconds: Reals, earth: vex.EarthOrientation) -> Reals:
-    """An earth-fixed place in the celestial frame, float64 (N, 3), at these seconds since 1970-01-01."""
-    import erfa
+@dataclasses.dataclass(frozen=True)
+class Day:
+    """What tables of stations and sources say of a day, at its first second.
 
-    middle = float(seconds.mean()) if len(seconds) else 0.0
-    tt = UNIX_EPOCH, (middle + earth.tai_utc + TT_TAI) / DAY
-    intermediate = erfa.c2i06a(*tt)
-    angle = erfa.era00(UNIX_EPOCH, (seconds + earth.ut1_utc) / DAY)
-    x, y, z = erfa.pom00(earth.pole_x, earth.pole_y, erfa.sp00(*tt)).T @ place
-    turned = numpy.stack([x * numpy.cos(angle) - y * numpy.sin(angle), x * numpy.sin(angle) + y * numpy.cos(angle), numpy.full_like(angle, z)], axis=-1)
-    found: Reals = turned @ intermediate
-    return found
+    sidereal          the apparent sidereal time at Greenwich in degrees
+    ut1_utc, tai_utc  seconds
+    pole              x and y in arc seconds
+    """
 
-
-def sidereal(second: int, earth: vex.EarthOrientation) -> float:
-    """The apparent sidereal time at Greenwich in degrees, at a second since 1970-01-01."""
-    import erfa
-
-    tt = (second + earth.tai_utc + TT_TAI) / DAY
-    return float(numpy.degrees(erfa.gst06a(UNIX_EPOCH, (second + earth.ut1_utc) / DAY, UNIX_EPOCH, tt)))
+    sidereal: float
+    ut1_utc: float
+    tai_utc: float
+    pole: tuple[float, float]
 
 
-def apparent(source: vex.Source, second: float, earth: vex.EarthOrientation) -> tuple[float, float]:
+def day_of(second: int, orientation: earth.Orientation) -> Day:
+    """The Day that begins with this second since 1970-01-01."""
+    moments = earth.Moments(second, numpy.zeros(1))
+    ut1_utc, pole, _ = orientation.at(moments)
+    midnight, utc = moments.midnight, float(moments.utc[0])
+    turned = erfa.gst06a(midnight, utc + float(ut1_utc[0]) / DAY, midnight, float(moments.tt[0]))
+    x, y = pole[0] / earth.ARC_SECOND
+    return Day(math.degrees(turned), float(ut1_utc[0]), moments.tai_utc, (float(x), float(y)))
+
+
+def apparent(source: vex.Source, second: int) -> tuple[float, float]:
     """The apparent right ascension and declination of a source in degrees, at a second since 1970-01-01."""
-    import erfa
-
-    tt = (second + earth.tai_utc + TT_TAI) / DAY
-    right, declination, equinoxes = erfa.atci13(source.right_ascension, source.declination, 0, 0, 0, 0, UNIX_EPOCH, tt)
-    return float(numpy.degrees(erfa.anp(right - equinoxes))), float(numpy.degrees(declination))
-
-
-def earth_orientation(day: float, known: Sequence[vex.EarthOrientation]) -> vex.EarthOrientation:
-    """The earth's orientation at a modified Julian day: between the days that are known, or else by the tables of astropy."""
-    days = [one.day for one in known]
-    if days and min(days) - 0.5 <= day <= max(days) + 0.5:
-        later = {field: float(numpy.interp(day, days, [getattr(one, field) for one in known])) for field in ("ut1_utc", "pole_x", "pole_y")}
-        nearest = min(known, key=lambda one: abs(one.day - day))
-        return vex.EarthOrientation(day, nearest.tai_utc, **later)
-    return tabled_orientation(day)
-
-
-def tabled_orientation(day: float) -> vex.EarthOrientation:
-    """The same by the tables that come with astropy; 0 for what they do not reach."""
-    import erfa
-    from astropy.utils import iers
-
-    year, month, of_month, part = (int(it) for it in erfa.jd2cal(MJD, int(day)))
-    tai_utc = float(erfa.dat(year, month, of_month, 0.0))
-    table = iers.IERS_B.open()
-    ut1_utc, status = table.ut1_utc(MJD, day, return_status=True)
-    if numpy.any(status < 0):
-        return vex.EarthOrientation(day, tai_utc, 0.0, 0.0, 0.0)
-    x, y = table.pm_xy(MJD, day)
-    return vex.EarthOrientation(day, tai_utc, float(ut1_utc.to_value("s")), float(x.to_value("rad")), float(y.to_value("rad")))
+    moments = earth.Moments(second, numpy.zeros(1))
+    right, declination, equinoxes = erfa.atci13(source.right_ascension, source.declination, 0, 0, 0, 0, moments.midnight, float(moments.tt[0]))
+    return math.degrees(erfa.anp(right - equinoxes)), math.degrees(declination)
 
 
 # From a table

@@ -9,8 +9,8 @@ import dataclasses
 from collections.abc import Mapping, Sequence
 from typing import Protocol, TypeVar
 
+from vlbi import earth, geometry, vex
 from vlbi import job as jobs
-from vlbi import vex
 from vlbi.faults import Fault
 from vlbi.geometry import Target
 from vlbi.records import Records, Scan
@@ -93,7 +93,7 @@ class Observation:
     setups       the Setups, each once
     scan_sources, scan_setups  numbers of a source and a setup, for each scan of the records
     bits         the bits of each station's samples
-    orientation  the earth orientation of the schedule
+    orientation  the earth's orientation on its days
     assumed      the channels whose polarisation nobody says: R is taken
     """
 
@@ -106,7 +106,7 @@ class Observation:
     scan_sources: tuple[int, ...]
     scan_setups: tuple[int, ...]
     bits: tuple[int, ...]
-    orientation: tuple[vex.EarthOrientation, ...]
+    orientation: earth.Orientation
     assumed: tuple[str, ...]
 
 
@@ -135,7 +135,7 @@ def of(records: Records, job: str, schedule: str | None = None, stated: Stated =
     return Observation(
         records, lines, experiment(read), tuple(station_of(key, read, stated) for key in records.head.stations), tuple(sources), tuple(setups),
         tuple(scan_sources), tuple(scan_setups), tuple(int(fields[2]) for fields in lines["station"]),
-        read.earth_orientation if read is not None else (), tuple(naming.assumed),
+        orientation(records, read), tuple(naming.assumed),
     )
 
 
@@ -175,7 +175,7 @@ class Scans(Protocol):
     """What is known of the scans of records."""
 
     def source(self, scan: Scan) -> str | None:
-        """The name of its one source; None where it names none."""
+        """The name of its first source; None where it names none."""
 
     def band(self, scan: Scan, channel: str) -> Band | None:
         """The band of a channel; None where no station has it."""
@@ -196,8 +196,6 @@ class ScheduledScans:
 
     def source(self, scan: Scan) -> str | None:
         names = self.scans[scan.name].sources
-        if len(names) > 1:
-            raise Fault(f"scan {scan.name} has more sources than one: {', '.join(names)}", self.schedule.path)
         return names[0] if names else None
 
     def band(self, scan: Scan, channel: str) -> Band | None:
@@ -305,6 +303,13 @@ def source_of(name: str | None, schedule: vex.Schedule | None, stated: Stated) -
     if found.frame not in FRAMES:
         raise Fault(f"source {name} is in the frame {found.frame}, not in J2000: --source {name} with --ra and --dec states it", schedule.path)
     return Target(name, found)
+
+
+def orientation(records: Records, schedule: vex.Schedule | None) -> earth.Orientation:
+    """The earth's orientation from the first scan's day to a minute behind the last scan."""
+    first = min((scan.start for scan in records.scans), default=0) // 86400 * 86400
+    last = max((scan.start + scan.samples // records.head.rate for scan in records.scans), default=0)
+    return geometry.orientation_of(schedule, first, last + 60)
 
 
 def experiment(schedule: vex.Schedule | None) -> str:

@@ -71,7 +71,9 @@ def convert(given: argparse.Namespace) -> int:
     else:
         place = geometry.Computed({one.key: one.site for one in seen.stations}, seen.orientation)
     if seen.assumed:
-        print(f"{NAME}: nobody says the polarisation of {', '.join(seen.assumed)}: R is taken, --polarisation says another", file=sys.stderr)
+        note(f"nobody says the polarisation of {', '.join(seen.assumed)}: R is taken, --polarisation says another")
+    if seen.orientation.origin == geometry.UNKNOWN:
+        note("nobody says how the earth is turned on these days: UT1-UTC and the pole are taken as 0, $EOP of the schedule says them")
     try:
         fits.write(given.output, seen, place, given.correct)
     except Fault as fault:
@@ -79,6 +81,10 @@ def convert(given: argparse.Namespace) -> int:
         raise
     print(given.output)
     return 0
+
+
+def note(words: str) -> None:
+    print(f"{NAME}: {words}", file=sys.stderr)
 
 
 def stated(given: argparse.Namespace) -> Stated:

@@ -15,6 +15,13 @@ def test_lines_from_what_a_station_has() -> None:
     assert jobs.poly_line("Wb", 1262304000, ["1e-6", "0.000001"], 16_000_000) == "poly Wb 2010y001d00h00m00s 68719476736 2361183241434823"
 
 
+def test_the_value_of_a_line() -> None:
+    # worked out in docs/MODEL.md: a delay that grows by a sample in 128, and one that falls
+    for sample in (0, 63, 64, 127):
+        assert jobs.poly_value([0, 2 ** 56], 128, sample) == sample * 2 ** 25
+        assert jobs.poly_value([2 ** 32, -2 ** 56], 128, sample) == 2 ** 32 - sample * 2 ** 25
+
+
 def test_numbers_past_their_greatest() -> None:
     with pytest.raises(jobs.JobFault, match="station Wb: a clock offset or drift past its greatest"):
         jobs.clock_line("Wb", 0, 1e12, 0, 16_000_000)

@@ -13,7 +13,7 @@ from __future__ import annotations
 import dataclasses
 import fractions
 import math
-from collections.abc import Callable, Iterable, Iterator, Sequence
+from collections.abc import Callable, Iterable, Iterator, Mapping, Sequence
 from typing import Protocol
 
 import numpy
@@ -148,6 +148,11 @@ def target_of(schedule: vex.Schedule, scan: vex.Scan) -> str:
     return scan.sources[0]
 
 
+def all_cut(parts: Sequence[Part], longest: int, at: Callable[[Part], Iterable[int]]) -> list[Part]:
+    """All parts, each cut, by time."""
+    return sorted((one for part in parts for one in cut(part, longest, at(part))), key=lambda one: one.begin)
+
+
 def cut(part: Part, longest: int, at: Iterable[int]) -> list[Part]:
     """The part in parts of at most so many seconds, which begin at these seconds too."""
     begins: list[int] = []
@@ -235,6 +240,12 @@ def clock_seconds(schedule: vex.Schedule, key: str) -> list[int]:
     return [math.floor(clock.since) for clock in schedule.clocks(key)]
 
 
+def clocks_of(schedule: vex.Schedule, parts: Sequence[Part], rate: int) -> dict[str, list[str]]:
+    """The `clock` lines of each station of these parts."""
+    first = {part.key: part.begin for part in reversed(parts)}
+    return {key: clock_lines(schedule, key, first[key], rate) for key in sorted(first)}
+
+
 def clock_lines(schedule: vex.Schedule, key: str, first: int, rate: int) -> list[str]:
     """The `clock` lines of a station, none where the schedule has no clock of it; Fault where none counts at the second `first`."""
     clocks = {math.floor(clock.since): clock for clock in schedule.clocks(key)}
@@ -249,14 +260,12 @@ def clock_lines(schedule: vex.Schedule, key: str, first: int, rate: int) -> list
 
 # Texts
 
-def job_part(schedule: vex.Schedule, words: str, keys: Sequence[str], fits: Sequence[Fit], rate: int, knot: int) -> str:
-    """The lines of a job: its knot, and the clocks and polynomials of each station."""
+def job_part(words: str, clocks: Mapping[str, Sequence[str]], fits: Sequence[Fit], rate: int, knot: int) -> str:
+    """The lines of a job: its knot, and for each station its clocks, which are given, and its polynomials."""
     lines = [f"# Delays and clocks for {rate} samples a second, which stand behind the lines `station` of a job", f"# {words}", f"knot {knot}"]
-    for key in keys:
-        own = [fit for fit in fits if fit.part.key == key]
-        if own:
-            lines += clock_lines(schedule, key, min(fit.part.begin for fit in own), rate)
-            lines += [jobs.poly_line(key, fit.part.begin, fit.coefficients, rate, knot) for fit in own]
+    for key, own in clocks.items():
+        lines += own
+        lines += [jobs.poly_line(key, fit.part.begin, fit.coefficients, rate, knot) for fit in fits if fit.part.key == key]
     return "\n".join(lines) + "\n"
 
 

@@ -21,6 +21,7 @@ if TYPE_CHECKING:
 
 NAME = "vlbi-model"
 PICO = 1e12
+LONGEST = 2 ** 30  # seconds: longer than any polynomial of a file
 LEFT_OUT = "left out: the solid earth's tide (some 0.3 m, 1 ns), water vapour (0.1 to 0.3 m at the zenith), the pressure of the day (0.1 m), the ionosphere"
 TABLE = """The table JOBPART.uvw has a row for each station and moment: station, source (the name of its def), time (UTC), delay in seconds (positive
 where the station gets the wave later than the centre of the earth; without the clock), and u, v and w in metres: the station's position
@@ -58,12 +59,12 @@ def make(given: argparse.Namespace) -> int:
         rate = model.rate_of(schedule, scans, keys)
         origin = origin_of(schedule, given)
         parts = model.parts_of(schedule, scans, keys)
-        fits = [
-            origin.fit(one) for part in parts
-            for one in model.cut(part, given.stretch if given.im is None else 2 ** 30, [*model.clock_seconds(schedule, part.key), *origin.cuts(part)])
-        ]
+        clocks = model.clocks_of(schedule, parts, rate)
+        changes = {key: model.clock_seconds(schedule, key) for key in keys}
+        cut = model.all_cut(parts, LONGEST if given.im else given.stretch, lambda part: [*changes[part.key], *origin.cuts(part)])
+        fits = [origin.fit(part) for part in cut]
         knot = model.knot_of(fits, rate)
-        text = model.job_part(schedule, origin.words, keys, fits, rate, knot)
+        text = model.job_part(origin.words, clocks, fits, rate, knot)
         table = "\n".join(model.table(origin, parts, given.step)) + "\n"
     except Fault as fault:
         fault.name_file(given.schedule)

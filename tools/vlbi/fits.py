@@ -113,9 +113,9 @@ def write(path: str, seen: Observation, place: Geometry, correct: bool = False) 
 
 def write_to(out: BinaryIO, seen: Observation, shape: Shape, place: Geometry, amplitudes: Amplitudes) -> int:
     """Writes the file; the number of its rows of visibilities."""
-    tables = [array_geometry(seen, shape), antennas(seen, shape), frequencies(seen, shape), sources(seen, shape)]
     with warnings.catch_warnings():
         warnings.filterwarnings("ignore", "Field . has a repeat count of 0")  # ORBPARM, which no station on earth has
+        tables = [array_geometry(seen, shape), antennas(seen, shape), frequencies(seen, shape), sources(seen, shape)]
         fits.HDUList([primary(seen, shape, amplitudes.words), *tables]).writeto(out)
     rows = sum(int(kept(scan).sum()) for scan in seen.records.scans)
     out.write(visibility_header(seen, shape, rows).tostring().encode("ascii"))

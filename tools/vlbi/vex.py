@@ -28,6 +28,7 @@ SIGNS = {b"=": "Equals", b":": "Colon", b";": "Semicolon"}
 FRAMING = ("def", "enddef", "scan", "endscan")
 LONGEST_NAME = 255  # bytes
 MOST_PARTS = 2 ** 62
+LINEAR = {"H": "X", "V": "Y"}  # names of linear polarisations
 
 
 class VexFault(PlacedFault):
@@ -528,6 +529,30 @@ class Schedule:
                 measured(offset[0].values[-1], LENGTHS) if offset else 0.0,
                 measured(diameter[0].values[0], LENGTHS) if diameter else None,
             )
+
+    def polarisations(self, mode: str, key: str) -> dict[str, str]:
+        """The polarisation of each channel that a station records in a mode, `R`, `L`, `X` or `Y`, by the channel's name.
+
+        It is that of the IF which `$BBC` and `$IF` say behind the channel; a channel of which they say none is not among them.
+        """
+        item = self.named("$MODE", mode)
+        found = {}
+        with Naming(self, "$MODE", item):
+            feeds = {row[0]: row[2] for row in self.rows_for(item, "$IF", "if_def", key) if len(row) > 2}
+            converters = {row[0]: feeds.get(row[2]) for row in self.rows_for(item, "$BBC", "BBC_assign", key) if len(row) > 2}
+            for row in self.rows_for(item, "$FREQ", "chan_def", key):
+                feed = converters.get(row[5]) if len(row) > 5 else None
+                if feed is not None and len(row[4]) > 0:
+                    found[row[4].removeprefix("&")] = LINEAR.get(feed, feed)
+        return found
+
+    def rows_for(self, mode: Item, target: str, word: str, key: str) -> list[list[str]]:
+        """The values, as texts, of the assignments of a word in the first def of a block to which a ref of a mode leads that covers a station."""
+        for ref in mode.all("ref", target):
+            if len(ref.values) == 1 or any(word_of(value) == key for value in ref.values[1:]):
+                item = self.named(target, word_of(ref.values[0]) or "")
+                return [[" ".join(token.inner for token in value) for value in one.values] for one in item.all(word)]
+        return []
 
     @property
     def sources(self) -> dict[str, Source]:

@@ -11,12 +11,11 @@ use Rattle.sample_gen.specs.Job.{job_of}
 use Rattle.job_text.specs.Inline.{scans_of}
 use Rattle.job_join.specs.declared.fault.Quantity.TheVariants.{Job}
 use Rattle.job_join.specs.Joined.{plan_of, station_plan}
-use Rattle.run_words.specs.declared.order.Order.{Order}
 use Rattle.run_notes.specs.Answers.{Answer, job_answer, recording_answer}
 use Rattle.run_ready.specs.Steps.{answered, unless}
 use Rattle.run_ready.specs.Recordings.{missing_file, slot_total, too_many_slots, foreign_answer, first_foreign, files_answer, recordings_answer}
-use Rattle.run_ready.specs.Outcome.{text_under, cause_answer, Wrong, PlanBy}
-use Rattle.sample_job.specs.Sample.{sample_shelf, sample_order, SampleOf, ComesToAPlan}
+use Rattle.run_ready.specs.Outcome.{text_under, cause_answer, Wrong, PlanUnder}
+use Rattle.sample_job.specs.Sample.{sample_shelf, SampleOf, ComesToAPlan}
 use Rattle.sample_job.proofs.Said.{station_0, station_1, station_2, station_3, job_with}
 use Rattle.sample_job.proofs.TextLemmas.{Seen, job-read}
 use Rattle.sample_job.proofs.TableLemmas.{seen, within}
@@ -80,8 +79,8 @@ plan_at n = plan_of (job_with n) (scans_of (job_with n))
 text-is : (seed seconds : ℕ) → nat_lt 4194304 (length (job_of seconds)) ≡ false → text_under (sample_shelf seed seconds) (codes "job") Job 4194304 ≡ Ok (job_of seconds)
 text-is seed seconds short = rw short refl
 
-planned : (seed seconds workers piece : ℕ) → 1 ≤ seconds → seconds ≤ 60 → SampleOf seed seconds workers piece (Ok (plan_at (160000 * seconds)))
-planned seed seconds workers piece some few =
+planned : (seed seconds : ℕ) → 1 ≤ seconds → seconds ≤ 60 → SampleOf seed seconds (Ok (plan_at (160000 * seconds)))
+planned seed seconds some few =
     let n = 160000 * seconds in
     let files = sample_shelf seed seconds in
     let short = ap (λ (s : Seen). s.long) (seen seconds some few) in
@@ -92,20 +91,22 @@ planned seed seconds workers piece some few =
       (plan_at n, sym (ap (answered (cause_answer (job_with n) (scans_of (job_with n)))) joined), sym (ap (λ (o : Option Answer). unless o (plan_at n)) wrong)),
     )
 
--- an order comes to one outcome
+-- a job comes to one outcome
 abbrev pub OneOutcome : Type 0
-OneOutcome = (files : Files) (wrong : Wrong) (order : Order) (a b : Result Plan Answer) → PlanBy files wrong order a → PlanBy files wrong order b → a ≡ b
+OneOutcome =
+    (files : Files) (wrong : Wrong) (job : List ℕ) (vex : Option (List ℕ)) (a b : Result Plan Answer)
+    → PlanUnder files wrong job vex a → PlanUnder files wrong job vex b → a ≡ b
 
-pub comes : OneOutcome → (seed seconds workers piece : ℕ) → 1 ≤ seconds → seconds ≤ 60 → ComesToAPlan seed seconds workers piece
-comes law seed seconds workers piece some few = record {
+pub comes : OneOutcome → (seed seconds : ℕ) → 1 ≤ seconds → seconds ≤ 60 → ComesToAPlan seed seconds
+comes law seed seconds some few = record {
   plan = plan_at (160000 * seconds);
-  outcome = planned seed seconds workers piece some few;
+  outcome = planned seed seconds some few;
   no_answer = no_answer;
 }
   where
-    no_answer : (answer : Answer) → SampleOf seed seconds workers piece (Err answer) → ⊥
+    no_answer : (answer : Answer) → SampleOf seed seconds (Err answer) → ⊥
     no_answer answer there =
         let e : Ok (plan_at (160000 * seconds)) ≡ Err answer =
-        law (sample_shelf seed seconds) (recordings_answer (sample_shelf seed seconds)) (sample_order workers piece) (Ok (plan_at (160000 * seconds))) (Err answer)
-        (planned seed seconds workers piece some few) there in
+        law (sample_shelf seed seconds) (recordings_answer (sample_shelf seed seconds)) (codes "job") None (Ok (plan_at (160000 * seconds))) (Err answer)
+        (planned seed seconds some few) there in
         cc

@@ -1,12 +1,10 @@
--- The job of a generated sample: its files, the order that correlates them, and what it comes to.
+-- The job of a generated sample: its files, and what it comes to.
 use Rattle.std.specs.Prelude.{◌≡◌, ℕ, List, [], ◌∷◌, codes, None, Ok, Err}
 use Rattle.corr_model.specs.Files.{Files}
 use Rattle.mem_devices.specs.MemShelfState.{bytes_under}
 use Rattle.job_plan.specs.declared.plan.Plan.{Plan}
 use Rattle.sample_gen.specs.Frames.{recording_of}
 use Rattle.sample_gen.specs.Job.{job_of}
-use Rattle.run_words.specs.declared.order.Order.{Order}
-use Rattle.run_words.specs.declared.order.Order.TheVariants.{Run}
 use Rattle.run_notes.specs.Answers.{Answer}
 use Rattle.run_notes.specs.Refusals.{Outcomes}
 use Rattle.run_ready.specs.Outcome.{PlanOf}
@@ -25,16 +23,12 @@ sample_files seed seconds =
 abbrev pub sample_shelf : ℕ → ℕ → Files
 sample_shelf seed seconds = bytes_under (sample_files seed seconds)
 
--- the order that correlates them
-abbrev pub sample_order : ℕ → ℕ → Order
-sample_order workers piece = Run (codes "job") None workers piece
-
 -- what the job comes to
-abbrev pub SampleOf : ℕ → ℕ → ℕ → ℕ → Outcomes Plan
-SampleOf seed seconds workers piece = PlanOf (sample_shelf seed seconds) (sample_order workers piece)
+abbrev pub SampleOf : ℕ → ℕ → Outcomes Plan
+SampleOf seed seconds = PlanOf (sample_shelf seed seconds) (codes "job") None
 
 -- the job comes to a plan, and no answer refuses it
-pub record ComesToAPlan (seed seconds workers piece : ℕ) : Type 0 where
+pub record ComesToAPlan (seed seconds : ℕ) : Type 0 where
   pub plan : Plan
-  pub outcome : SampleOf seed seconds workers piece (Ok plan)
-  pub no_answer : (answer : Answer) → SampleOf seed seconds workers piece (Err answer) → ⊥
+  pub outcome : SampleOf seed seconds (Ok plan)
+  pub no_answer : (answer : Answer) → SampleOf seed seconds (Err answer) → ⊥

@@ -5,12 +5,11 @@ use Rattle.dev_traits.specs.Told.{more, PrefixMore, WhereTold}
 use Rattle.sink_text.specs.Appends.{Appends}
 use Rattle.corr_model.specs.Files.{Files}
 use Rattle.job_plan.specs.declared.plan.Plan.{Plan}
-use Rattle.job_plan.specs.Output.{output}
 use Rattle.checkpoint_journal.specs.Runs.{Looks}
 use Rattle.checkpoint_journal.proofs.RunLemmas.{looks_none}
 use Rattle.run_words.specs.declared.fault.WordsFault.{WordsFault}
 use Rattle.run_words.specs.declared.order.Order.{Order}
-use Rattle.run_words.specs.declared.order.Order.TheVariants.{Run, Plain, Check, Status, Dump, Gen}
+use Rattle.run_words.specs.declared.order.Order.TheVariants.{Run, Status}
 use Rattle.run_notes.specs.declared.refusal.Refusal.{Refusal}
 use Rattle.run_notes.specs.declared.refusal.Refusal.TheVariants.{Memory, Words, Due as DueRefusal, Other, Read, Journal, Write}
 use Rattle.run_notes.specs.Answers.{Answer, words_answer}
@@ -24,47 +23,25 @@ use Rattle.station_stream.specs.Recorded.{AreRecorded}
 use Rattle.run_summary.specs.Summaries.{check_text}
 use Rattle.vis_records.specs.Content.{Content}
 use Rattle.vis_records.specs.Dumped.{dump_text}
-use Rattle.run_dump.specs.Shown.{RecordsOf, Shows, IsOfFilesOrOutput as ShowsStage}
-use Rattle.sample_job.specs.Sample.{SampleOf}
-use Rattle.vlbi_core.specs.Sample.{sample_text}
-use Rattle.vlbi_core.specs.Calls.{Call, Task, OfJob, OfText, JobFor, TextFor, TaskFor, is_run}
+use Rattle.run_dump.specs.Shown.{Shows, IsOfFilesOrOutput as ShowsStage}
+use Rattle.vlbi_core.specs.Calls.{Call, call_of, Task, OfJob, OfText, JobFor, TextFor, TaskFor, is_run}
 use Rattle.vlbi_core.specs.Texts.{IsPart}
 use Rattle.vlbi_core.specs.Faults.{written_with}
-use Rattle.vlbi_core.specs.Steps.{OutcomeFrom, IsOfWords, IsBehindWords, IsUnnumbered, IsPartOf, IsPartlyOf, Tells, IsOfFilesOrOutput, MatchDue, MatchEarly, IsCauseOf, IsPartly, Does, MatchVerdict, Leaves, IsRunOrder, IsStatusOrder}
-
-abbrev pub call_of : Order → Plan → Call
-call_of order plan = record { order = order; plan = plan }
+use Rattle.vlbi_core.specs.Steps.{OutcomeFrom, IsOfWords, IsBehindWords, IsUnnumbered, IsPartOf, IsPartlyOf, Tells, IsOfFilesOrOutput, MatchDue, MatchEarly, IsCauseOf, IsPartly, Does, MatchVerdict, Leaves}
 
 -- an order of a job and its journal, by the plans that its files come to
-abbrev pub IsJobOf : Files → Order → Outcomes Plan → Type 0
-IsJobOf files order plans = (o : Result Task Answer) → JobFor order plans o → TaskFor files order o
+abbrev pub IsJobOf : Files → Order → Bool → List ℕ → Option (List ℕ) → Outcomes Plan → Type 0
+IsJobOf files order sums job vex plans = (o : Result Task Answer) → JobFor sums job vex plans o → TaskFor files order o
 
-pub planned : (files : Files) (order : Order) (plans : Outcomes Plan) (plan : Plan) → IsJobOf files order plans → plans (Ok plan)
-    → OutcomeFrom (Ok order) files (Ok (OfJob (call_of order plan)))
-planned files order plans plan of_job there = (order, refl, of_job (Ok (OfJob (call_of order plan))) (refl, there))
+pub planned : (files : Files) (order : Order) (sums : Bool) (job : List ℕ) (vex : Option (List ℕ)) (plans : Outcomes Plan) (plan : Plan) → IsJobOf files order sums job vex plans → plans (Ok plan)
+    → OutcomeFrom (Ok order) files (Ok (OfJob (call_of sums job vex plan)))
+planned files order sums job vex plans plan of_job there = (order, refl, of_job (Ok (OfJob (call_of sums job vex plan))) (refl, there))
 
 pub not_both : (b : Bool) → b ≡ true → b ≡ false → ⊥
 not_both b first second = cc
 
 pub one-job : (a b : Call) → OfJob a ≡ OfJob b → a ≡ b
 one-job a b same = cc
-
--- what holds of each order of `run`, and of `status`
-pub on-run : (P : Order → Type 0) → ((job : List ℕ) (vex : Option (List ℕ)) (workers piece : ℕ) → P (Run job vex workers piece)) → (order : Order) → IsRunOrder order → P order
-on-run P holds (Run job vex workers piece) is = holds job vex workers piece
-on-run P holds (Plain job vex) is = absurd is
-on-run P holds (Check job vex) is = absurd is
-on-run P holds (Status job vex) is = absurd is
-on-run P holds (Dump file) is = absurd is
-on-run P holds (Gen seed seconds workers piece) is = absurd is
-
-pub on-status : (P : Order → Type 0) → ((job : List ℕ) (vex : Option (List ℕ)) → P (Status job vex)) → (order : Order) → IsStatusOrder order → P order
-on-status P holds (Status job vex) is = holds job vex
-on-status P holds (Run job vex workers piece) is = absurd is
-on-status P holds (Plain job vex) is = absurd is
-on-status P holds (Check job vex) is = absurd is
-on-status P holds (Dump file) is = absurd is
-on-status P holds (Gen seed seconds workers piece) is = absurd is
 
 -- a text is no job
 no-job : (text : List ℕ) (call : Call) → OfText text ≡ OfJob call → ⊥
@@ -82,9 +59,6 @@ reads-beside before now (Err (Other d)) reads = reads
 reads-beside before now (Err Read) reads = reads
 reads-beside before now (Err (Journal kept)) reads = omega (arith, reads)
 reads-beside before now (Err Write) reads = reads
-
-pub run-not-alone : (order : Order) → IsRunOrder order → is_run order ≡ false → ⊥
-run-not-alone = on-run (λ (o : Order). is_run o ≡ false → ⊥) (λ job vex workers piece alone. not_both true refl alone)
 
 -- ---- numbers of epochs
 
@@ -121,7 +95,7 @@ shows-stage (Err Read) stage = tt
 shows-stage (Err (Journal kept)) stage = absurd stage
 shows-stage (Err Write) stage = tt
 
-shows-tells : (outcomes : Outcomes Content) (old new : Option (List ℕ)) (result : Result (Unit {0}) Refusal) → IfErr result ShowsStage → Shows outcomes old new result
+pub shows-tells : (outcomes : Outcomes Content) (old new : Option (List ℕ)) (result : Result (Unit {0}) Refusal) → IfErr result ShowsStage → Shows outcomes old new result
     → Tells outcomes dump_text old new result
 shows-tells outcomes old new (Ok x) stage shows = record { done = shows.done; cause = tt; part = tt }
 shows-tells outcomes old new (Err Memory) stage shows = record { done = tt; cause = tt; part = inl shows.part }
@@ -147,15 +121,15 @@ words-cause wanted files images before after old new Read of = absurd of
 words-cause wanted files images before after old new (Journal kept) of = absurd of
 words-cause wanted files images before after old new Write of = absurd of
 
-files-cause : (files : Files) (order : Order) (plans : Outcomes Plan) → IsJobOf files order plans → (images : List ℕ → Type 0) (before after old new : Option (List ℕ)) (r : Refusal)
+files-cause : (files : Files) (order : Order) (sums : Bool) (job : List ℕ) (vex : Option (List ℕ)) (plans : Outcomes Plan) → IsJobOf files order sums job vex plans → (images : List ℕ → Type 0) (before after old new : Option (List ℕ)) (r : Refusal)
     → IsOfFiles r → IsCause r plans → IsCauseOf r (OutcomeFrom (Ok order) files) files images before after old new
-files-cause files order plans of_job images before after old new Memory stage cause = tt
-files-cause files order plans of_job images before after old new (Words fault) stage cause = absurd stage
-files-cause files order plans of_job images before after old new (DueRefusal due) stage cause = inr (order, refl, of_job _ cause)
-files-cause files order plans of_job images before after old new (Other d) stage cause = absurd stage
-files-cause files order plans of_job images before after old new Read stage cause = tt
-files-cause files order plans of_job images before after old new (Journal kept) stage cause = absurd stage
-files-cause files order plans of_job images before after old new Write stage cause = absurd stage
+files-cause files order sums job vex plans of_job images before after old new Memory stage cause = tt
+files-cause files order sums job vex plans of_job images before after old new (Words fault) stage cause = absurd stage
+files-cause files order sums job vex plans of_job images before after old new (DueRefusal due) stage cause = inr (order, refl, of_job _ cause)
+files-cause files order sums job vex plans of_job images before after old new (Other d) stage cause = absurd stage
+files-cause files order sums job vex plans of_job images before after old new Read stage cause = tt
+files-cause files order sums job vex plans of_job images before after old new (Journal kept) stage cause = absurd stage
+files-cause files order sums job vex plans of_job images before after old new Write stage cause = absurd stage
 
 -- a call that was refused before its output
 abbrev pub NoWrite : Refusal → Type 0
@@ -245,26 +219,22 @@ module _ {D : Type 0} (seen : D → Option (List ℕ)) (moment : D → ℕ) (may
     part = nothing-partly (OutcomeFrom wanted files) files (seen d) (seen d) old r (words-NoWrite wanted r of);
   }
 
-  does-files : (files : Files) (order : Order) (plans : Outcomes Plan) → IsJobOf files order plans → (d : D) (old : Option (List ℕ)) (r : Refusal) → IsOfFiles r → IsCause r plans
+  does-files : (files : Files) (order : Order) (sums : Bool) (job : List ℕ) (vex : Option (List ℕ)) (plans : Outcomes Plan) → IsJobOf files order sums job vex plans → (d : D) (old : Option (List ℕ)) (r : Refusal) → IsOfFiles r → IsCause r plans
       → Does (Ok order) files seen moment may_leave d d old old (Err r)
-  does-files files order plans of_job d old r stage cause = record {
+  does-files files order sums job vex plans of_job d old r stage cause = record {
     goes = inl (looks_none seen moment may_leave d);
     done = tt;
-    cause = files-cause files order plans of_job (may_leave d (moment d)) (seen d) (seen d) old old r stage cause;
+    cause = files-cause files order sums job vex plans of_job (may_leave d (moment d)) (seen d) (seen d) old old r stage cause;
     part = nothing-partly (OutcomeFrom (Ok order) files) files (seen d) (seen d) old r (files-NoWrite r stage);
   }
 
-  pub run-files : (files : Files) (order : Order) (d : D) (old : Option (List ℕ)) (r : Refusal) → IsRunOrder order → IsOfFiles r → IsCause r (PlanOf files order)
-      → Does (Ok order) files seen moment may_leave d d old old (Err r)
-  run-files files order d old r is stage =
-      on-run (λ (o : Order). IsCause r (PlanOf files o) → Does (Ok o) files seen moment may_leave d d old old (Err r))
-      (λ job vex workers piece cause. does-files files (Run job vex workers piece) (PlanOf files (Run job vex workers piece)) (λ o p. p) d old r stage cause) order is
+  pub run-files : (files : Files) (job : List ℕ) (vex : Option (List ℕ)) (workers piece : ℕ) (d : D) (old : Option (List ℕ)) (r : Refusal) → IsOfFiles r → IsCause r (PlanOf files job vex)
+      → Does (Ok (Run job vex workers piece)) files seen moment may_leave d d old old (Err r)
+  run-files files job vex workers piece = does-files files (Run job vex workers piece) true job vex (PlanOf files job vex) (λ o p. p)
 
-  pub status-files : (files : Files) (order : Order) (d : D) (old : Option (List ℕ)) (r : Refusal) → IsStatusOrder order → IsOfFiles r → IsCause r (SurveyOf files order)
-      → Does (Ok order) files seen moment may_leave d d old old (Err r)
-  status-files files order d old r is stage =
-      on-status (λ (o : Order). IsCause r (SurveyOf files o) → Does (Ok o) files seen moment may_leave d d old old (Err r))
-      (λ job vex cause. does-files files (Status job vex) (SurveyOf files (Status job vex)) (λ o p. p) d old r stage cause) order is
+  pub status-files : (files : Files) (job : List ℕ) (vex : Option (List ℕ)) (d : D) (old : Option (List ℕ)) (r : Refusal) → IsOfFiles r → IsCause r (SurveyOf files job vex)
+      → Does (Ok (Status job vex)) files seen moment may_leave d d old old (Err r)
+  status-files files job vex = does-files files (Status job vex) false job vex (SurveyOf files job vex) (λ o p. p)
 
   -- ---- commands that leave the journal alone
 
@@ -329,28 +299,15 @@ module _ {D : Type 0} (seen : D → Option (List ℕ)) (moment : D → ℕ) (may
       part = tells-part old new r tells.part;
     }
 
-  pub does-check : (files : Files) (order : Order) (job : List ℕ) (vex : Option (List ℕ)) → order ≡ Check job vex → (d : D) (old new : Option (List ℕ)) (result : Result (Unit {0}) Refusal)
-      → IfErr result IsOfFilesOrOutput → Tells (PlanOf files order) (λ plan. check_text plan files) old new result → Does (Ok order) files seen moment may_leave d d old new result
-  does-check files order job vex same d old new result =
-      does-tells files order (PlanOf files order) (λ plan. check_text plan files) d
-      (λ o p. subst (λ (x : Order). TaskFor files x o) (sym same) (subst (λ (x : Order). TextFor (PlanOf files x) (λ plan. check_text plan files) o) same p)) old new result
-
-  pub does-plain : (files : Files) (order : Order) (job : List ℕ) (vex : Option (List ℕ)) → order ≡ Plain job vex → (d : D) (old new : Option (List ℕ)) (result : Result (Unit {0}) Refusal)
-      → IfErr result IsOfFilesOrOutput → Tells (PlanOf files order) (λ plan. output plan files) old new result → Does (Ok order) files seen moment may_leave d d old new result
-  does-plain files order job vex same d old new result =
-      does-tells files order (PlanOf files order) (λ plan. output plan files) d
-      (λ o p. subst (λ (x : Order). TaskFor files x o) (sym same) (subst (λ (x : Order). TextFor (PlanOf files x) (λ plan. output plan files) o) same p)) old new result
-
-  pub does-dump : (files : Files) (file : List ℕ) (d : D) (old new : Option (List ℕ)) (result : Result (Unit {0}) Refusal) → IfErr result ShowsStage
-      → Shows (RecordsOf files file) old new result → Does (Ok (Dump file)) files seen moment may_leave d d old new result
-  does-dump files file d old new result stage shows =
-      does-tells files (Dump file) (RecordsOf files file) dump_text d (λ o p. p)
-      old new result (shows-stage result stage) (shows-tells (RecordsOf files file) old new result stage shows)
-
-  pub does-gen : (files : Files) (seed seconds workers piece : ℕ) (d : D) (old new : Option (List ℕ)) (result : Result (Unit {0}) Refusal) → IfErr result IsOfFilesOrOutput
-      → Tells (SampleOf seed seconds workers piece) (sample_text seed seconds) old new result → Does (Ok (Gen seed seconds workers piece)) files seen moment may_leave d d old new result
-  does-gen files seed seconds workers piece d old new result =
-      does-tells files (Gen seed seconds workers piece) (SampleOf seed seconds workers piece) (sample_text seed seconds) d (λ o p. p) old new result
+  -- a command that appends a text, by what its files come to
+  pub does-text : {A : Type 0} (told : Option Files) (order given : Order) (outcomes : Files → Outcomes A) (text : Files → A → List ℕ) → order ≡ given
+      → ((files : Files) (o : Result Task Answer) → TextFor (outcomes files) (text files) o → TaskFor files given o) → (d : D) (old new : Option (List ℕ)) (result : Result (Unit {0}) Refusal)
+      → IfErr result IsOfFilesOrOutput → WhereTold told (λ files. Tells (outcomes files) (text files) old new result)
+      → WhereTold told (λ files. Does (Ok order) files seen moment may_leave d d old new result)
+  does-text None order given outcomes text same is_for d old new result stage tells = tt
+  does-text (Some files) order given outcomes text same is_for d old new result stage tells =
+      subst (λ (o : Order). Does (Ok o) files seen moment may_leave d d old new result) (sym same)
+      (does-tells files given (outcomes files) (text files) d (is_for files) old new result stage tells)
 
   pub leaves-tells : (order : Order) (d : D) (old new : Option (List ℕ)) (result : Result (Unit {0}) Refusal) → is_run order ≡ false
       → IfErr result (λ r. MatchDue r (new ≡ old)) → Leaves (Ok order) seen moment may_leave d d old new result
@@ -367,14 +324,14 @@ module _ {D : Type 0} (seen : D → Option (List ℕ)) (moment : D → ℕ) (may
 
 -- ---- summaries
 
-pub check-tells : {E : Type 0} (told : Option Files) (order : Order) (plan : Plan) (recordings : List StationRecording) (old new : Option (List ℕ)) (before now : ℕ) (text : List ℕ) (r : Result (Unit {0}) E)
-    → WhereTold told (λ files. PlanOf files order (Ok plan)) → WhereTold told (λ files. AreRecorded files plan.stations recordings)
+pub check-tells : {E : Type 0} (told : Option Files) (job : List ℕ) (vex : Option (List ℕ)) (plan : Plan) (recordings : List StationRecording) (old new : Option (List ℕ)) (before now : ℕ) (text : List ℕ) (r : Result (Unit {0}) E)
+    → WhereTold told (λ files. PlanOf files job vex (Ok plan)) → WhereTold told (λ files. AreRecorded files plan.stations recordings)
     → Appends old new text before now r → ((files : Files) → AreRecorded files plan.stations recordings → text ≡ check_text plan files)
-    → WhereTold told (λ files. Tells (PlanOf files order) (λ plan. check_text plan files) old new (written_with r))
-check-tells None order plan recordings old new before now text r there recorded appends is = tt
-check-tells {E} (Some files) order plan recordings old new before now text r there recorded appends is = by r appends
+    → WhereTold told (λ files. Tells (PlanOf files job vex) (λ plan. check_text plan files) old new (written_with r))
+check-tells None job vex plan recordings old new before now text r there recorded appends is = tt
+check-tells {E} (Some files) job vex plan recordings old new before now text r there recorded appends is = by r appends
   where
-    by : (q : Result (Unit {0}) E) → Appends old new text before now q → Tells (PlanOf files order) (λ plan. check_text plan files) old new (written_with q)
+    by : (q : Result (Unit {0}) E) → Appends old new text before now q → Tells (PlanOf files job vex) (λ plan. check_text plan files) old new (written_with q)
     by (Ok x) appends = record { done = (plan, there, appends.ok ∙ ap (more old) (is files recorded)); cause = tt; part = tt }
     by (Err e) appends = record {
       done = tt;

@@ -14,8 +14,7 @@ use Rattle.checkpoint_journal.specs.Image.{kept_in, body_sizes}
 use Rattle.checkpoint_journal.specs.Standing.{JournalState, Keeps, Stands}
 use Rattle.checkpoint_journal.specs.Runs.{Looks, Changes, Spares, StepTold}
 use Rattle.checkpoint_journal.proofs.RunLemmas.{changes_looks, changes_both, durable_looks, told_value}
-use Rattle.run_words.specs.declared.order.Order.{Order}
-use Rattle.run_words.specs.declared.order.Order.TheVariants.{Run, Plain, Check, Status, Dump, Gen}
+use Rattle.run_words.specs.declared.order.Order.TheVariants.{Run}
 use Rattle.run_notes.specs.declared.refusal.Refusal.{Refusal}
 use Rattle.run_notes.specs.declared.refusal.Refusal.TheVariants.{Memory, Words, Due as DueRefusal, Other, Read, Journal, Write}
 use Rattle.run_notes.specs.Refusals.{Outcomes}
@@ -25,12 +24,12 @@ use Rattle.run_journal.specs.Extended.{IsSummed, AreFrom, Extends}
 use Rattle.run_records.specs.Kept.{WritesKept, kept_text}
 use Rattle.vis_writer.specs.Writes.{Appended}
 use Rattle.vlbi_core.specs.Engine.{IsRefusedFor, KeepsNamed, IsOfRecords}
-use Rattle.vlbi_core.specs.Calls.{Call, Task, OfJob, identity_for, sizes_for, bodies_for, kept_for}
+use Rattle.vlbi_core.specs.Calls.{Call, call_of, Task, OfJob, identity_for, sizes_for, bodies_for, kept_for}
 use Rattle.vlbi_core.specs.Texts.{IsSums, IsPart, IsRecords, epochs_for}
 use Rattle.vlbi_core.specs.Restart.{IsHonest}
-use Rattle.vlbi_core.specs.Steps.{OutcomeFrom, IsBehindWords, IsCauseOf, IsPartly, Goes, Does, MatchDue, MatchEarly, MatchVerdict, Leaves, IsRunOrder, SaysFor}
+use Rattle.vlbi_core.specs.Steps.{OutcomeFrom, IsBehindWords, IsCauseOf, IsPartly, Goes, Does, MatchDue, MatchEarly, MatchVerdict, Leaves, SaysFor}
 use Rattle.vlbi_core.proofs.ExtendLemmas.{some_bodies, AreFrom-append, AreFrom-at, Extends-stays, Extends-joins, Extends-split, kept-of}
-use Rattle.vlbi_core.proofs.CommandLemmas.{on-run, call_of, planned, one-job, not_both, is_some_at, due-same, early-same}
+use Rattle.vlbi_core.proofs.CommandLemmas.{planned, one-job, not_both, is_some_at, due-same, early-same}
 
 -- the law of record files from sums
 abbrev pub SumsMakeOutput : Type 0
@@ -52,32 +51,29 @@ module _ {D : Type 0} (seen : D → Option (List ℕ)) (moment : D → ℕ) (may
     pub refused : IsRefusedFor id (body_sizes sizes) (seen before) (seen after) r
     pub named : KeepsNamed id (body_sizes sizes) (may_leave after (moment after)) r
 
-  module _ (files : Files) (job : List ℕ) (vex : Option (List ℕ)) (workers piece : ℕ) (plan : Plan) (there : PlanOf files (Run job vex workers piece) (Ok plan)) where
+  module _ (files : Files) (job : List ℕ) (vex : Option (List ℕ)) (workers piece : ℕ) (plan : Plan) (there : PlanOf files job vex (Ok plan)) where
     resumed-cause : (before after : D) (old : Option (List ℕ)) (r : Refusal)
-        → IsRefusedFor (identity_under files (Run job vex workers piece) plan) (body_sizes (sizes_of plan)) (seen before) (seen after) r
-        → KeepsNamed (identity_under files (Run job vex workers piece) plan) (body_sizes (sizes_of plan)) (may_leave after (moment after)) r
+        → IsRefusedFor (identity_under files job vex plan) (body_sizes (sizes_of plan)) (seen before) (seen after) r
+        → KeepsNamed (identity_under files job vex plan) (body_sizes (sizes_of plan)) (may_leave after (moment after)) r
         → IsCauseOf r (OutcomeFrom (Ok (Run job vex workers piece)) files) files (may_leave after (moment after)) (seen before) (seen after) old old
     resumed-cause before after old Memory of named = tt
     resumed-cause before after old (Words fault) of named = absurd of
     resumed-cause before after old (DueRefusal due) of named = absurd of
     resumed-cause before after old (Other d) of named = record {
-      call = call_of (Run job vex workers piece) plan;
-      outcome = planned files (Run job vex workers piece) (PlanOf files (Run job vex workers piece)) plan (λ o p. p) there;
-      uses = refl;
+      call = call_of true job vex plan;
+      outcome = planned files (Run job vex workers piece) true job vex (PlanOf files job vex) plan (λ o p. p) there;
       other = of.0;
     }
     resumed-cause before after old Read of named = tt
     resumed-cause before after old (Journal None) of named = record {
-      call = call_of (Run job vex workers piece) plan;
-      outcome = planned files (Run job vex workers piece) (PlanOf files (Run job vex workers piece)) plan (λ o p. p) there;
-      uses = refl;
+      call = call_of true job vex plan;
+      outcome = planned files (Run job vex workers piece) true job vex (PlanOf files job vex) plan (λ o p. p) there;
       says = λ _. (refl, of);
       unnamed = λ other. absurd (not_both true refl other);
     }
     resumed-cause before after old (Journal (Some k)) of named = record {
-      call = call_of (Run job vex workers piece) plan;
-      outcome = planned files (Run job vex workers piece) (PlanOf files (Run job vex workers piece)) plan (λ o p. p) there;
-      uses = refl;
+      call = call_of true job vex plan;
+      outcome = planned files (Run job vex workers piece) true job vex (PlanOf files job vex) plan (λ o p. p) there;
       says = λ _. named;
       unnamed = λ other. absurd (not_both true refl other);
     }
@@ -94,12 +90,12 @@ module _ {D : Type 0} (seen : D → Option (List ℕ)) (moment : D → ℕ) (may
     resumed-part outcomes before before' after after' old id sizes Write of = absurd of
 
     does-resumed-at : (before after : D) (old : Option (List ℕ)) (r : Refusal)
-        → Resumed (Some files) plan (identity_under files (Run job vex workers piece) plan) (sizes_of plan) before after r
+        → Resumed (Some files) plan (identity_under files job vex plan) (sizes_of plan) before after r
         → Does (Ok (Run job vex workers piece)) files seen moment may_leave before after old old (Err r)
     does-resumed-at before after old r h = record {
-      goes = ⊎_elim inl (λ (ours : WhereTold (seen before) (λ image. IsSome (bodies_for files (call_of (Run job vex workers piece) plan) image))). inr (record {
-        call = call_of (Run job vex workers piece) plan;
-        outcome = planned files (Run job vex workers piece) (PlanOf files (Run job vex workers piece)) plan (λ o p. p) there;
+      goes = ⊎_elim inl (λ (ours : WhereTold (seen before) (λ image. IsSome (bodies_for files (call_of true job vex plan) image))). inr (record {
+        call = call_of true job vex plan;
+        outcome = planned files (Run job vex workers piece) true job vex (PlanOf files job vex) plan (λ o p. p) there;
         run = refl;
         opened = ours;
         changes = h.changes;
@@ -109,17 +105,15 @@ module _ {D : Type 0} (seen : D → Option (List ℕ)) (moment : D → ℕ) (may
       part = resumed-part (OutcomeFrom (Ok (Run job vex workers piece)) files) (seen before) (seen before) (seen after) (seen after) old _ _ r h.refused;
     }
 
-  pub run-resumed : (told : Option Files) (order : Order) (plan : Plan) (id : List ℕ) (sizes : JobSizes) (before after : D) (old : Option (List ℕ)) (r : Refusal)
-      → IsRunOrder order → WhereTold told (λ files. PlanOf files order (Ok plan)) → WhereTold told (λ files. id ≡ identity_under files order plan) → sizes ≡ sizes_of plan
+  pub run-resumed : (told : Option Files) (job : List ℕ) (vex : Option (List ℕ)) (workers piece : ℕ) (plan : Plan) (id : List ℕ) (sizes : JobSizes) (before after : D) (old : Option (List ℕ)) (r : Refusal)
+      → WhereTold told (λ files. PlanOf files job vex (Ok plan)) → WhereTold told (λ files. id ≡ identity_under files job vex plan) → sizes ≡ sizes_of plan
       → Resumed told plan id sizes before after r
-      → WhereTold told (λ files. Does (Ok order) files seen moment may_leave before after old old (Err r))
-  run-resumed None order plan id sizes before after old r is there same cut h = tt
-  run-resumed (Some files) order plan id sizes before after old r is there same cut h =
-      on-run (λ (o : Order). PlanOf files o (Ok plan) → id ≡ identity_under files o plan → Does (Ok o) files seen moment may_leave before after old old (Err r))
-      (λ job vex workers piece there same. does-resumed-at files job vex workers piece plan there before after old r
+      → WhereTold told (λ files. Does (Ok (Run job vex workers piece)) files seen moment may_leave before after old old (Err r))
+  run-resumed None job vex workers piece plan id sizes before after old r there same cut h = tt
+  run-resumed (Some files) job vex workers piece plan id sizes before after old r there same cut h =
+      does-resumed-at files job vex workers piece plan there before after old r
       (subst (λ (i : List ℕ). Resumed (Some files) plan i (sizes_of plan) before after r) same
-      (subst (λ (z : JobSizes). Resumed (Some files) plan id z before after r) cut h)))
-      order is there same
+      (subst (λ (z : JobSizes). Resumed (Some files) plan id z before after r) cut h))
 
   resumed-verdict : (id sizes : List ℕ) (before after : D) (r : Refusal) → IsRefusedFor id sizes (seen before) (seen after) r
       → MatchVerdict r (seen after ≡ seen before) (Looks seen moment may_leave before after)
@@ -140,15 +134,14 @@ module _ {D : Type 0} (seen : D → Option (List ℕ)) (moment : D → ℕ) (may
   resumed-behind id sizes before after (Journal kept) of = tt
   resumed-behind id sizes before after Write of = tt
 
-  pub resumed-leaves : (order : Order) (id sizes : List ℕ) (before after : D) (old : Option (List ℕ)) (r : Refusal) → IsRunOrder order
-      → IsRefusedFor id sizes (seen before) (seen after) r → Leaves (Ok order) seen moment may_leave before after old old (Err r)
-  resumed-leaves order id sizes before after old r is of =
-      on-run (λ (o : Order). Leaves (Ok o) seen moment may_leave before after old old (Err r)) (λ job vex workers piece. record {
-        nothing = due-same old r;
-        whole = λ _. early-same old r;
-        untouched = λ other. absurd (not_both true refl other);
-        verdict = resumed-verdict id sizes before after r of;
-      }) order is
+  pub resumed-leaves : (job : List ℕ) (vex : Option (List ℕ)) (workers piece : ℕ) (id sizes : List ℕ) (before after : D) (old : Option (List ℕ)) (r : Refusal)
+      → IsRefusedFor id sizes (seen before) (seen after) r → Leaves (Ok (Run job vex workers piece)) seen moment may_leave before after old old (Err r)
+  resumed-leaves job vex workers piece id sizes before after old r of = record {
+    nothing = due-same old r;
+    whole = λ _. early-same old r;
+    untouched = λ other. absurd (not_both true refl other);
+    verdict = resumed-verdict id sizes before after r of;
+  }
 
   -- ---- the records of a journal that keeps all
 
@@ -238,35 +231,35 @@ module _ {D : Type 0} (seen : D → Option (List ℕ)) (moment : D → ℕ) (may
       by (Ok x) text appended same = λ honest. appended.all ∙ ap (more old) (same honest)
       by (Err r) text appended same = tt
 
-  module _ (law : SumsMakeOutput) (files : Files) (job : List ℕ) (vex : Option (List ℕ)) (workers piece : ℕ) (plan : Plan) (there : PlanOf files (Run job vex workers piece) (Ok plan))
+  module _ (law : SumsMakeOutput) (files : Files) (job : List ℕ) (vex : Option (List ℕ)) (workers piece : ℕ) (plan : Plan) (there : PlanOf files job vex (Ok plan))
       (ranges : IsPlan plan) (few : length plan.scans ≤ 8388608) (journal : JournalState) (before mid after : D) (old new : Option (List ℕ)) where
-    emitted-text : (result : Result (Unit {0}) Refusal) → Emitted (Some files) plan (identity_under files (Run job vex workers piece) plan) (sizes_of plan) journal before mid after old new result
-        → RunText files (call_of (Run job vex workers piece) plan) (seen before) (seen after) old new result
+    emitted-text : (result : Result (Unit {0}) Refusal) → Emitted (Some files) plan (identity_under files job vex plan) (sizes_of plan) journal before mid after old new result
+        → RunText files (call_of true job vex plan) (seen before) (seen after) old new result
     emitted-text result h =
-        subst (λ (s : Option (List ℕ)). RunText files (call_of (Run job vex workers piece) plan) (seen before) s old new result) (sym h.looks.same)
-        (run-text law files (call_of (Run job vex workers piece) plan) ranges few journal.kept h.kept (seen before) (seen mid) old new result h.changes.read h.stands.image h.written h.grows)
+        subst (λ (s : Option (List ℕ)). RunText files (call_of true job vex plan) (seen before) s old new result) (sym h.looks.same)
+        (run-text law files (call_of true job vex plan) ranges few journal.kept h.kept (seen before) (seen mid) old new result h.changes.read h.stands.image h.written h.grows)
 
-    emitted-goes : (result : Result (Unit {0}) Refusal) → Emitted (Some files) plan (identity_under files (Run job vex workers piece) plan) (sizes_of plan) journal before mid after old new result
-        → Changes seen moment may_leave (Extends (IsSums files plan) (identity_under files (Run job vex workers piece) plan) (body_sizes (sizes_of plan))) before after
+    emitted-goes : (result : Result (Unit {0}) Refusal) → Emitted (Some files) plan (identity_under files job vex plan) (sizes_of plan) journal before mid after old new result
+        → Changes seen moment may_leave (Extends (IsSums files plan) (identity_under files job vex plan) (body_sizes (sizes_of plan))) before after
     emitted-goes result h =
         changes_both seen moment may_leave (Extends (IsSums files plan) _ _) (Extends-stays _ _ _) (Extends-joins _ _ _) before mid after h.changes
         (changes_looks seen moment may_leave (Extends (IsSums files plan) _ _) (Extends-stays _ _ _) mid after h.looks)
 
-    emitted-running : (result : Result (Unit {0}) Refusal) → Emitted (Some files) plan (identity_under files (Run job vex workers piece) plan) (sizes_of plan) journal before mid after old new result
+    emitted-running : (result : Result (Unit {0}) Refusal) → Emitted (Some files) plan (identity_under files job vex plan) (sizes_of plan) journal before mid after old new result
         → Goes (OutcomeFrom (Ok (Run job vex workers piece)) files) files seen moment may_leave before after
     emitted-running result h = inr (record {
-      call = call_of (Run job vex workers piece) plan;
-      outcome = planned files (Run job vex workers piece) (PlanOf files (Run job vex workers piece)) plan (λ o p. p) there;
+      call = call_of true job vex plan;
+      outcome = planned files (Run job vex workers piece) true job vex (PlanOf files job vex) plan (λ o p. p) there;
       run = refl;
       opened = (emitted-text result h).opened;
       changes = emitted-goes result h;
     })
 
-    emitted-images : (result : Result (Unit {0}) Refusal) → Emitted (Some files) plan (identity_under files (Run job vex workers piece) plan) (sizes_of plan) journal before mid after old new result
-        → (image : List ℕ) → may_leave after (moment after) image → kept_for files (call_of (Run job vex workers piece) plan) image ≡ journal.kept
+    emitted-images : (result : Result (Unit {0}) Refusal) → Emitted (Some files) plan (identity_under files job vex plan) (sizes_of plan) journal before mid after old new result
+        → (image : List ℕ) → may_leave after (moment after) image → kept_for files (call_of true job vex plan) image ≡ journal.kept
     emitted-images result h image now = image-kept _ _ journal mid after h.stands h.looks image now
 
-    emitted-cause : (r : Refusal) → Emitted (Some files) plan (identity_under files (Run job vex workers piece) plan) (sizes_of plan) journal before mid after old new (Err r)
+    emitted-cause : (r : Refusal) → Emitted (Some files) plan (identity_under files job vex plan) (sizes_of plan) journal before mid after old new (Err r)
         → IsCauseOf r (OutcomeFrom (Ok (Run job vex workers piece)) files) files (may_leave after (moment after)) (seen before) (seen after) old new
     emitted-cause Memory h = tt
     emitted-cause (Words fault) h = absurd h.refused
@@ -274,30 +267,29 @@ module _ {D : Type 0} (seen : D → Option (List ℕ)) (moment : D → ℕ) (may
     emitted-cause (Other d) h = absurd h.refused
     emitted-cause Read h = tt
     emitted-cause (Journal kept) h = record {
-      call = call_of (Run job vex workers piece) plan;
-      outcome = planned files (Run job vex workers piece) (PlanOf files (Run job vex workers piece)) plan (λ o p. p) there;
-      uses = refl;
-      says = λ _. subst (λ (k : Option ℕ). SaysFor k files (call_of (Run job vex workers piece) plan) (may_leave after (moment after)) (seen before) (seen after) old new) (sym h.refused)
+      call = call_of true job vex plan;
+      outcome = planned files (Run job vex workers piece) true job vex (PlanOf files job vex) plan (λ o p. p) there;
+      says = λ _. subst (λ (k : Option ℕ). SaysFor k files (call_of true job vex plan) (may_leave after (moment after)) (seen before) (seen after) old new) (sym h.refused)
           (λ image now. inl (emitted-images (Err (Journal kept)) h image now));
       unnamed = λ other. absurd (not_both true refl other);
     }
     emitted-cause Write h = record {
-      task = OfJob (call_of (Run job vex workers piece) plan);
-      outcome = planned files (Run job vex workers piece) (PlanOf files (Run job vex workers piece)) plan (λ o p. p) there;
-      opened = λ _. (emitted-text (Err Write) h).opened;
+      task = OfJob (call_of true job vex plan);
+      outcome = planned files (Run job vex workers piece) true job vex (PlanOf files job vex) plan (λ o p. p) there;
+      opened = (emitted-text (Err Write) h).opened;
     }
 
-    text-part : (r : Refusal) → RunText files (call_of (Run job vex workers piece) plan) (seen before) (seen after) old new (Err r)
+    text-part : (r : Refusal) → RunText files (call_of true job vex plan) (seen before) (seen after) old new (Err r)
         → IsPart (OutcomeFrom (Ok (Run job vex workers piece)) files) files (seen before) (seen after) old new
     text-part r t = record {
-      task = OfJob (call_of (Run job vex workers piece) plan);
-      outcome = planned files (Run job vex workers piece) (PlanOf files (Run job vex workers piece)) plan (λ o p. p) there;
+      task = OfJob (call_of true job vex plan);
+      outcome = planned files (Run job vex workers piece) true job vex (PlanOf files job vex) plan (λ o p. p) there;
       text = t.text;
       is = t.is;
       part = t.appended.part;
     }
 
-    emitted-part : (r : Refusal) → Emitted (Some files) plan (identity_under files (Run job vex workers piece) plan) (sizes_of plan) journal before mid after old new (Err r)
+    emitted-part : (r : Refusal) → Emitted (Some files) plan (identity_under files job vex plan) (sizes_of plan) journal before mid after old new (Err r)
         → IsPartly r (OutcomeFrom (Ok (Run job vex workers piece)) files) files (seen before) (seen after) old new
     emitted-part Memory h = inl h.refused
     emitted-part (Words fault) h = absurd h.refused
@@ -307,21 +299,21 @@ module _ {D : Type 0} (seen : D → Option (List ℕ)) (moment : D → ℕ) (may
     emitted-part (Journal kept) h = inr (text-part (Journal kept) (emitted-text (Err (Journal kept)) h))
     emitted-part Write h = text-part Write (emitted-text (Err Write) h)
 
-    does-emitted : (result : Result (Unit {0}) Refusal) → Emitted (Some files) plan (identity_under files (Run job vex workers piece) plan) (sizes_of plan) journal before mid after old new result
+    does-emitted : (result : Result (Unit {0}) Refusal) → Emitted (Some files) plan (identity_under files job vex plan) (sizes_of plan) journal before mid after old new result
         → Does (Ok (Run job vex workers piece)) files seen moment may_leave before after old new result
     does-emitted (Ok x) h = record {
       goes = emitted-running (Ok x) h;
       done = record {
-        task = OfJob (call_of (Run job vex workers piece) plan);
-        outcome = planned files (Run job vex workers piece) (PlanOf files (Run job vex workers piece)) plan (λ o p. p) there;
-        opened = λ _. (emitted-text (Ok x) h).opened;
+        task = OfJob (call_of true job vex plan);
+        outcome = planned files (Run job vex workers piece) true job vex (PlanOf files job vex) plan (λ o p. p) there;
+        opened = (emitted-text (Ok x) h).opened;
         text = (emitted-text (Ok x) h).text;
         is = (emitted-text (Ok x) h).is;
         told = (emitted-text (Ok x) h).appended.all;
-        all = λ call same _ image now. subst (λ (c : Call). kept_for files c image ≡ epochs_for c) (one-job (call_of (Run job vex workers piece) plan) call same)
+        all = λ call same _ image now. subst (λ (c : Call). kept_for files c image ≡ epochs_for c) (one-job (call_of true job vex plan) call same)
             (emitted-images (Ok x) h image now ∙ h.kept);
         sums = λ call same _. subst (λ (c : Call). WhereTold (seen before) (λ image. IsHonest files c image → new ≡ more old (output c.plan files)))
-            (one-job (call_of (Run job vex workers piece) plan) call same) (emitted-text (Ok x) h).sums;
+            (one-job (call_of true job vex plan) call same) (emitted-text (Ok x) h).sums;
       };
       cause = tt;
       part = tt;
@@ -333,19 +325,17 @@ module _ {D : Type 0} (seen : D → Option (List ℕ)) (moment : D → ℕ) (may
       part = emitted-part r h;
     }
 
-  pub run-emitted : (law : SumsMakeOutput) (told : Option Files) (order : Order) (plan : Plan) (id : List ℕ) (sizes : JobSizes) (journal : JournalState) (before mid after : D) (old new : Option (List ℕ))
-      (result : Result (Unit {0}) Refusal)
+  pub run-emitted : (law : SumsMakeOutput) (told : Option Files) (job : List ℕ) (vex : Option (List ℕ)) (workers piece : ℕ) (plan : Plan) (id : List ℕ) (sizes : JobSizes) (journal : JournalState)
+      (before mid after : D) (old new : Option (List ℕ)) (result : Result (Unit {0}) Refusal)
       → IsPlan plan → length plan.scans ≤ 8388608
-      → IsRunOrder order → WhereTold told (λ files. PlanOf files order (Ok plan)) → WhereTold told (λ files. id ≡ identity_under files order plan) → sizes ≡ sizes_of plan
+      → WhereTold told (λ files. PlanOf files job vex (Ok plan)) → WhereTold told (λ files. id ≡ identity_under files job vex plan) → sizes ≡ sizes_of plan
       → Emitted told plan id sizes journal before mid after old new result
-      → WhereTold told (λ files. Does (Ok order) files seen moment may_leave before after old new result)
-  run-emitted law None order plan id sizes journal before mid after old new result ranges few is there same cut h = tt
-  run-emitted law (Some files) order plan id sizes journal before mid after old new result ranges few is there same cut h =
-      on-run (λ (o : Order). PlanOf files o (Ok plan) → id ≡ identity_under files o plan → Does (Ok o) files seen moment may_leave before after old new result)
-      (λ job vex workers piece there same. does-emitted law files job vex workers piece plan there ranges few journal before mid after old new result
+      → WhereTold told (λ files. Does (Ok (Run job vex workers piece)) files seen moment may_leave before after old new result)
+  run-emitted law None job vex workers piece plan id sizes journal before mid after old new result ranges few there same cut h = tt
+  run-emitted law (Some files) job vex workers piece plan id sizes journal before mid after old new result ranges few there same cut h =
+      does-emitted law files job vex workers piece plan there ranges few journal before mid after old new result
       (subst (λ (i : List ℕ). Emitted (Some files) plan i (sizes_of plan) journal before mid after old new result) same
-      (subst (λ (z : JobSizes). Emitted (Some files) plan id z journal before mid after old new result) cut h)))
-      order is there same
+      (subst (λ (z : JobSizes). Emitted (Some files) plan id z journal before mid after old new result) cut h))
 
   pub emitted-behind : (epochs : ℕ) (old new : Option (List ℕ)) (result : Result (Unit {0}) Refusal) → IfErr result (IsOfRecords epochs old new) → IfErr result IsBehindWords
   emitted-behind epochs old new (Ok x) of = tt
@@ -357,15 +347,14 @@ module _ {D : Type 0} (seen : D → Option (List ℕ)) (moment : D → ℕ) (may
   emitted-behind epochs old new (Err (Journal kept)) of = tt
   emitted-behind epochs old new (Err Write) of = tt
 
-  pub emitted-leaves : (order : Order) (epochs : ℕ) (before after : D) (old new : Option (List ℕ)) (result : Result (Unit {0}) Refusal) → IsRunOrder order
-      → IfErr result (IsOfRecords epochs old new) → Leaves (Ok order) seen moment may_leave before after old new result
-  emitted-leaves order epochs before after old new result is of =
-      on-run (λ (o : Order). Leaves (Ok o) seen moment may_leave before after old new result) (λ job vex workers piece. record {
-        nothing = nothing result of;
-        whole = λ _. whole result of;
-        untouched = λ other. absurd (not_both true refl other);
-        verdict = verdict result of;
-      }) order is
+  pub emitted-leaves : (job : List ℕ) (vex : Option (List ℕ)) (workers piece epochs : ℕ) (before after : D) (old new : Option (List ℕ)) (result : Result (Unit {0}) Refusal)
+      → IfErr result (IsOfRecords epochs old new) → Leaves (Ok (Run job vex workers piece)) seen moment may_leave before after old new result
+  emitted-leaves job vex workers piece epochs before after old new result of = record {
+    nothing = nothing result of;
+    whole = λ _. whole result of;
+    untouched = λ other. absurd (not_both true refl other);
+    verdict = verdict result of;
+  }
     where
       nothing : (q : Result (Unit {0}) Refusal) → IfErr q (IsOfRecords epochs old new) → IfErr q (λ r. MatchDue r (new ≡ old))
       nothing (Ok x) of = tt

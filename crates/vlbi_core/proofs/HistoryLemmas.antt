@@ -1,6 +1,6 @@
 -- Calls of `run` one after another.
 use Rattle.std.specs.Prelude.{is_some, slice_get}
-use Rattle.std.proofs.Common.{◌≡◌, ◌∙◌, ◌⊎◌, ⊎_elim, inl, inr, ℕ, zero, suc, ◌<◌, ◌≤◌, true, List, [], ◌∷◌, Option, Some, None, Result, Ok, Err, refl, sym, ap, subst, arith, length}
+use Rattle.std.proofs.Common.{◌≡◌, ◌∙◌, ◌⊎◌, ⊎_elim, inl, inr, ℕ, zero, suc, ◌<◌, ◌≤◌, true, false, List, [], ◌∷◌, Option, Some, None, Result, Ok, Err, refl, sym, ap, subst, arith, length}
 use Rattle.dev_traits.specs.Moments.{AtLeast}
 use Rattle.dev_traits.specs.Told.{more, WhereTold}
 use Rattle.corr_model.specs.Files.{Files}
@@ -13,87 +13,47 @@ use Rattle.checkpoint_journal.proofs.FindLemmas.{reading-blank}
 use Rattle.run_words.specs.declared.order.Order.{Order}
 use Rattle.run_words.specs.declared.order.Order.TheVariants.{Run, Plain, Check, Status, Dump, Gen}
 use Rattle.run_notes.specs.Answers.{Answer}
-use Rattle.run_ready.specs.Outcome.{PlanOf, job_names}
+use Rattle.run_ready.specs.Outcome.{PlanOf}
 use Rattle.run_ready.specs.Recordings.{recordings_answer}
-use Rattle.vlbi_core.specs.Calls.{Call, OfJob, TaskFor, OutcomeOf, identity_for, sizes_for, kept_for, is_run}
+use Rattle.vlbi_core.specs.Calls.{Call, OfJob, TaskFor, OutcomeOf, identity_for, sizes_for, kept_for}
 use Rattle.vlbi_core.specs.Texts.{epochs_for}
 use Rattle.vlbi_core.specs.Restart.{IsHonest, StaysHonest}
 use Rattle.vlbi_core.specs.Histories.{IsRunBy, IsSameJob, End, Answered, Crashed, Step, stop, Left, IsEnd, IsStep, IsHistory, IsLater, Holds, AreAlike}
 use Rattle.vlbi_core.proofs.TopLemmas.{OneOutcome}
-use Rattle.vlbi_core.proofs.CommandLemmas.{call_of, not_both}
+use Rattle.vlbi_core.proofs.CommandLemmas.{not_both}
 
 -- ---- calls for one job
 
--- an order of `run`, part by part
-record RunParts (order : Order) : Type 0 where
-  pub job : List ℕ
-  pub vex : Option (List ℕ)
-  pub workers : ℕ
-  pub piece : ℕ
-  pub is : order ≡ Run job vex workers piece
-
-parts : (order : Order) → is_run order ≡ true → RunParts order
-parts (Run job vex workers piece) run = record { job = job; vex = vex; workers = workers; piece = piece; is = refl }
-parts (Plain job vex) run = absurd cc
-parts (Check job vex) run = absurd cc
-parts (Status job vex) run = absurd cc
-parts (Dump file) run = absurd cc
-parts (Gen seed seconds workers piece) run = absurd cc
-
-not-run : (a b : Order) → a ≡ b → is_run a ≡ true → is_run b ≡ true
-not-run a b same run = subst (λ (o : Order). is_run o ≡ true) same run
-
 -- the plan of a call of `run`
-plan-at : (files : Files) (order : Order) (call : Call) → TaskFor files order (Ok (OfJob call)) → is_run call.order ≡ true → PlanOf files call.order (Ok call.plan)
-plan-at files (Run job vex workers piece) call there run = subst (λ (o : Order). PlanOf files o (Ok call.plan)) (sym there.0) there.1
-plan-at files (Status job vex) call there run = absurd (not_both (is_run (Status job vex)) (not-run call.order (Status job vex) there.0 run) refl)
+plan-at : (files : Files) (order : Order) (call : Call) → TaskFor files order (Ok (OfJob call)) → call.sums ≡ true → PlanOf files call.job call.vex (Ok call.plan)
+plan-at files (Run job vex workers piece) call there run = subst (λ (c : Call). PlanOf files c.job c.vex (Ok call.plan)) (sym there.0) there.1
+plan-at files (Status job vex) call there run = absurd (not_both false (subst (λ (c : Call). c.sums ≡ true) there.0 run) refl)
 plan-at files (Plain job vex) call there run = absurd there
 plan-at files (Check job vex) call there run = absurd there
 plan-at files (Dump file) call there run = absurd there
 plan-at files (Gen seed seconds workers piece) call there run = absurd there
 
-plan-by : (files : Files) (words : List (List ℕ)) (call : Call) → IsRunBy files words call → PlanOf files call.order (Ok call.plan)
+plan-by : (files : Files) (words : List (List ℕ)) (call : Call) → IsRunBy files words call → PlanOf files call.job call.vex (Ok call.plan)
 plan-by files words call by = plan-at files by.outcome.0 call by.outcome.2 by.run
 
--- the names of a job's text and of its schedule
-abbrev job_in : Option (List ℕ × Option (List ℕ)) → List ℕ
-job_in None = []
-job_in (Some names) = names.0
+same-alike : (files : Files) (a b : Call) → a ≡ b → AreAlike files a b
+same-alike files a b same = subst (λ (c : Call). AreAlike files a c) same (record { honest = λ image h. h; kept = λ image. refl; plan = refl })
 
-abbrev vex_in : Option (List ℕ × Option (List ℕ)) → Option (List ℕ)
-vex_in None = None
-vex_in (Some names) = names.1
-
-alike-parts : (files : Files) (job : List ℕ) (vex : Option (List ℕ)) (workers piece others other : ℕ) (plan : Plan)
-    → AreAlike files (call_of (Run job vex workers piece) plan) (call_of (Run job vex others other) plan)
-alike-parts files job vex workers piece others other plan = record {
-  honest = λ image h. record { bodies = h.bodies; reads = h.reads; sums = h.sums };
-  kept = λ image. refl;
-  plan = refl;
-}
+-- calls of `run` for one job are one call
+same-call : OneOutcome → (files : Files) (first second : List (List ℕ)) (a b : Call) → IsRunBy files first a → IsRunBy files second b → IsSameJob a b → a ≡ b
+same-call law files first second a b one two same =
+    let there : PlanOf files a.job a.vex (Ok b.plan) =
+    subst (λ (job : List ℕ). PlanOf files job a.vex (Ok b.plan)) (sym same.0)
+    (subst (λ (vex : Option (List ℕ)). PlanOf files b.job vex (Ok b.plan)) (sym same.1) (plan-by files second b two)) in
+    let x : Result Plan Answer = Ok a.plan in
+    let y : Result Plan Answer = Ok b.plan in
+    let both : x ≡ y = law files (recordings_answer files) a.job a.vex x y (plan-by files first a one) there in
+    let plans : a.plan ≡ b.plan = cc in
+    let sums : a.sums ≡ b.sums = one.run ∙ sym two.run in
+    λ i. record { sums = sums i; job = same.0 i; vex = same.1 i; plan = plans i }
 
 pub alike : OneOutcome → (files : Files) (first second : List (List ℕ)) (a b : Call) → IsRunBy files first a → IsRunBy files second b → IsSameJob a b → AreAlike files a b
-alike law files first second a b one two same =
-    let p = parts a.order one.run in
-    let q = parts b.order two.run in
-    let names : job_names (Run p.job p.vex p.workers p.piece) ≡ job_names (Run q.job q.vex q.workers q.piece) = sym (ap job_names p.is) ∙ same ∙ ap job_names q.is in
-    let jobs : p.job ≡ q.job = ap job_in names in
-    let schedules : p.vex ≡ q.vex = ap vex_in names in
-    let orders : b.order ≡ Run p.job p.vex q.workers q.piece =
-    q.is ∙ ap (λ (job : List ℕ). Run job q.vex q.workers q.piece) (sym jobs) ∙ ap (λ (vex : Option (List ℕ)). Run p.job vex q.workers q.piece) (sym schedules) in
-    let here : PlanOf files (Run p.job p.vex p.workers p.piece) (Ok a.plan) =
-    subst (λ (o : Order). PlanOf files o (Ok a.plan)) p.is (plan-by files first a one) in
-    let there : PlanOf files (Run p.job p.vex q.workers q.piece) (Ok b.plan) =
-    subst (λ (o : Order). PlanOf files o (Ok b.plan)) orders (plan-by files second b two) in
-    let x : Result Plan Answer = Ok b.plan in
-    let y : Result Plan Answer = Ok a.plan in
-    let both : x ≡ y = law files (recordings_answer files) (Run p.job p.vex p.workers p.piece) x y there here in
-    let plans : b.plan ≡ a.plan = cc in
-    let left : a ≡ call_of (Run p.job p.vex p.workers p.piece) a.plan = λ i. record { order = p.is i; plan = a.plan } in
-    let right : b ≡ call_of (Run p.job p.vex q.workers q.piece) a.plan = λ i. record { order = orders i; plan = plans i } in
-    subst (λ (c : Call). AreAlike files c b) (sym left)
-    (subst (λ (c : Call). AreAlike files (call_of (Run p.job p.vex p.workers p.piece) a.plan) c) (sym right)
-    (alike-parts files p.job p.vex p.workers p.piece q.workers q.piece a.plan))
+alike law files first second a b one two same = same-alike files a b (same-call law files first second a b one two same)
 
 -- ---- what a call leaves, said of another call for the job
 

@@ -12,7 +12,7 @@ use Rattle.run_notes.specs.declared.refusal.Refusal.{Refusal}
 use Rattle.run_notes.specs.declared.refusal.Refusal.TheVariants.{Memory, Words, Due as DueRefusal, Other, Read, Journal, Write}
 use Rattle.run_notes.specs.Answers.{memory_answer, read_answer, journal_answer, write_answer, other_answer}
 use Rattle.run_notes.specs.Refusals.{Outcomes, answer_of}
-use Rattle.vlbi_core.specs.Calls.{Call, Task, OfJob, kept_for, is_run}
+use Rattle.vlbi_core.specs.Calls.{Call, Task, OfJob, kept_for}
 use Rattle.vlbi_core.specs.Restart.{SaysKept}
 use Rattle.vlbi_core.specs.Steps.{IsCauseOf, IsShort, SaysFor}
 use Rattle.vlbi_core.proofs.TopLemmas.{AreOne, task-not, calls-same}
@@ -114,8 +114,8 @@ module _ (files : Files) (images : List ℕ → Type 0) (before after old new : 
     status = λ _ k e. other.some k e;
   }
 
-  journal-says : (call : Call) (kept : Option ℕ) → ((k : ℕ) → kept ≡ Some k → k < 2 ^ 64) → (is_run call.order ≡ true → SaysFor kept files call images before after old new)
-      → (is_run call.order ≡ false → kept ≡ None) → SaysKept files call (journal_answer kept).note images before after old new
+  journal-says : (call : Call) (kept : Option ℕ) → ((k : ℕ) → kept ≡ Some k → k < 2 ^ 64) → (call.sums ≡ true → SaysFor kept files call images before after old new)
+      → (call.sums ≡ false → kept ≡ None) → SaysKept files call (journal_answer kept).note images before after old new
   journal-says call None small says unnamed = record {
     named = λ _ k e. absurd (named_unnamed k (sym e));
     unnamed = λ run _. says run;

@@ -24,9 +24,9 @@ use Rattle.run_ready.specs.Steps.{answered}
 use Rattle.run_ready.specs.Recordings.{recordings_answer}
 use Rattle.run_ready.specs.Outcome.{PlanOf}
 use Rattle.mem_devices.specs.MemShelfState.{bytes_under}
-use Rattle.vlbi_core.specs.Calls.{Call, Task, OfJob, OfText, TaskFor, identity_for, sizes_for, is_run}
+use Rattle.vlbi_core.specs.Calls.{Call, Task, OfJob, OfText, TaskFor, identity_for, sizes_for}
 use Rattle.vlbi_core.specs.Restart.{IsHonest}
-use Rattle.sample_job.specs.Sample.{sample_files, sample_shelf, sample_order, SampleOf}
+use Rattle.sample_job.specs.Sample.{sample_files, sample_shelf, SampleOf}
 use Rattle.vlbi_core.specs.Sample.{IsSampled, content_for, sample_text}
 use Rattle.vlbi_core.specs.Faults.{written_with}
 use Rattle.vlbi_core.specs.Steps.{OutcomeFrom, IsBehindWords, IsOfFilesOrOutput, IsCauseOf, IsDone, Does, IsOfSample, IsOfMemory, IsOtherCause, IsPlanned, Tells}
@@ -63,14 +63,14 @@ module _ {D : Type 0} (seen : D → Option (List ℕ)) (moment : D → ℕ) (may
   -- a run that was done over a blank journal appended what its plan comes to
   pub done-output : (files : Files) (job : List ℕ) (vex : Option (List ℕ)) (workers piece : ℕ) (before after : D) (old new : Option (List ℕ)) → seen before ≡ Some []
       → IsDone (OutcomeFrom (Ok (Run job vex workers piece)) files) files seen moment may_leave before after old new
-      → (plan : Plan) × PlanOf files (Run job vex workers piece) (Ok plan) × (new ≡ more old (output plan files))
+      → (plan : Plan) × PlanOf files job vex (Ok plan) × (new ≡ more old (output plan files))
   done-output files job vex workers piece before after old new blank done = by done.task refl (task-of files (Run job vex workers piece) done.task done.outcome)
     where
       by : (task : Task) → done.task ≡ task → TaskFor files (Run job vex workers piece) (Ok task)
-          → (plan : Plan) × PlanOf files (Run job vex workers piece) (Ok plan) × (new ≡ more old (output plan files))
+          → (plan : Plan) × PlanOf files job vex (Ok plan) × (new ≡ more old (output plan files))
       by (OfText text) same p = absurd p
       by (OfJob call) same p =
-          let run : is_run call.order ≡ true = subst (λ (o : Order). is_run o ≡ true) (sym p.0) refl in (
+          let run : call.sums ≡ true = subst (λ (c : Call). c.sums ≡ true) (sym p.0) refl in (
             call.plan,
             p.1,
             told_value (seen before) (λ image. IsHonest files call image → new ≡ more old (output call.plan files)) [] blank (done.sums call same run) (blank-honest files call),
@@ -86,7 +86,7 @@ not-other outcomes files before d blank cause =
 -- What refuses an order that no answer refuses, over a blank journal and a shelf whose count stays: want of memory, or a fault of the
 -- journal or the output.
 module _ (files : Files) (job : List ℕ) (vex : Option (List ℕ)) (workers piece : ℕ) (images : List ℕ → Type 0) (before after old new : Option (List ℕ)) where
-  of-memory : (r : Refusal) → before ≡ Some [] → ((answer : Answer) → PlanOf files (Run job vex workers piece) (Err answer) → ⊥) → IsBehindWords r
+  of-memory : (r : Refusal) → before ≡ Some [] → ((answer : Answer) → PlanOf files job vex (Err answer) → ⊥) → IsBehindWords r
       → CountsReadsBeside {T = Unit {0}} 0 0 (Err r) → IsCauseOf r (OutcomeFrom (Ok (Run job vex workers piece)) files) files images before after old new → IsOfMemory r
   of-memory Memory blank none behind reads cause = tt
   of-memory (Words fault) blank none behind reads cause = absurd behind
@@ -110,11 +110,11 @@ of-files (Err (Journal kept)) stage = absurd stage
 of-files (Err Write) stage = tt
 
 -- the totals of the content that was read are those of the plan's record file
-pub sample-totals : {E : Type 0} (seed seconds workers piece : ℕ) (bytes : List ℕ) (content : Content) (old new : Option (List ℕ)) (before now : ℕ) (r : Result (Unit {0}) E)
-    → ((text : List ℕ) → HasOneContent text) → length bytes < 2 ^ 64 → (s : IsSampled seed seconds workers piece bytes) → IsRecordFile bytes content
+pub sample-totals : {E : Type 0} (seed seconds : ℕ) (bytes : List ℕ) (content : Content) (old new : Option (List ℕ)) (before now : ℕ) (r : Result (Unit {0}) E)
+    → ((text : List ℕ) → HasOneContent text) → length bytes < 2 ^ 64 → (s : IsSampled seed seconds bytes) → IsRecordFile bytes content
     → Appends old new (totals_text content (length bytes)) before now r
-    → Tells (SampleOf seed seconds workers piece) (sample_text seed seconds) old new (written_with r)
-sample-totals {E} seed seconds workers piece bytes content old new before now r law short s read appends = by r appends
+    → Tells (SampleOf seed seconds) (sample_text seed seconds) old new (written_with r)
+sample-totals {E} seed seconds bytes content old new before now r law short s read appends = by r appends
   where
     files : Files
     files = sample_shelf seed seconds
@@ -129,7 +129,7 @@ sample-totals {E} seed seconds workers piece bytes content old new before now r 
     text-is = ap (λ (c : Content). totals_text c (length bytes)) same ∙ ap (λ (text : List ℕ). totals_text (content_for s.plan files) (length text)) s.records
 
     by : (q : Result (Unit {0}) E) → Appends old new (totals_text content (length bytes)) before now q
-        → Tells (SampleOf seed seconds workers piece) (sample_text seed seconds) old new (written_with q)
+        → Tells (SampleOf seed seconds) (sample_text seed seconds) old new (written_with q)
     by (Ok x) appends = record { done = (s.plan, s.outcome, appends.ok ∙ ap (more old) text-is); cause = tt; part = tt }
     by (Err e) appends = record {
       done = tt;
@@ -148,53 +148,52 @@ reads-same n (Err Read) stage = absurd stage
 reads-same n (Err (Journal kept)) stage = absurd stage
 reads-same n (Err Write) stage = refl
 
--- what was appended in memory is the record file of a plan of the sample
-pub sampled : {D : Type 0} (seen : D → Option (List ℕ)) (moment : D → ℕ) (may_leave : D → ℕ → List ℕ → Type 0) (law : OneOutcome) (seed seconds workers piece : ℕ)
-    (order : Order) (files : List (List ℕ × List ℕ)) (before after : D) (bytes : List ℕ) → order ≡ sample_order workers piece → files ≡ sample_files seed seconds → seen before ≡ Some []
-    → IsDone (OutcomeFrom (Ok order) (bytes_under files)) (bytes_under files) seen moment may_leave before after (Some []) (Some bytes)
-    → IsPlanned (PlanOf (bytes_under files) order)
-    → IsSampled seed seconds workers piece bytes
-sampled {D} seen moment may_leave law seed seconds workers piece order files before after bytes same_order same_files blank done planned =
-    let own_done : IsDone (OutcomeFrom (Ok (sample_order workers piece)) (sample_shelf seed seconds)) (sample_shelf seed seconds) seen moment may_leave before after (Some []) (Some bytes) =
-    subst (λ (fs : List (List ℕ × List ℕ)). IsDone (OutcomeFrom (Ok (sample_order workers piece)) (bytes_under fs)) (bytes_under fs) seen moment may_leave before after (Some []) (Some bytes)) same_files
-    (subst (λ (o : Order). IsDone (OutcomeFrom (Ok o) (bytes_under files)) (bytes_under files) seen moment may_leave before after (Some []) (Some bytes)) same_order done) in
-    let own_planned : IsPlanned (SampleOf seed seconds workers piece) =
-    subst (λ (fs : List (List ℕ × List ℕ)). IsPlanned (PlanOf (bytes_under fs) (sample_order workers piece))) same_files
-    (subst (λ (o : Order). IsPlanned (PlanOf (bytes_under files) o)) same_order planned) in
-    let out = done-output seen moment may_leave (sample_shelf seed seconds) (codes "job") None workers piece before after (Some []) (Some bytes) blank own_done in
-    let one : Ok out.0 ≡ Ok own_planned.plan =
-    law (sample_shelf seed seconds) (recordings_answer (sample_shelf seed seconds)) (sample_order workers piece) (Ok out.0) (Ok own_planned.plan) out.1 own_planned.outcome in
-    let plans : out.0 ≡ own_planned.plan = cc in
-    let told : Some bytes ≡ Some (output out.0 (sample_shelf seed seconds)) = out.2 in
-    let text : bytes ≡ output out.0 (sample_shelf seed seconds) = cc in
-    record {
-      plan = own_planned.plan;
-      outcome = own_planned.outcome;
-      ranges = own_planned.ranges;
-      few = own_planned.few;
-      records = text ∙ ap (λ (plan : Plan). output plan (sample_shelf seed seconds)) plans;
-    }
+-- the names of a sample's job
+pub record IsSampleJob (job : List ℕ) (vex : Option (List ℕ)) : Type 0 where
+  pub job_is : job ≡ codes "job"
+  pub alone : vex ≡ None
+
+-- what holds of a sample's own job and files
+own : (P : List ℕ → Option (List ℕ) → List (List ℕ × List ℕ) → Type 0) (seed seconds : ℕ) (job : List ℕ) (vex : Option (List ℕ)) (files : List (List ℕ × List ℕ))
+    → IsSampleJob job vex → files ≡ sample_files seed seconds → P job vex files → P (codes "job") None (sample_files seed seconds)
+own P seed seconds job vex files names same holds =
+    subst (P (codes "job") None) same (subst (λ (v : Option (List ℕ)). P (codes "job") v files) names.alone (subst (λ (j : List ℕ). P j vex files) names.job_is holds))
 
 module _ {D : Type 0} (seen : D → Option (List ℕ)) (moment : D → ℕ) (may_leave : D → ℕ → List ℕ → Type 0) (seed seconds workers piece : ℕ)
-    (order : Order) (files : List (List ℕ × List ℕ)) (before after : D) (same_order : order ≡ sample_order workers piece) (same_files : files ≡ sample_files seed seconds)
+    (job : List ℕ) (vex : Option (List ℕ)) (files : List (List ℕ × List ℕ)) (before after : D) (names : IsSampleJob job vex) (same_files : files ≡ sample_files seed seconds)
     (blank : seen before ≡ Some []) where
+  -- what was appended in memory is the record file of a plan of the sample
+  sampled : OneOutcome → (bytes : List ℕ)
+      → IsDone (OutcomeFrom (Ok (Run (codes "job") None workers piece)) (sample_shelf seed seconds)) (sample_shelf seed seconds) seen moment may_leave before after (Some []) (Some bytes)
+      → IsPlanned (SampleOf seed seconds) → IsSampled seed seconds bytes
+  sampled law bytes done planned =
+      let out = done-output seen moment may_leave (sample_shelf seed seconds) (codes "job") None workers piece before after (Some []) (Some bytes) blank done in
+      let one : Ok out.0 ≡ Ok planned.plan =
+      law (sample_shelf seed seconds) (recordings_answer (sample_shelf seed seconds)) (codes "job") None (Ok out.0) (Ok planned.plan) out.1 planned.outcome in
+      let plans : out.0 ≡ planned.plan = cc in
+      let told : Some bytes ≡ Some (output out.0 (sample_shelf seed seconds)) = out.2 in
+      let text : bytes ≡ output out.0 (sample_shelf seed seconds) = cc in
+      record {
+        plan = planned.plan;
+        outcome = planned.outcome;
+        ranges = planned.ranges;
+        few = planned.few;
+        records = text ∙ ap (λ (plan : Plan). output plan (sample_shelf seed seconds)) plans;
+      }
+
   pub sampled-does : OneOutcome → (old bytes items : List ℕ) (x : Unit {0}) → old ≡ [] → items ≡ bytes
-      → Does (Ok order) (bytes_under files) seen moment may_leave before after (Some old) (Some bytes) (Ok x)
-      → IsPlanned (PlanOf (bytes_under files) order) → IsSampled seed seconds workers piece items
+      → Does (Ok (Run job vex workers piece)) (bytes_under files) seen moment may_leave before after (Some old) (Some bytes) (Ok x)
+      → IsPlanned (PlanOf (bytes_under files) job vex) → IsSampled seed seconds items
   sampled-does law old bytes items x none same does planned =
-      subst (IsSampled seed seconds workers piece) (sym same)
-      (sampled seen moment may_leave law seed seconds workers piece order files before after bytes same_order same_files blank
-      (subst (λ (o : List ℕ). IsDone (OutcomeFrom (Ok order) (bytes_under files)) (bytes_under files) seen moment may_leave before after (Some o) (Some bytes)) none does.done)
-      planned)
+      subst (IsSampled seed seconds) (sym same)
+      (sampled law bytes
+      (own (λ j v fs. IsDone (OutcomeFrom (Ok (Run j v workers piece)) (bytes_under fs)) (bytes_under fs) seen moment may_leave before after (Some []) (Some bytes)) seed seconds job vex files names same_files
+      (subst (λ (o : List ℕ). IsDone (OutcomeFrom (Ok (Run job vex workers piece)) (bytes_under files)) (bytes_under files) seen moment may_leave before after (Some o) (Some bytes)) none does.done))
+      (own (λ j v fs. IsPlanned (PlanOf (bytes_under fs) j v)) seed seconds job vex files names same_files planned))
 
-  own-cause : (old new : Option (List ℕ)) (r : Refusal) → Does (Ok order) (bytes_under files) seen moment may_leave before after old new (Err r)
-      → IsCauseOf r (OutcomeFrom (Ok (sample_order workers piece)) (sample_shelf seed seconds)) (sample_shelf seed seconds) (may_leave after (moment after)) (seen before) (seen after) old new
-  own-cause old new r does =
-      subst (λ (fs : List (List ℕ × List ℕ)). IsCauseOf r (OutcomeFrom (Ok (sample_order workers piece)) (bytes_under fs)) (bytes_under fs) (may_leave after (moment after)) (seen before) (seen after) old new) same_files
-      (subst (λ (o : Order). IsCauseOf r (OutcomeFrom (Ok o) (bytes_under files)) (bytes_under files) (may_leave after (moment after)) (seen before) (seen after) old new) same_order does.cause)
-
-  pub refused-memory : (old new : Option (List ℕ)) (r : Refusal) → ((answer : Answer) → SampleOf seed seconds workers piece (Err answer) → ⊥) → IsBehindWords r
-      → CountsReadsBeside {T = Unit {0}} 0 0 (Err r) → Does (Ok order) (bytes_under files) seen moment may_leave before after old new (Err r) → IsOfMemory r
+  pub refused-memory : (old new : Option (List ℕ)) (r : Refusal) → ((answer : Answer) → SampleOf seed seconds (Err answer) → ⊥) → IsBehindWords r
+      → CountsReadsBeside {T = Unit {0}} 0 0 (Err r) → Does (Ok (Run job vex workers piece)) (bytes_under files) seen moment may_leave before after old new (Err r) → IsOfMemory r
   refused-memory old new r none behind reads does =
       of-memory (sample_shelf seed seconds) (codes "job") None workers piece (may_leave after (moment after)) (seen before) (seen after) old new r blank none behind reads
-      (own-cause old new r does)
+      (own (λ j v fs. IsCauseOf r (OutcomeFrom (Ok (Run j v workers piece)) (bytes_under fs)) (bytes_under fs) (may_leave after (moment after)) (seen before) (seen after) old new)
+      seed seconds job vex files names same_files does.cause)

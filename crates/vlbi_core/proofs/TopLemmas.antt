@@ -1,6 +1,6 @@
 -- The status of a call, what it appended, what it left in the journal and its note.
-use Rattle.std.specs.Prelude.{IsErr, IsOk, IsSome}
-use Rattle.std.proofs.Common.{◌≡◌, ◌∙◌, ◌⊎◌, inl, inr, ℕ, ◌+◌, ◌≤◌, true, List, [], ◌++◌, length, Option, Some, None, Result, Ok, Err, refl, sym, ap, subst, arith}
+use Rattle.std.specs.Prelude.{IsErr, IsOk, IsSome, codes}
+use Rattle.std.proofs.Common.{◌≡◌, ◌∙◌, ◌⊎◌, inl, inr, ℕ, ◌+◌, ◌≤◌, Bool, true, false, List, [], ◌++◌, length, Option, Some, None, Result, Ok, Err, refl, sym, ap, subst, arith}
 use Rattle.std.proofs.lemmas.List.{append-nil}
 use Rattle.dev_traits.specs.Fault.{HasRisen}
 use Rattle.dev_traits.specs.Told.{more, WhereTold}
@@ -25,15 +25,15 @@ use Rattle.run_notes.specs.Answers.{Answer, words_answer, journal_answer}
 use Rattle.run_notes.specs.Refusals.{Outcomes, MatchRead, MatchReadOrJournal, MatchJournal, MatchWrite, answer_of, due_answer}
 use Rattle.run_ready.specs.Steps.{Is, Then, answered}
 use Rattle.run_ready.specs.Recordings.{files_answer, recordings_answer}
-use Rattle.run_ready.specs.Outcome.{Wrong, PlanBy, SurveyOf, PlanOf}
+use Rattle.run_ready.specs.Outcome.{Wrong, PlanUnder, SurveyOf, PlanOf}
 use Rattle.run_journal.specs.Extended.{AreFrom, Extends}
 use Rattle.vis_records.specs.Content.{Content}
 use Rattle.vis_records.specs.Dumped.{dump_text}
 use Rattle.run_summary.specs.Summaries.{check_text}
 use Rattle.run_dump.specs.Shown.{RecordsOf}
-use Rattle.sample_job.specs.Sample.{SampleOf, sample_shelf, sample_order}
+use Rattle.sample_job.specs.Sample.{SampleOf, sample_shelf}
 use Rattle.vlbi_core.specs.Sample.{sample_text}
-use Rattle.vlbi_core.specs.Calls.{Call, Task, OfJob, OfText, JobFor, TextFor, TaskFor, identity_for, sizes_for, bodies_for, kept_for, is_run}
+use Rattle.vlbi_core.specs.Calls.{Call, call_of, Task, OfJob, OfText, JobFor, TextFor, TaskFor, identity_for, sizes_for, bodies_for, kept_for}
 use Rattle.vlbi_core.specs.Texts.{IsSums, epochs_for}
 use Rattle.vlbi_core.specs.Run.{IsVerdictStatus, IsDueStatus, IsStatus, IsUsable, IsForeign, IsVerdict, IsAppended, IsWordsLine, IsLineOf, IsNoted}
 use Rattle.vlbi_core.specs.Restart.{IsHonest, Continues, Restarts, IsGenOf}
@@ -49,7 +49,9 @@ AreOne {A} outcomes = (a b : Result A Answer) → outcomes a → outcomes b → 
 
 -- the law of plans
 abbrev pub OneOutcome : Type 0
-OneOutcome = (files : Files) (wrong : Wrong) (order : Order) (a b : Result Plan Answer) → PlanBy files wrong order a → PlanBy files wrong order b → a ≡ b
+OneOutcome =
+    (files : Files) (wrong : Wrong) (job : List ℕ) (vex : Option (List ℕ)) (a b : Result Plan Answer)
+    → PlanUnder files wrong job vex a → PlanUnder files wrong job vex b → a ≡ b
 
 Then-one : {A B : Type 0} (first : Outcomes A) (next : A → Outcomes B) → AreOne first → ((a : A) → AreOne (next a)) → AreOne (Then first next)
 Then-one {A} {B} first next one ones = by
@@ -81,18 +83,17 @@ Then-one {A} {B} first next one ones = by
     by (Err d) (Err e) (inr p) (inl q) = absurd (not p.0 e p.1 q)
     by (Err d) (Err e) (inr p) (inr q) = both (Err d) (Err e) p.0 q.0 p.1 q.1 p.2 q.2
 
-job-one : (order : Order) (plans : Outcomes Plan) → AreOne plans → AreOne (JobFor order plans)
-job-one order plans one (Ok (OfJob a)) (Ok (OfJob b)) p q =
+job-one : (sums : Bool) (job : List ℕ) (vex : Option (List ℕ)) (plans : Outcomes Plan) → AreOne plans → AreOne (JobFor sums job vex plans)
+job-one sums job vex plans one (Ok (OfJob a)) (Ok (OfJob b)) p q =
     let same : Ok a.plan ≡ Ok b.plan = one (Ok a.plan) (Ok b.plan) p.1 q.1 in
-    let one : a.order ≡ b.order = p.0 ∙ sym q.0 in
     let two : a.plan ≡ b.plan = cc in
-    λ i. Ok (OfJob (record { order = one i; plan = two i }))
-job-one order plans one (Ok (OfJob a)) (Ok (OfText text)) p q = absurd q
-job-one order plans one (Ok (OfText text)) b p q = absurd p
-job-one order plans one (Ok (OfJob a)) (Err e) p q = let h : Ok a.plan ≡ Err e = one (Ok a.plan) (Err e) p.1 q in cc
-job-one order plans one (Err d) (Ok (OfJob b)) p q = let h : Ok b.plan ≡ Err d = one (Ok b.plan) (Err d) q.1 p in cc
-job-one order plans one (Err d) (Ok (OfText text)) p q = absurd q
-job-one order plans one (Err d) (Err e) p q =
+    ap (λ (c : Call). Ok (OfJob c)) (p.0 ∙ ap (call_of sums job vex) two ∙ sym q.0)
+job-one sums job vex plans one (Ok (OfJob a)) (Ok (OfText text)) p q = absurd q
+job-one sums job vex plans one (Ok (OfText text)) b p q = absurd p
+job-one sums job vex plans one (Ok (OfJob a)) (Err e) p q = let h : Ok a.plan ≡ Err e = one (Ok a.plan) (Err e) p.1 q in cc
+job-one sums job vex plans one (Err d) (Ok (OfJob b)) p q = let h : Ok b.plan ≡ Err d = one (Ok b.plan) (Err d) q.1 p in cc
+job-one sums job vex plans one (Err d) (Ok (OfText text)) p q = absurd q
+job-one sums job vex plans one (Err d) (Err e) p q =
     let x : Result Plan Answer = Err d in
     let y : Result Plan Answer = Err e in
     let h : x ≡ y = one x y p q in
@@ -121,18 +122,13 @@ abbrev pub OneShown : Type 0
 OneShown = (files : Files) (name : List ℕ) (a b : Result Content Answer) → RecordsOf files name a → RecordsOf files name b → a ≡ b
 
 task-one : OneOutcome → OneShown → (files : Files) (order : Order) → AreOne (TaskFor files order)
-task-one law shown files (Run job vex workers piece) =
-    job-one (Run job vex workers piece) (PlanOf files (Run job vex workers piece)) (law files (recordings_answer files) (Run job vex workers piece))
-task-one law shown files (Status job vex) =
-    job-one (Status job vex) (SurveyOf files (Status job vex)) (law files (files_answer files) (Status job vex))
-task-one law shown files (Plain job vex) =
-    text-one (PlanOf files (Plain job vex)) (λ plan. output plan files) (law files (recordings_answer files) (Plain job vex))
-task-one law shown files (Check job vex) =
-    text-one (PlanOf files (Check job vex)) (λ plan. check_text plan files) (law files (recordings_answer files) (Check job vex))
+task-one law shown files (Run job vex workers piece) = job-one true job vex (PlanOf files job vex) (law files (recordings_answer files) job vex)
+task-one law shown files (Status job vex) = job-one false job vex (SurveyOf files job vex) (law files (files_answer files) job vex)
+task-one law shown files (Plain job vex) = text-one (PlanOf files job vex) (λ plan. output plan files) (law files (recordings_answer files) job vex)
+task-one law shown files (Check job vex) = text-one (PlanOf files job vex) (λ plan. check_text plan files) (law files (recordings_answer files) job vex)
 task-one law shown files (Dump file) = text-one (RecordsOf files file) dump_text (shown files file)
 task-one law shown files (Gen seed seconds workers piece) =
-    text-one (SampleOf seed seconds workers piece) (sample_text seed seconds)
-    (law (sample_shelf seed seconds) (recordings_answer (sample_shelf seed seconds)) (sample_order workers piece))
+    text-one (SampleOf seed seconds) (sample_text seed seconds) (law (sample_shelf seed seconds) (recordings_answer (sample_shelf seed seconds)) (codes "job") None)
 
 pub outcome-one : OneOutcome → OneShown → (wanted : Result Order WordsFault) (files : Files) → AreOne (OutcomeFrom wanted files)
 outcome-one law shown wanted files =
@@ -344,8 +340,8 @@ module _ (outcomes : Outcomes Task) (one : AreOne outcomes) where
       → journal ≡ Some image → IsForeign files b image → ⊥
   opened-not files a b journal image p q opened is foreign =
       let at : IsOpened files (OfJob b) journal = subst (λ (t : Task). IsOpened files t journal) (tasks-same a (OfJob b) p q) opened in
-      let some : IsSome (bodies_for files b image) = told_value journal (λ v. IsSome (bodies_for files b v)) image is (at foreign.uses) in
-      let gone : IsSome no_reading = subst (λ (o : Option (List (List ℕ))). IsSome o) foreign.unread some in
+      let some : IsSome (bodies_for files b image) = told_value journal (λ v. IsSome (bodies_for files b v)) image is at in
+      let gone : IsSome no_reading = subst (λ (o : Option (List (List ℕ))). IsSome o) foreign some in
       cc
 
   pub verdict-done : {D : Type 0} (files : Files) (seen : D → Option (List ℕ)) (moment : D → ℕ) (may_leave : D → ℕ → List ℕ → Type 0) (before after : D) (old new : Option (List ℕ))
@@ -388,15 +384,14 @@ module _ (outcomes : Outcomes Task) (one : AreOne outcomes) where
 
       foreign : (o : Option (List ℕ)) → WhereTold o (λ image. IsOther (identity_for files cause.call) (sizes_for cause.call) image d) → WhereTold o (IsForeign files cause.call)
       foreign None other = tt
-      foreign (Some image) other = record { uses = cause.uses; unread = other.unread }
+      foreign (Some image) other = other.unread
 
       unusable : (task : Task) → outcomes (Ok task) → IsUsable files task before journal_fault → ⊥
       unusable task there usable =
           let same : task ≡ OfJob cause.call = tasks-same task (OfJob cause.call) there cause.outcome in
           let usable_here : IsUsable files (OfJob cause.call) before journal_fault = subst (λ (t : Task). IsUsable files t before journal_fault) same usable in
-          let at = usable_here cause.uses in
-          let unread = (told_value before (λ image. IsOther (identity_for files cause.call) (sizes_for cause.call) image d) at.1.0 at.1.1 cause.other).unread in
-          let gone : IsSome no_reading = subst (λ (o : Option (List (List ℕ))). IsSome o) unread at.1.2 in
+          let unread = (told_value before (λ image. IsOther (identity_for files cause.call) (sizes_for cause.call) image d) usable_here.1.0 usable_here.1.1 cause.other).unread in
+          let gone : IsSome no_reading = subst (λ (o : Option (List (List ℕ))). IsSome o) unread usable_here.1.2 in
           cc
 
   pub verdict-refused : (files : Files) (images : List ℕ → Type 0) (before after old new : Option (List ℕ)) (read_fault journal_fault write_fault P Q R S : Type 0) (r : Refusal)
@@ -431,7 +426,7 @@ module _ (outcomes : Outcomes Task) (one : AreOne outcomes) where
         complete = λ task there _ _ usable.
             let same : task ≡ OfJob cause.call = tasks-same task (OfJob cause.call) there cause.outcome in
             let usable_here : IsUsable files (OfJob cause.call) before journal_fault = subst (λ (t : Task). IsUsable files t before journal_fault) same usable in
-            absurd ((usable_here cause.uses).0 journal);
+            absurd (usable_here.0 journal);
       })
   verdict-refused files images before after old new read_fault journal_fault write_fault P Q R S Write cause reads journal writes = record {
     due = λ is. absurd (due-not 9 9 (inr is) refl (inr (inr (inr (inr refl)))));
@@ -573,7 +568,7 @@ module _ {D : Type 0} (seen : D → Option (List ℕ)) (moment : D → ℕ) (may
 
   pub stays-honest : (outcomes : Outcomes Task) (one : AreOne outcomes) (files : Files) (before after : D) (status : ℕ)
       → Goes outcomes files seen moment may_leave before after
-      → ((call : Call) → outcomes (Ok (OfJob call)) → is_run call.order ≡ true → status ≡ 0 → (image : List ℕ) → may_leave after (moment after) image → kept_for files call image ≡ epochs_for call)
+      → ((call : Call) → outcomes (Ok (OfJob call)) → call.sums ≡ true → status ≡ 0 → (image : List ℕ) → may_leave after (moment after) image → kept_for files call image ≡ epochs_for call)
       → Restarts outcomes files status moment may_leave before after
   stays-honest outcomes one files before after status goes all call there continues =
       let changes = goes-call outcomes one files before after call there goes in
@@ -588,7 +583,7 @@ module _ {D : Type 0} (seen : D → Option (List ℕ)) (moment : D → ℕ) (may
       }
 
   pub all-done : (outcomes : Outcomes Task) (one : AreOne outcomes) (files : Files) (before after : D) (old new : Option (List ℕ)) → IsDone outcomes files seen moment may_leave before after old new
-      → (call : Call) → outcomes (Ok (OfJob call)) → is_run call.order ≡ true → ◌≡◌ {A = ℕ} 0 0 → (image : List ℕ) → may_leave after (moment after) image → kept_for files call image ≡ epochs_for call
+      → (call : Call) → outcomes (Ok (OfJob call)) → call.sums ≡ true → ◌≡◌ {A = ℕ} 0 0 → (image : List ℕ) → may_leave after (moment after) image → kept_for files call image ≡ epochs_for call
   all-done outcomes one files before after old new done call there run zero image now =
       done.all call (tasks-same outcomes one done.task (OfJob call) done.outcome there) run image now
 
@@ -598,7 +593,7 @@ module _ {D : Type 0} (seen : D → Option (List ℕ)) (moment : D → ℕ) (may
   headline-done outcomes one files before after old new law done = by (seen before) law done.sums
     where
       by : (o : Option (List ℕ)) → WhereTold o (may_leave before (moment before))
-          → ((call : Call) → done.task ≡ OfJob call → is_run call.order ≡ true → WhereTold o (λ image. IsHonest files call image → new ≡ more old (output call.plan files)))
+          → ((call : Call) → done.task ≡ OfJob call → call.sums ≡ true → WhereTold o (λ image. IsHonest files call image → new ≡ more old (output call.plan files)))
           → WhereTold o (λ image. (call : Call) → outcomes (Ok (OfJob call)) → Continues files call (may_leave before (moment before)) → ◌≡◌ {A = ℕ} 0 0 → new ≡ more old (output call.plan files))
       by None now sums = tt
       by (Some image) now sums = λ call there continues zero.

@@ -30,20 +30,20 @@ texts_of words = map string_bytes words
 abbrev pub order_in : List (List ℕ) → Result Order WordsFault
 order_in texts = order_of texts
 
--- the commands that sum into the journal, and those that use it
+-- an order of `run`, which sums into the journal
 abbrev pub is_run : Order → Bool
 is_run (Run job vex workers piece) = true
 is_run _ = false
 
-abbrev pub uses_journal : Order → Bool
-uses_journal (Run job vex workers piece) = true
-uses_journal (Status job vex) = true
-uses_journal _ = false
-
--- a command, and the plan of its job
+-- A call on a job and its journal: whether it sums what the journal lacks, the names of the job's text and of the schedule's, and the plan.
 pub record Call : Type 0 where
-  pub order : Order
+  pub sums : Bool
+  pub job : List ℕ
+  pub vex : Option (List ℕ)
   pub plan : Plan
+
+abbrev pub call_of : Bool → List ℕ → Option (List ℕ) → Plan → Call
+call_of sums job vex plan = record { sums = sums; job = job; vex = vex; plan = plan }
 
 -- What a call works on: a job and its journal, or the text that a command appends which leaves the journal alone.
 pub data Task : Type 0 where
@@ -51,10 +51,10 @@ pub data Task : Type 0 where
   OfText : List ℕ → Task
 
 -- the task of a command on a job and its journal, by the plans that its files come to
-abbrev pub JobFor : Order → Outcomes Plan → Outcomes Task
-JobFor order plans (Ok (OfJob call)) = (call.order ≡ order) × plans (Ok call.plan)
-JobFor order plans (Ok (OfText text)) = ⊥
-JobFor order plans (Err answer) = plans (Err answer)
+abbrev pub JobFor : Bool → List ℕ → Option (List ℕ) → Outcomes Plan → Outcomes Task
+JobFor sums job vex plans (Ok (OfJob call)) = (call ≡ call_of sums job vex call.plan) × plans (Ok call.plan)
+JobFor sums job vex plans (Ok (OfText text)) = ⊥
+JobFor sums job vex plans (Err answer) = plans (Err answer)
 
 -- the task of a command that appends a text, by what its files come to
 abbrev pub TextFor : {A : Type 0} → Outcomes A → (A → List ℕ) → Outcomes Task
@@ -64,12 +64,12 @@ TextFor {A} outcomes text (Err answer) = outcomes (Err answer)
 
 -- The task of an order. `status` looks at the lengths of the recordings alone, and `gen` has its own job and recordings.
 abbrev pub TaskFor : Files → Order → Outcomes Task
-TaskFor files (Run job vex workers piece) = JobFor (Run job vex workers piece) (PlanOf files (Run job vex workers piece))
-TaskFor files (Status job vex) = JobFor (Status job vex) (SurveyOf files (Status job vex))
-TaskFor files (Plain job vex) = TextFor (PlanOf files (Plain job vex)) (λ plan. output plan files)
-TaskFor files (Check job vex) = TextFor (PlanOf files (Check job vex)) (λ plan. check_text plan files)
+TaskFor files (Run job vex workers piece) = JobFor true job vex (PlanOf files job vex)
+TaskFor files (Status job vex) = JobFor false job vex (SurveyOf files job vex)
+TaskFor files (Plain job vex) = TextFor (PlanOf files job vex) (λ plan. output plan files)
+TaskFor files (Check job vex) = TextFor (PlanOf files job vex) (λ plan. check_text plan files)
 TaskFor files (Dump file) = TextFor (RecordsOf files file) dump_text
-TaskFor files (Gen seed seconds workers piece) = TextFor (SampleOf seed seconds workers piece) (sample_text seed seconds)
+TaskFor files (Gen seed seconds workers piece) = TextFor (SampleOf seed seconds) (sample_text seed seconds)
 
 -- what words and files come to
 abbrev pub OutcomeOf : List (List ℕ) → Files → Outcomes Task
@@ -77,7 +77,7 @@ OutcomeOf texts files = Then (Is (answered words_answer (order_in texts))) (Task
 
 -- the identity of a call's job, and the sizes of its bodies
 abbrev pub identity_for : Files → Call → List ℕ
-identity_for files call = identity_under files call.order call.plan
+identity_for files call = identity_under files call.job call.vex call.plan
 
 abbrev pub sizes_for : Call → List ℕ
 sizes_for call = body_sizes (sizes_of call.plan)

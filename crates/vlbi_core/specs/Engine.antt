@@ -1,4 +1,5 @@
--- The refusals of the engine's parts: an epoch that is summed, a journal that is opened and brought to its end, and its records.
+-- The engine's parts: the names of an order's job, and the refusals where an epoch is summed, a journal opened and brought to its end,
+-- and its records written.
 use Rattle.std.specs.Prelude.{◌≡◌, ◌⊎◌, ⊤, ℕ, ◌+◌, List, Option, None, Some, Result, Ok, Err}
 use Rattle.dev_traits.specs.Told.{WhereTold}
 use Rattle.station_stream.specs.declared.fault.StreamFault.{StreamFault}
@@ -12,8 +13,18 @@ use Rattle.run_journal.specs.declared.fault.ResumeFault.TheVariants.{Memory as R
 use Rattle.run_journal.specs.Refused.{IsOurs, IsJournalFault}
 use Rattle.run_records.specs.declared.fault.EmitFault.{EmitFault}
 use Rattle.run_records.specs.declared.fault.EmitFault.TheVariants.{Memory as EmitMemory, Journal as EmitJournal, Write as EmitWrite}
+use Rattle.run_words.specs.declared.order.Order.{Order}
+use Rattle.run_words.specs.declared.order.Order.TheVariants.{Run, Plain, Check, Status}
 use Rattle.run_notes.specs.declared.refusal.Refusal.{Refusal}
 use Rattle.run_notes.specs.declared.refusal.Refusal.TheVariants.{Memory, Words, Due as DueRefusal, Other, Read, Journal, Write}
+
+-- the names of the job's text and of the schedule's, where an order is for a job
+abbrev pub job_names : Order → Option (List ℕ × Option (List ℕ))
+job_names (Run job vex workers piece) = Some (job, vex)
+job_names (Plain job vex) = Some (job, vex)
+job_names (Check job vex) = Some (job, vex)
+job_names (Status job vex) = Some (job, vex)
+job_names _ = None
 
 -- an epoch that is not summed
 abbrev pub sums_refusal : StreamFault → Refusal

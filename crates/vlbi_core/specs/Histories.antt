@@ -5,19 +5,18 @@ use Rattle.dev_traits.specs.Told.{more, WhereTold}
 use Rattle.corr_model.specs.Files.{Files}
 use Rattle.job_plan.specs.Output.{output}
 use Rattle.checkpoint_journal.specs.Image.{is_blank}
-use Rattle.run_ready.specs.Outcome.{job_names}
-use Rattle.vlbi_core.specs.Calls.{Call, OfJob, OutcomeOf, kept_for, is_run}
+use Rattle.vlbi_core.specs.Calls.{Call, OfJob, OutcomeOf, kept_for}
 use Rattle.vlbi_core.specs.Texts.{epochs_for}
 use Rattle.vlbi_core.specs.Restart.{IsHonest, Restarts, AppendsOutput}
 
 -- These words come to this call of `run`.
 pub record IsRunBy (files : Files) (words : List (List ℕ)) (call : Call) : Type 0 where
   pub outcome : OutcomeOf words files (Ok (OfJob call))
-  pub run : is_run call.order ≡ true
+  pub run : call.sums ≡ true
 
 -- Calls for one job: they name one job text and one schedule, or none. The workers, the piece and the order of the options may differ.
 abbrev pub IsSameJob : Call → Call → Type 0
-IsSameJob a b = job_names a.order ≡ job_names b.order
+IsSameJob a b = (a.job ≡ b.job) × (a.vex ≡ b.vex)
 
 -- How a call ended: in its answer, or in a crash at one of its moments, of which this image is left.
 pub data End : Type 0 where

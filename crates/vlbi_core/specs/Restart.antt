@@ -23,7 +23,7 @@ pub record IsHonest (files : Files) (call : Call) (image : List ℕ) : Type 0 wh
 
 -- A call of `run` continues its job where every image that a crash may leave on entry is honest.
 pub record Continues (files : Files) (call : Call) (images : List ℕ → Type 0) : Type 0 where
-  pub run : is_run call.order ≡ true
+  pub run : call.sums ≡ true
   pub honest : (image : List ℕ) → images image → IsHonest files call image
 
 -- The call ends no earlier than it began, and no moment up to its beginning gets an image that it did not have. Every image of every
@@ -65,8 +65,8 @@ IsGenOf _ = ⊥
 -- What the line of a journal's fault says. Where a call of `run` names k epochs as kept, each image at the end keeps k or k + 1.
 -- Where it names none, nothing was appended, and what the disk reads keeps what it kept. `status` names none.
 pub record SaysKept (files : Files) (call : Call) (line : List ℕ) (images : List ℕ → Type 0) (before after told_old told_new : Option (List ℕ)) : Type 0 where
-  pub named : is_run call.order ≡ true → (k : ℕ) → line ≡ (journal_answer (Some k)).note
+  pub named : call.sums ≡ true → (k : ℕ) → line ≡ (journal_answer (Some k)).note
       → (image : List ℕ) → images image → (kept_for files call image ≡ k) ⊎ (kept_for files call image ≡ k + 1)
-  pub unnamed : is_run call.order ≡ true → line ≡ (journal_answer None).note
+  pub unnamed : call.sums ≡ true → line ≡ (journal_answer None).note
       → (told_new ≡ told_old) × StepTold (KeepsBodies (identity_for files call) (sizes_for call)) before after
-  pub status : is_run call.order ≡ false → (k : ℕ) → ¬ (line ≡ (journal_answer (Some k)).note)
+  pub status : call.sums ≡ false → (k : ℕ) → ¬ (line ≡ (journal_answer (Some k)).note)

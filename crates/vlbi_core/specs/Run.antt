@@ -9,7 +9,7 @@ use Rattle.run_words.specs.declared.fault.WordsFault.{WordsFault}
 use Rattle.run_words.specs.declared.order.Order.{Order}
 use Rattle.run_notes.specs.Answers.{Answer, words_answer, memory_answer, read_answer, journal_answer, write_answer, other_answer}
 use Rattle.run_notes.specs.Refusals.{Outcomes, answer_of}
-use Rattle.vlbi_core.specs.Calls.{Call, Task, OfJob, OfText, identity_for, sizes_for, bodies_for, uses_journal}
+use Rattle.vlbi_core.specs.Calls.{Call, Task, OfJob, OfText, identity_for, sizes_for, bodies_for}
 use Rattle.vlbi_core.specs.Texts.{IsText, IsPart}
 use Rattle.vlbi_core.specs.Restart.{SaysKept, IsNoRun}
 use Rattle.vlbi_core.specs.Steps.{OutcomeFrom}
@@ -26,18 +26,15 @@ IsDueStatus status = (status ≡ 10) ⊎ IsVerdictStatus status
 abbrev pub IsStatus : ℕ → Type 0
 IsStatus status = (status ≡ 0) ⊎ ((status ≡ 1) ⊎ ((status ≡ 7) ⊎ ((status ≡ 8) ⊎ ((status ≡ 9) ⊎ IsDueStatus status))))
 
--- a journal that a task can go on from, where it uses one: its count of faults did not rise, and what a read gives is blank or of
+-- a journal that a task can go on from, where it is on one: its count of faults did not rise, and what a read gives is blank or of
 -- the job's form
 abbrev pub IsUsable : Files → Task → Option (List ℕ) → Type 0 → Type 0
 IsUsable files (OfText text) journal fault = ⊤
-IsUsable files (OfJob call) journal fault =
-    uses_journal call.order ≡ true
-    → (¬ fault) × ((image : List ℕ) × (journal ≡ Some image) × IsSome (bodies_for files call image))
+IsUsable files (OfJob call) journal fault = (¬ fault) × ((image : List ℕ) × (journal ≡ Some image) × IsSome (bodies_for files call image))
 
--- a journal that is neither blank nor of the job's form, where a call uses one
-pub record IsForeign (files : Files) (call : Call) (image : List ℕ) : Type 0 where
-  pub uses : uses_journal call.order ≡ true
-  pub unread : bodies_for files call image ≡ None
+-- a journal that is neither blank nor of the job's form
+abbrev pub IsForeign : Files → Call → List ℕ → Type 0
+IsForeign files call image = bodies_for files call image ≡ None
 
 -- What the status says of what words and files come to, and of what the journal's disk reads on entry. A status of what is wrong
 -- is that of the answer; where an answer refuses, want of memory and a read fault may come before it; status 10 comes of another

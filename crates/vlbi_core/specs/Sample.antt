@@ -9,9 +9,9 @@ use Rattle.gen_summary.specs.Totals.{totals_text}
 use Rattle.sample_job.specs.Sample.{sample_shelf, SampleOf}
 
 -- the bytes are the record file of a plan that the job comes to
-pub record IsSampled (seed seconds workers piece : ℕ) (bytes : List ℕ) : Type 0 where
+pub record IsSampled (seed seconds : ℕ) (bytes : List ℕ) : Type 0 where
   pub plan : Plan
-  pub outcome : SampleOf seed seconds workers piece (Ok plan)
+  pub outcome : SampleOf seed seconds (Ok plan)
   pub ranges : IsPlan plan
   pub few : length plan.scans ≤ 8388608
   pub records : bytes ≡ output plan (sample_shelf seed seconds)

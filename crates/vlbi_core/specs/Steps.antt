@@ -10,14 +10,14 @@ use Rattle.checkpoint_journal.specs.Finding.{IsOther}
 use Rattle.checkpoint_journal.specs.Runs.{Looks, Changes, StepTold, KeepsBodies}
 use Rattle.run_words.specs.declared.fault.WordsFault.{WordsFault}
 use Rattle.run_words.specs.declared.order.Order.{Order}
-use Rattle.run_words.specs.declared.order.Order.TheVariants.{Run, Status, Gen}
+use Rattle.run_words.specs.declared.order.Order.TheVariants.{Run, Gen}
 use Rattle.run_notes.specs.declared.refusal.Refusal.{Refusal}
 use Rattle.run_notes.specs.declared.refusal.Refusal.TheVariants.{Memory, Words, Due as DueRefusal, Other, Read, Journal, Write}
 use Rattle.run_notes.specs.Answers.{words_answer}
 use Rattle.run_notes.specs.Refusals.{Outcomes, IsCause, due_answer}
 use Rattle.run_ready.specs.Steps.{Is, Then, answered}
 use Rattle.run_journal.specs.Extended.{Extends}
-use Rattle.vlbi_core.specs.Calls.{Call, Task, OfJob, OfText, TaskFor, identity_for, sizes_for, bodies_for, kept_for, is_run, uses_journal}
+use Rattle.vlbi_core.specs.Calls.{Call, Task, OfJob, OfText, TaskFor, identity_for, sizes_for, bodies_for, kept_for}
 use Rattle.vlbi_core.specs.Texts.{IsSums, IsText, IsPart, epochs_for}
 use Rattle.vlbi_core.specs.Restart.{IsHonest, IsRunOf, IsNoRun}
 
@@ -40,15 +40,6 @@ abbrev pub IsNumbered : Order → Type 0
 IsNumbered (Run job vex workers piece) = IsWork workers piece
 IsNumbered (Gen seed seconds workers piece) = IsSample seconds × IsWork workers piece
 IsNumbered _ = ⊤
-
--- an order of `run`, and one of `status`
-abbrev pub IsRunOrder : Order → Type 0
-IsRunOrder (Run job vex workers piece) = ⊤
-IsRunOrder _ = ⊥
-
-abbrev pub IsStatusOrder : Order → Type 0
-IsStatusOrder (Status job vex) = ⊤
-IsStatusOrder _ = ⊥
 
 -- what words and files come to, by the order that the words give
 abbrev pub OutcomeFrom : Result Order WordsFault → Files → Outcomes Task
@@ -164,16 +155,15 @@ IsLookedFor id sizes before _ = ⊥
 
 -- ---- causes
 
--- A journal that a task went on from, where it uses one: what a read gave is blank or of the job's form.
+-- The journal that a call on a job went on from: what a read gave is blank or of the job's form.
 abbrev pub IsOpened : Files → Task → Option (List ℕ) → Type 0
 IsOpened files (OfText text) before = ⊤
-IsOpened files (OfJob call) before = uses_journal call.order ≡ true → WhereTold before (λ image. IsSome (bodies_for files call image))
+IsOpened files (OfJob call) before = WhereTold before (λ image. IsSome (bodies_for files call image))
 
--- another job's journal, where a call uses one
+-- another job's journal
 pub record IsOtherCause (outcomes : Outcomes Task) (files : Files) (before : Option (List ℕ)) (d : Differs) : Type 0 where
   pub call : Call
   pub outcome : outcomes (Ok (OfJob call))
-  pub uses : uses_journal call.order ≡ true
   pub other : WhereTold before (λ image. IsOther (identity_for files call) (sizes_for call) image d)
 
 -- What a fault of the journal says in a call of `run`: of each image how many epochs it keeps, or that nothing was appended
@@ -187,9 +177,8 @@ SaysFor None files call images before after old new =
 pub record IsJournalCause (outcomes : Outcomes Task) (files : Files) (images : List ℕ → Type 0) (before after old new : Option (List ℕ)) (kept : Option ℕ) : Type 0 where
   pub call : Call
   pub outcome : outcomes (Ok (OfJob call))
-  pub uses : uses_journal call.order ≡ true
-  pub says : is_run call.order ≡ true → SaysFor kept files call images before after old new
-  pub unnamed : is_run call.order ≡ false → kept ≡ None
+  pub says : call.sums ≡ true → SaysFor kept files call images before after old new
+  pub unnamed : call.sums ≡ false → kept ≡ None
 
 -- a fault of the output comes behind the opening of the journal
 pub record IsWriteCause (outcomes : Outcomes Task) (files : Files) (before : Option (List ℕ)) : Type 0 where
@@ -230,8 +219,8 @@ pub record IsDone {D : Type 0} (outcomes : Outcomes Task) (files : Files) (seen 
   pub text : List ℕ
   pub is : IsText files task (seen before) (seen after) text
   pub told : new ≡ more old text
-  pub all : (call : Call) → task ≡ OfJob call → is_run call.order ≡ true → (image : List ℕ) → may_leave after (moment after) image → kept_for files call image ≡ epochs_for call
-  pub sums : (call : Call) → task ≡ OfJob call → is_run call.order ≡ true → WhereTold (seen before) (λ image. IsHonest files call image → new ≡ more old (output call.plan files))
+  pub all : (call : Call) → task ≡ OfJob call → call.sums ≡ true → (image : List ℕ) → may_leave after (moment after) image → kept_for files call image ≡ epochs_for call
+  pub sums : (call : Call) → task ≡ OfJob call → call.sums ≡ true → WhereTold (seen before) (λ image. IsHonest files call image → new ≡ more old (output call.plan files))
 
 -- A call wrote to the journal: it is one of `run`, what a read of the journal gave on entry is blank or of the job's form, and each
 -- image goes on from one before it with sums of the plan.
@@ -239,7 +228,7 @@ pub record IsRunning {D : Type 0} (outcomes : Outcomes Task) (files : Files) (se
     (before after : D) : Type 0 where
   pub call : Call
   pub outcome : outcomes (Ok (OfJob call))
-  pub run : is_run call.order ≡ true
+  pub run : call.sums ≡ true
   pub opened : WhereTold (seen before) (λ image. IsSome (bodies_for files call image))
   pub changes : Changes seen moment may_leave (Extends (IsSums files call.plan) (identity_for files call) (sizes_for call)) before after
 

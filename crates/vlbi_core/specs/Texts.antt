@@ -1,5 +1,5 @@
 -- What a call appends where it is done.
-use Rattle.std.specs.Prelude.{◌≡◌, ℕ, List, ◌++◌, length, Option, Some, Ok}
+use Rattle.std.specs.Prelude.{◌≡◌, ℕ, Bool, true, false, List, ◌++◌, length, Option, Some, Ok}
 use Rattle.dev_traits.specs.Told.{WhereTold, PrefixMore}
 use Rattle.corr_model.specs.Files.{Files}
 use Rattle.piece_plan.specs.Epochs.{epochs_of}
@@ -7,8 +7,6 @@ use Rattle.job_plan.specs.declared.plan.Plan.{Plan}
 use Rattle.job_epochs.specs.Sizes.{sizes_of}
 use Rattle.job_epochs.specs.Sums.{sums_of}
 use Rattle.checkpoint_journal.specs.Cells.{body_text}
-use Rattle.run_words.specs.declared.order.Order.{Order}
-use Rattle.run_words.specs.declared.order.Order.TheVariants.{Run, Status}
 use Rattle.run_notes.specs.Refusals.{Outcomes}
 use Rattle.run_journal.specs.Extended.{AreFrom}
 use Rattle.run_records.specs.Kept.{kept_text}
@@ -37,12 +35,11 @@ pub record IsRecords (files : Files) (call : Call) (before after text : List ℕ
 -- the text of a task, by what the journal's disk reads before it and after it
 abbrev pub IsText : Files → Task → Option (List ℕ) → Option (List ℕ) → List ℕ → Type 0
 IsText files (OfText written) before after text = text ≡ written
-IsText files (OfJob call) before after text = by call.order
+IsText files (OfJob call) before after text = by call.sums
   where
-    by : Order → Type 0
-    by (Status job vex) = WhereTold before (λ image. text ≡ kept_line (kept_for files call image) (epochs_for call))
-    by (Run job vex workers piece) = WhereTold before (λ old. WhereTold after (λ new. IsRecords files call old new text))
-    by _ = ⊥
+    by : Bool → Type 0
+    by true = WhereTold before (λ old. WhereTold after (λ new. IsRecords files call old new text))
+    by false = WhereTold before (λ image. text ≡ kept_line (kept_for files call image) (epochs_for call))
 
 -- a first part of the text of the task, where there is one
 pub record IsPart (outcomes : Outcomes Task) (files : Files) (before after old new : Option (List ℕ)) : Type 0 where

@@ -1,37 +1,38 @@
 //! What a job and its recordings hold, without a sum.
-ghost use Rattle.std.specs.Prelude.{◌≡◌, IsSome, IfErr};
+ghost use Rattle.std.specs.Prelude.{◌≡◌, IfErr, IfSome, option_copied};
+ghost use Rattle.std.specs.Str.{IsUtf8};
 ghost use Rattle.dev_traits.specs.Told.{WhereTold};
-ghost use Rattle.run_words.specs.Orders.{AreTexts};
 ghost use Rattle.run_notes.specs.Counted.{CountsReads, CountsWrites};
-ghost use Rattle.run_ready.specs.Outcome.{job_names, PlanOf};
+ghost use Rattle.run_ready.specs.Outcome.{PlanOf};
 ghost use Rattle.run_summary.specs.Summaries.{check_text};
 ghost use Rattle.vlbi_core.specs.Faults.{written_with};
 ghost use Rattle.vlbi_core.specs.Steps.{Tells, IsOfFilesOrOutput, MatchDue};
 
 use dev_traits::{Failed, Shelf, Sink};
+use num_time::Name;
 use run_notes::Refusal;
 use run_ready::prepare;
 use run_summary::write_check;
-use run_words::Order;
 use std::alloc::Global;
 
-/// Appends the summary of the job of an order.
+/// Appends the summary of a job.
 pub fn check_job<F: Shelf, S: Sink>(
     alloc: Global,
-    order: &Order,
+    job: &Name,
+    vex: Option<&Name>,
     shelf: &mut F,
     out: &mut S,
 ) -> Result<(), Refusal>
-    requires job { IsSome (job_names order.now) }
-    requires texts { AreTexts order.now }
+    requires job_text { IsUtf8 job.now }
+    requires vex_text { IfSome vex (λ name. IsUtf8 name.now) }
     ensures same { F.told shelf.new ≡ F.told shelf.old }
-    ensures tells { WhereTold (F.told shelf.old) (λ files. Tells (PlanOf files order.now) (λ plan. check_text plan files) (S.told out.old) (S.told out.new) result) }
+    ensures tells { WhereTold (F.told shelf.old) (λ files. Tells (PlanOf files job.now (option_copied vex)) (λ plan. check_text plan files) (S.told out.old) (S.told out.new) result) }
     ensures nothing { IfErr result (λ r. MatchDue r (S.told out.new ≡ S.told out.old)) }
     ensures stage { IfErr result IsOfFilesOrOutput }
     ensures reads { CountsReads (F.faults shelf.old) (F.faults shelf.new) result }
     ensures writes { CountsWrites (S.faults out.old) (S.faults out.new) result }
 {
-    let ready = prepare(alloc, order, shelf)?;
+    let ready = prepare(alloc, job, vex, shelf)?;
     written(write_check(&ready, out))
 }
 

@@ -1,27 +1,28 @@
 //! A job that is summed into its journal, and its records.
-ghost use Rattle.std.specs.Prelude.{◌≡◌, IfErr, IsSome, Ok, OnOk};
+ghost use Rattle.std.specs.Prelude.{◌≡◌, IfErr, IfSome, Ok, OnOk, option_copied};
+ghost use Rattle.std.specs.Str.{IsUtf8};
 ghost use Rattle.dev_traits.specs.Told.{WhereTold};
-ghost use Rattle.run_words.specs.Orders.{AreTexts};
 ghost use Rattle.run_notes.specs.Counted.{CountsReadsBeside, CountsJournal, CountsWrites};
-ghost use Rattle.run_ready.specs.Outcome.{job_names, PlanOf};
-ghost use Rattle.vlbi_core.specs.Calls.{is_run};
-ghost use Rattle.vlbi_core.specs.Steps.{IsWork, IsRunOrder, IsBehindWords, IsPlanned, Does, Leaves};
+ghost use Rattle.run_ready.specs.Outcome.{PlanOf};
+ghost use Rattle.run_words.specs.declared.order.Order.TheVariants.{Run};
+ghost use Rattle.vlbi_core.specs.Steps.{IsWork, IsBehindWords, IsPlanned, Does, Leaves};
 
 use crate::engine::{emit, resume};
 use dev_traits::{Disk, Gate, Shelf, Sink};
+use num_time::Name;
 use run_notes::Refusal;
 use run_ready::prepare;
 use run_records::laws::sums_make_the_output;
-use run_words::Order;
 use std::alloc::Global;
 use std::thread::Threads;
 
-/// Sums what the journal of an order's job does not keep yet, with `workers` threads and pieces of at most `piece` samples, and
+/// Sums what the journal of a job does not keep yet, with `workers` threads and pieces of at most `piece` samples, and
 /// appends the record file of all that it keeps then. No record is appended before all is summed.
 pub fn correlate_job<R: Threads + Sync, F: Shelf + Send, D: Disk + Send, S: Sink, G: Gate + Sync>(
     rt: &R,
     alloc: Global,
-    order: &Order,
+    job: &Name,
+    vex: Option<&Name>,
     workers: u32,
     piece: u64,
     shelf: &mut F,
@@ -29,21 +30,20 @@ pub fn correlate_job<R: Threads + Sync, F: Shelf + Send, D: Disk + Send, S: Sink
     out: &mut S,
     gate: &G,
 ) -> Result<(), Refusal>
-    requires job { IsSome (job_names order.now) }
-    requires texts { AreTexts order.now }
-    requires run { IsRunOrder order.now }
+    requires job_text { IsUtf8 job.now }
+    requires vex_text { IfSome vex (λ name. IsUtf8 name.now) }
     requires work { IsWork workers piece }
     ensures same { F.told shelf.new ≡ F.told shelf.old }
-    ensures does { WhereTold (F.told shelf.old) (λ files. Does (Ok order.now) files D.seen D.moment D.may_leave journal.old journal.new (S.told out.old) (S.told out.new) result) }
-    ensures planned { OnOk result (WhereTold (F.told shelf.old) (λ files. IsPlanned (PlanOf files order.now))) }
-    ensures leaves { Leaves (Ok order.now) D.seen D.moment D.may_leave journal.old journal.new (S.told out.old) (S.told out.new) result }
+    ensures does { WhereTold (F.told shelf.old) (λ files. Does (Ok (Run job.now (option_copied vex) workers piece)) files D.seen D.moment D.may_leave journal.old journal.new (S.told out.old) (S.told out.new) result) }
+    ensures planned { OnOk result (WhereTold (F.told shelf.old) (λ files. IsPlanned (PlanOf files job.now (option_copied vex)))) }
+    ensures leaves { Leaves (Ok (Run job.now (option_copied vex) workers piece)) D.seen D.moment D.may_leave journal.old journal.new (S.told out.old) (S.told out.new) result }
     ensures stage { IfErr result IsBehindWords }
     ensures reads { CountsReadsBeside (F.faults shelf.old) (F.faults shelf.new) result }
     ensures journal { CountsJournal (D.faults journal.old) (D.faults journal.new) result }
     ensures writes { CountsWrites (S.faults out.old) (S.faults out.new) result }
 {
     sums_make_the_output();
-    let ready = prepare(alloc, order, shelf)?;
+    let ready = prepare(alloc, job, vex, shelf)?;
     let mut kept = resume(rt, alloc, &ready, shelf, journal, workers, piece, gate)?;
     emit(alloc, &ready, &mut kept, journal, out)
 }

@@ -1,6 +1,6 @@
 //! The parts of a call that work on a job which is ready, with the refusals of a call: an epoch is summed, the journal is brought to
 //! the job's end, and its records are written.
-ghost use Rattle.std.specs.Prelude.{◌≡◌, ◌<◌, ◌≤◌, ℕ, List, IfOk, IfErr, length, slice_get};
+ghost use Rattle.std.specs.Prelude.{◌≡◌, ◌<◌, ◌≤◌, ℕ, List, Ok, IfOk, IfErr, IfSome, IsSome, length, slice_get};
 ghost use Rattle.std.specs.Option.{option_map_or};
 ghost use Rattle.dev_traits.specs.Told.{WhereTold};
 ghost use Rattle.piece_plan.specs.Epochs.{epochs_of};
@@ -9,12 +9,18 @@ ghost use Rattle.epoch_run.specs.Sums.{pieces_in_epoch};
 ghost use Rattle.checkpoint_journal.specs.Image.{body_sizes};
 ghost use Rattle.checkpoint_journal.specs.Standing.{Stands, StandsOn};
 ghost use Rattle.checkpoint_journal.specs.Runs.{Changes, Looks, Spares};
+ghost use Rattle.run_words.specs.Orders.{AreTexts};
+ghost use Rattle.run_notes.specs.Refusals.{IsCause};
 ghost use Rattle.run_notes.specs.Counted.{CountsReads, CountsReadsBeside, CountsJournal, CountsWrites};
+ghost use Rattle.run_ready.specs.Outcome.{PlanOf};
+ghost use Rattle.run_ready.specs.Identities.{identity_under};
+ghost use Rattle.run_ready.specs.Stage.{IsOfFiles};
 ghost use Rattle.run_sums.specs.Ahead.{AreSumsOf};
 ghost use Rattle.run_journal.specs.Extended.{IsSummed, Extends};
 ghost use Rattle.run_records.specs.Kept.{Grows, WritesKept};
-ghost use Rattle.vlbi_core.specs.Engine.{sums_refusal, sums_answer, opening_refusal, resume_refusal, resume_answer, emit_refusal, emit_answer, IsRefusedFor, KeepsNamed, IsOfRecords};
+ghost use Rattle.vlbi_core.specs.Engine.{job_names, sums_refusal, sums_answer, opening_refusal, resume_refusal, resume_answer, emit_refusal, emit_answer, IsRefusedFor, KeepsNamed, IsOfRecords};
 
+use crate::order::{job_of, vex_of};
 use atomic_sums::EpochSums;
 use checkpoint_journal::{Journal, OpenFault};
 use dev_traits::{Disk, Gate, Shelf, Sink};
@@ -22,9 +28,25 @@ use ready_job::Ready;
 use run_journal::ResumeFault;
 use run_notes::Refusal;
 use run_records::EmitFault;
+use run_words::Order;
 use station_stream::StreamFault;
 use std::alloc::Global;
 use std::thread::Threads;
+
+/// What the job of an order comes to: its plan, the recordings of its stations, and its identity.
+pub fn prepare<F: Shelf>(alloc: Global, order: &Order, shelf: &mut F) -> Result<Ready, Refusal>
+    requires job { IsSome (job_names order.now) }
+    requires texts { AreTexts order.now }
+    ensures same { F.told shelf.new ≡ F.told shelf.old }
+    ensures plan { IfSome (job_names order.now) (λ names. IfOk result (λ ready. WhereTold (F.told shelf.old) (λ files. PlanOf files names.0 names.1 (Ok ready.plan)))) }
+    ensures recorded { IfOk result (λ ready. WhereTold (F.told shelf.old) (λ files. AreRecorded files ready.plan.stations ready.recordings.items)) }
+    ensures identity { IfSome (job_names order.now) (λ names. IfOk result (λ ready. WhereTold (F.told shelf.old) (λ files. ready.identity ≡ identity_under files names.0 names.1 ready.plan))) }
+    ensures cause { IfSome (job_names order.now) (λ names. IfErr result (λ r. WhereTold (F.told shelf.old) (λ files. IsCause r (PlanOf files names.0 names.1)))) }
+    ensures stage { IfErr result IsOfFiles }
+    ensures counts { CountsReads (F.faults shelf.old) (F.faults shelf.new) result }
+{
+    run_ready::prepare(alloc, job_of(order), vex_of(order), shelf)
+}
 
 /// The sums of epoch `i` of a job, counted from 0 through all its scans and integrations, by `workers` threads, 1 to 64, in pieces of
 /// at most `piece` samples, 64 to 4,194,304: those of the definition, whatever these two are.

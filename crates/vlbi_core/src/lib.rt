@@ -19,6 +19,5 @@ mod status;
 mod sure_shelf;
 mod top;
 
-pub use engine::{correlate, emit, resume};
-pub use run_ready::prepare;
+pub use engine::{correlate, emit, prepare, resume};
 pub use top::run;

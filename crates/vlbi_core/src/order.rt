@@ -1,10 +1,13 @@
 //! The order of a call.
-ghost use Rattle.std.specs.Prelude.{◌≡◌, Ok, IfOk, IfErr};
+ghost use Rattle.std.specs.Prelude.{◌≡◌, Ok, IfOk, IfErr, IfSome, IsSome, option_copied};
+ghost use Rattle.std.specs.Str.{IsUtf8};
 ghost use Rattle.run_words.specs.Orders.{AreTexts};
 ghost use Rattle.vlbi_core.specs.Calls.{texts_of, order_in};
+ghost use Rattle.vlbi_core.specs.Engine.{job_names};
 ghost use Rattle.vlbi_core.specs.Faults.{words_refusal};
 ghost use Rattle.vlbi_core.specs.Steps.{IsNumbered, IsOfWords};
 
+use num_time::Name;
 use run_notes::Refusal;
 use run_words::{Order, WordsFault, read_words};
 use std::alloc::Global;
@@ -29,5 +32,37 @@ fn words_refusal(fault: WordsFault) -> Refusal
     match fault {
         WordsFault::Memory => Refusal::Memory,
         _ => Refusal::Words(fault),
+    }
+}
+
+/// The name of an order's job.
+pub fn job_of(order: &Order) -> &Name
+    requires job { IsSome (job_names order.now) }
+    requires texts { AreTexts order.now }
+    ensures name { IfSome (job_names order.now) (λ names. result.now ≡ names.0) }
+    ensures text { IsUtf8 result.now }
+{
+    match order {
+        Order::Run { job, .. } => job,
+        Order::Plain { job, .. } => job,
+        Order::Check { job, .. } => job,
+        Order::Status { job, .. } => job,
+        _ => unreachable!(),
+    }
+}
+
+/// The name of its schedule, where it has one.
+pub fn vex_of(order: &Order) -> Option<&Name>
+    requires job { IsSome (job_names order.now) }
+    requires texts { AreTexts order.now }
+    ensures name { IfSome (job_names order.now) (λ names. option_copied result ≡ names.1) }
+    ensures text { IfSome result (λ vex. IsUtf8 vex.now) }
+{
+    match order {
+        Order::Run { vex, .. } => vex.as_ref(),
+        Order::Plain { vex, .. } => vex.as_ref(),
+        Order::Check { vex, .. } => vex.as_ref(),
+        Order::Status { vex, .. } => vex.as_ref(),
+        _ => unreachable!(),
     }
 }

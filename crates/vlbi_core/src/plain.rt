@@ -2,13 +2,13 @@
 //! next one is read.
 ghost use Rattle.std.specs.Prelude.{◌≡◌, ◌≤◌, ◌<◌, Some, flat_map, length, slice_get, IsSome, IfErr};
 ghost use Rattle.std.specs.List.{range_with_len};
+ghost use Rattle.std.specs.Str.{IsUtf8};
 ghost use Rattle.dev_traits.specs.Told.{WhereTold};
 ghost use Rattle.corr_model.specs.Records.{vis_text};
 ghost use Rattle.job_plan.specs.Output.{head_of, integrations_of, output};
 ghost use Rattle.job_plan.specs.Ranges.{IsPlan, IsScanPlan};
 ghost use Rattle.job_epochs.specs.Added.{width_of};
-ghost use Rattle.run_words.specs.Orders.{AreTexts};
-ghost use Rattle.run_ready.specs.Outcome.{job_names, PlanOf};
+ghost use Rattle.run_ready.specs.Outcome.{PlanOf};
 ghost use Rattle.run_notes.specs.Counted.{CountsReads, CountsWrites};
 ghost use Rattle.station_stream.specs.Recorded.{AreNamed, AreRecorded};
 ghost use Rattle.vis_writer.specs.Cells.{all_cells, widest};
@@ -23,31 +23,32 @@ use dev_traits::{Shelf, Sink};
 use job_plan::{Plan, ScanPlan};
 use plain_sums::sum_integration;
 use ready_job::Ready;
+use num_time::Name;
 use run_notes::Refusal;
 use run_ready::prepare;
-use run_words::Order;
 use station_stream::{Recording, StreamFault};
 use std::alloc::Global;
 use vis_records::{VisHead, write_end, write_head};
 use vis_writer::{WriteFault, head_of_plan, record_count, sunk, widest, write_integration_at};
 
-/// Correlates the job of an order, and keeps nothing of it but the output.
+/// Correlates a job, and keeps nothing of it but the output.
 pub fn plain_job<F: Shelf, S: Sink>(
     alloc: Global,
-    order: &Order,
+    job: &Name,
+    vex: Option<&Name>,
     shelf: &mut F,
     out: &mut S,
 ) -> Result<(), Refusal>
-    requires job { IsSome (job_names order.now) }
-    requires texts { AreTexts order.now }
+    requires job_text { IsUtf8 job.now }
+    requires vex_text { IfSome vex (λ name. IsUtf8 name.now) }
     ensures same { F.told shelf.new ≡ F.told shelf.old }
-    ensures tells { WhereTold (F.told shelf.old) (λ files. Tells (PlanOf files order.now) (λ plan. output plan files) (S.told out.old) (S.told out.new) result) }
+    ensures tells { WhereTold (F.told shelf.old) (λ files. Tells (PlanOf files job.now (option_copied vex)) (λ plan. output plan files) (S.told out.old) (S.told out.new) result) }
     ensures nothing { IfErr result (λ r. MatchDue r (S.told out.new ≡ S.told out.old)) }
     ensures stage { IfErr result IsOfFilesOrOutput }
     ensures reads { CountsReads (F.faults shelf.old) (F.faults shelf.new) result }
     ensures writes { CountsWrites (S.faults out.old) (S.faults out.new) result }
 {
-    let ready = prepare(alloc, order, shelf)?;
+    let ready = prepare(alloc, job, vex, shelf)?;
     write_plan(alloc, &ready, shelf, out)
 }
 

@@ -2,10 +2,9 @@
 ghost use Rattle.std.specs.Prelude.{◌≡◌, ◌≤◌, IfOk, IfErr};
 ghost use Rattle.mem_devices.specs.MemShelfState.{files_of};
 ghost use Rattle.sample_gen.specs.Frames.{recording_of};
-ghost use Rattle.run_words.specs.Orders.{AreTexts};
 ghost use Rattle.run_notes.specs.Counted.{CountsWrites};
 ghost use Rattle.vis_records.specs.Content.{Content, IsRecordFile};
-ghost use Rattle.sample_job.specs.Sample.{SampleOf, sample_files, sample_order};
+ghost use Rattle.sample_job.specs.Sample.{SampleOf, sample_files};
 ghost use Rattle.vlbi_core.specs.Sample.{IsSampled, sample_text};
 ghost use Rattle.vlbi_core.specs.Faults.{written_with};
 ghost use Rattle.vlbi_core.specs.Steps.{IsWork, IsSample, IsOfMemory, IsOfSample, Tells};
@@ -18,7 +17,6 @@ use mem_devices::{MemDisk, MemSink};
 use num_time::Name;
 use run_notes::Refusal;
 use run_ready::laws::one_outcome;
-use run_words::Order;
 use sample_gen::{generate, job_text};
 use sample_job::comes_to_a_plan;
 use std::alloc::{AllocError, Global};
@@ -40,7 +38,7 @@ pub fn total_sample<R: Threads + Sync, S: Sink, G: Gate + Sync>(
 ) -> Result<(), Refusal>
     requires sample { IsSample seconds }
     requires work { IsWork workers piece }
-    ensures tells { Tells (SampleOf seed seconds workers piece) (sample_text seed seconds) (S.told out.old) (S.told out.new) result }
+    ensures tells { Tells (SampleOf seed seconds) (sample_text seed seconds) (S.told out.old) (S.told out.new) result }
     ensures stage { IfErr result IsOfSample }
     ensures writes { CountsWrites (S.faults out.old) (S.faults out.new) result }
 {
@@ -72,18 +70,19 @@ fn sample_records<R: Threads + Sync, G: Gate + Sync>(
 ) -> Result<Vec<u8>, AllocError>
     requires sample { IsSample seconds }
     requires work { IsWork workers piece }
-    ensures { IfOk result (λ bytes. IsSampled seed seconds workers piece bytes.items) }
+    ensures { IfOk result (λ bytes. IsSampled seed seconds bytes.items) }
 {
     one_outcome();
     comes_to_a_plan();
-    let order = sample_order(alloc, workers, piece)?;
+    let job = Name::new(alloc, "job".as_bytes())?;
     let mut shelf = SureShelf::new(alloc, sample_files(alloc, seed, seconds)?);
     let mut journal = MemDisk::new(alloc, Vec::new(alloc), Vec::new(alloc), None)?;
     let mut out = MemSink::new(alloc, usize::MAX, Vec::new(alloc));
     match correlate_job(
         rt,
         alloc,
-        &order,
+        &job,
+        None,
         workers,
         piece,
         &mut shelf,
@@ -109,19 +108,6 @@ fn in_memory(refusal: Refusal) -> AllocError
         Refusal::Other(_) => unreachable!(),
         Refusal::Read => unreachable!(),
     }
-}
-
-// The order that correlates a sample.
-fn sample_order(alloc: Global, workers: u32, piece: u64) -> Result<Order, AllocError>
-    ensures order { IfOk result (λ order. order ≡ sample_order workers piece) }
-    ensures texts { IfOk result AreTexts }
-{
-    Ok(Order::Run {
-        job: Name::new(alloc, "job".as_bytes())?,
-        vex: None,
-        workers,
-        piece,
-    })
 }
 
 // The job of a sample, and its recordings.

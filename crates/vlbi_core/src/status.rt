@@ -1,45 +1,45 @@
 //! How far the journal of a job is.
-ghost use Rattle.std.specs.Prelude.{◌≡◌, ◌≤◌, IfOk, IfErr, IsSome, Ok, length};
+ghost use Rattle.std.specs.Prelude.{◌≡◌, ◌≤◌, IfOk, IfErr, IfSome, Ok, length, option_copied};
+ghost use Rattle.std.specs.Str.{IsUtf8};
 ghost use Rattle.dev_traits.specs.Told.{WhereTold};
 ghost use Rattle.checkpoint_journal.specs.Image.{body_sizes};
 ghost use Rattle.checkpoint_journal.specs.Finding.{ReadsMany};
 ghost use Rattle.checkpoint_journal.specs.Runs.{Looks};
-ghost use Rattle.run_words.specs.Orders.{AreTexts};
+ghost use Rattle.run_words.specs.declared.order.Order.TheVariants.{Status};
 ghost use Rattle.run_notes.specs.Counted.{CountsReads, CountsJournal, CountsWrites};
-ghost use Rattle.run_ready.specs.Outcome.{job_names};
-ghost use Rattle.vlbi_core.specs.Steps.{IsStatusOrder, IsLookedFor, IsBehindWords, IsUnnumbered, Does, Leaves};
+ghost use Rattle.vlbi_core.specs.Steps.{IsLookedFor, IsBehindWords, IsUnnumbered, Does, Leaves};
 
 use crate::check::written;
 use crate::engine::opening_refusal;
 use checkpoint_journal::Journal;
 use dev_traits::{Disk, Shelf, Sink};
+use num_time::Name;
 use run_notes::Refusal;
 use run_ready::{Survey, survey};
 use run_summary::write_kept;
-use run_words::Order;
 use std::alloc::Global;
 
-/// Appends how many epochs of the job of an order its journal keeps. It writes nothing to the journal.
+/// Appends how many epochs of a job its journal keeps. It writes nothing to the journal.
 pub fn journal_status<F: Shelf, D: Disk, S: Sink>(
     alloc: Global,
-    order: &Order,
+    job: &Name,
+    vex: Option<&Name>,
     shelf: &mut F,
     journal: &mut D,
     out: &mut S,
 ) -> Result<(), Refusal>
-    requires job { IsSome (job_names order.now) }
-    requires texts { AreTexts order.now }
-    requires status { IsStatusOrder order.now }
+    requires job_text { IsUtf8 job.now }
+    requires vex_text { IfSome vex (λ name. IsUtf8 name.now) }
     ensures same { F.told shelf.new ≡ F.told shelf.old }
-    ensures does { WhereTold (F.told shelf.old) (λ files. Does (Ok order.now) files D.seen D.moment D.may_leave journal.old journal.new (S.told out.old) (S.told out.new) result) }
-    ensures leaves { Leaves (Ok order.now) D.seen D.moment D.may_leave journal.old journal.new (S.told out.old) (S.told out.new) result }
+    ensures does { WhereTold (F.told shelf.old) (λ files. Does (Ok (Status job.now (option_copied vex))) files D.seen D.moment D.may_leave journal.old journal.new (S.told out.old) (S.told out.new) result) }
+    ensures leaves { Leaves (Ok (Status job.now (option_copied vex))) D.seen D.moment D.may_leave journal.old journal.new (S.told out.old) (S.told out.new) result }
     ensures stage { IfErr result IsBehindWords }
     ensures unnumbered { IfErr result IsUnnumbered }
     ensures reads { CountsReads (F.faults shelf.old) (F.faults shelf.new) result }
     ensures journal { CountsJournal (D.faults journal.old) (D.faults journal.new) result }
     ensures writes { CountsWrites (S.faults out.old) (S.faults out.new) result }
 {
-    let survey = survey(alloc, order, shelf)?;
+    let survey = survey(alloc, job, vex, shelf)?;
     let kept = kept_epochs(alloc, &survey, journal)?;
     written(write_kept(kept, survey.epochs.epochs(), out))
 }

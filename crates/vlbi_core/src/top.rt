@@ -183,12 +183,19 @@ fn command<R: Threads + Sync, F: Shelf + Send, D: Disk + Send, S: Sink, G: Gate 
     ensures writes { CountsWrites (S.faults out.old) (S.faults out.new) result }
 {
     match order {
-        Order::Run { workers, piece, .. } => correlate_job(
-            rt, alloc, order, *workers, *piece, shelf, journal, out, gate,
+        Order::Run {
+            job,
+            vex,
+            workers,
+            piece,
+        } => correlate_job(
+            rt, alloc, job, vex.as_ref(), *workers, *piece, shelf, journal, out, gate,
         ),
-        Order::Plain { .. } => plain_job(alloc, order, shelf, out),
-        Order::Check { .. } => check_job(alloc, order, shelf, out),
-        Order::Status { .. } => journal_status(alloc, order, shelf, journal, out),
+        Order::Plain { job, vex } => plain_job(alloc, job, vex.as_ref(), shelf, out),
+        Order::Check { job, vex } => check_job(alloc, job, vex.as_ref(), shelf, out),
+        Order::Status { job, vex } => {
+            journal_status(alloc, job, vex.as_ref(), shelf, journal, out)
+        }
         Order::Dump { file } => show_records(alloc, file, shelf, out),
         Order::Gen {
             seed,

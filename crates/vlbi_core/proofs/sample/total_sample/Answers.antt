@@ -21,9 +21,9 @@ pub returns-clause-tells : goal.returns-clause-tells
 returns-clause-tells g c =
     let s = c.in_ok-records.ensures in
     let many : c.len.result ≡ length c.in_ok-records.records.items = search rules in
-    subst (λ (q : Result (Unit {0}) Refusal). Tells (SampleOf c.args.seed c.args.seconds c.args.workers c.args.piece) (sample_text c.args.seed c.args.seconds)
+    subst (λ (q : Result (Unit {0}) Refusal). Tells (SampleOf c.args.seed c.args.seconds) (sample_text c.args.seed c.args.seconds)
     (g.S.Sink.told c.args.out.now) (g.S.Sink.told c.write_totals.new.out) q) (sym c.answer.ensures)
-    (sample-totals c.args.seed c.args.seconds c.args.workers c.args.piece c.in_ok-records.records.items c.in_ok-vis.vis (g.S.Sink.told c.args.out.now) (g.S.Sink.told c.write_totals.new.out)
+    (sample-totals c.args.seed c.args.seconds c.in_ok-records.records.items c.in_ok-vis.vis (g.S.Sink.told c.args.out.now) (g.S.Sink.told c.write_totals.new.out)
     (g.S.Sink.faults c.args.out.now) (g.S.Sink.faults c.write_totals.new.out) c.write_totals.result c.one_content.ensures (search rules) s (subst (λ b. IsRecordFile b c.in_ok-vis.vis) c.deref.ensures.value c.in_ok-vis.ensures)
     (subst (λ n. Appends (g.S.Sink.told c.args.out.now) (g.S.Sink.told c.write_totals.new.out) (totals_text c.in_ok-vis.vis n)
     (g.S.Sink.faults c.args.out.now) (g.S.Sink.faults c.write_totals.new.out) c.write_totals.result) many c.write_totals.ensures))

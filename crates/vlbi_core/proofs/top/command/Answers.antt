@@ -1,42 +1,77 @@
-use Rattle.std.proofs.Common.{Ok, sym, subst}
+use Rattle.std.specs.Prelude.{option_copied}
+use Rattle.std.proofs.Common.{◌≡◌, Ok, sym, subst, refl, true, false}
+use Rattle.dev_traits.specs.Told.{WhereTold}
+use Rattle.job_plan.specs.declared.plan.Plan.{Plan}
+use Rattle.job_plan.specs.Output.{output}
+use Rattle.vis_records.specs.Dumped.{dump_text}
+use Rattle.run_summary.specs.Summaries.{check_text}
+use Rattle.run_dump.specs.Shown.{RecordsOf}
 use Rattle.run_words.specs.declared.order.Order.{Order}
+use Rattle.run_words.specs.declared.order.Order.TheVariants.{Run, Plain, Check, Status, Dump, Gen}
+use Rattle.run_ready.specs.Outcome.{PlanOf}
+use Rattle.sample_job.specs.Sample.{SampleOf}
 use Rattle.vis_writer.proofs.WritesLemmas.{where_then, where_always}
+use Rattle.vlbi_core.specs.Calls.{is_run}
 use Rattle.vlbi_core.specs.Restart.{IsGenOf}
-use Rattle.vlbi_core.specs.Steps.{IsRunOrder, Does}
-use Rattle.vlbi_core.proofs.CommandLemmas.{reads-beside, run-not-alone, shows-stage, files-unnumbered, does-check, does-plain, does-dump, does-gen}
+use Rattle.vlbi_core.specs.Sample.{sample_text}
+use Rattle.vlbi_core.specs.Steps.{Does, Leaves}
+use Rattle.vlbi_core.proofs.CommandLemmas.{reads-beside, not_both, shows-stage, shows-tells, files-unnumbered, does-text}
 use Rattle.vlbi_core.proofs.SampleLemmas.{of-files, reads-same}
 use Rattle.vlbi_core.proofs.top.command.Goals as goal
 
+pub returns-in-Run-clause-does : goal.returns-in-Run-clause-does
+returns-in-Run-clause-does g c =
+    let same : c.args.order.now ≡ Run c.in-Run.job.now (option_copied c.as_ref.result) c.in-Run.workers.now c.in-Run.piece.now = cc in
+    subst (λ (o : Order). WhereTold (g.F.Shelf.told c.args.shelf.now) (λ files. Does (Ok o) files g.D.Disk.seen g.D.Disk.moment g.D.Disk.may_leave c.args.journal.now c.correlate_job.new.journal
+    (g.S.Sink.told c.args.out.now) (g.S.Sink.told c.correlate_job.new.out) c.correlate_job.result)) (sym same) c.correlate_job.ensures.does
+
+pub returns-in-Run-clause-leaves : goal.returns-in-Run-clause-leaves
+returns-in-Run-clause-leaves g c =
+    let same : c.args.order.now ≡ Run c.in-Run.job.now (option_copied c.as_ref.result) c.in-Run.workers.now c.in-Run.piece.now = cc in
+    subst (λ (o : Order). Leaves (Ok o) g.D.Disk.seen g.D.Disk.moment g.D.Disk.may_leave c.args.journal.now c.correlate_job.new.journal
+    (g.S.Sink.told c.args.out.now) (g.S.Sink.told c.correlate_job.new.out) c.correlate_job.result) (sym same) c.correlate_job.ensures.leaves
+
+pub returns-in-Status-clause-does : goal.returns-in-Status-clause-does
+returns-in-Status-clause-does g c =
+    let same : c.args.order.now ≡ Status c.in-Status.job.now (option_copied c.as_ref-in-Status.result) = cc in
+    subst (λ (o : Order). WhereTold (g.F.Shelf.told c.args.shelf.now) (λ files. Does (Ok o) files g.D.Disk.seen g.D.Disk.moment g.D.Disk.may_leave c.args.journal.now c.journal_status.new.journal
+    (g.S.Sink.told c.args.out.now) (g.S.Sink.told c.journal_status.new.out) c.journal_status.result)) (sym same) c.journal_status.ensures.does
+
+pub returns-in-Status-clause-leaves : goal.returns-in-Status-clause-leaves
+returns-in-Status-clause-leaves g c =
+    let same : c.args.order.now ≡ Status c.in-Status.job.now (option_copied c.as_ref-in-Status.result) = cc in
+    subst (λ (o : Order). Leaves (Ok o) g.D.Disk.seen g.D.Disk.moment g.D.Disk.may_leave c.args.journal.now c.journal_status.new.journal
+    (g.S.Sink.told c.args.out.now) (g.S.Sink.told c.journal_status.new.out) c.journal_status.result) (sym same) c.journal_status.ensures.leaves
+
 pub returns-in-Check-clause-does : goal.returns-in-Check-clause-does
 returns-in-Check-clause-does g c =
-    where_then (g.F.Shelf.told c.args.shelf.now) _ _
-    (λ files tells. does-check g.D.Disk.seen g.D.Disk.moment g.D.Disk.may_leave files c.args.order.now _ _ c.in-Check.is
-    c.args.journal.now (g.S.Sink.told c.args.out.now) (g.S.Sink.told c.check_job.new.out) c.check_job.result c.check_job.ensures.stage tells)
-    c.check_job.ensures.tells
+    let same : c.args.order.now ≡ Check c.in-Check.job.now (option_copied c.as_ref-in-Check.result) = cc in
+    does-text g.D.Disk.seen g.D.Disk.moment g.D.Disk.may_leave (g.F.Shelf.told c.args.shelf.now) c.args.order.now _
+    (λ files. PlanOf files c.in-Check.job.now (option_copied c.as_ref-in-Check.result)) (λ files (plan : Plan). check_text plan files) same (λ files o p. p)
+    c.args.journal.now (g.S.Sink.told c.args.out.now) (g.S.Sink.told c.check_job.new.out) c.check_job.result c.check_job.ensures.stage c.check_job.ensures.tells
 
 pub returns-in-Plain-clause-does : goal.returns-in-Plain-clause-does
 returns-in-Plain-clause-does g c =
-    where_then (g.F.Shelf.told c.args.shelf.now) _ _
-    (λ files tells. does-plain g.D.Disk.seen g.D.Disk.moment g.D.Disk.may_leave files c.args.order.now _ _ c.in-Plain.is
-    c.args.journal.now (g.S.Sink.told c.args.out.now) (g.S.Sink.told c.plain_job.new.out) c.plain_job.result c.plain_job.ensures.stage tells)
-    c.plain_job.ensures.tells
+    let same : c.args.order.now ≡ Plain c.in-Plain.job.now (option_copied c.as_ref-in-Plain.result) = cc in
+    does-text g.D.Disk.seen g.D.Disk.moment g.D.Disk.may_leave (g.F.Shelf.told c.args.shelf.now) c.args.order.now _
+    (λ files. PlanOf files c.in-Plain.job.now (option_copied c.as_ref-in-Plain.result)) (λ files (plan : Plan). output plan files) same (λ files o p. p)
+    c.args.journal.now (g.S.Sink.told c.args.out.now) (g.S.Sink.told c.plain_job.new.out) c.plain_job.result c.plain_job.ensures.stage c.plain_job.ensures.tells
 
 pub returns-in-Dump-clause-does : goal.returns-in-Dump-clause-does
 returns-in-Dump-clause-does g c =
-    where_then (g.F.Shelf.told c.args.shelf.now) _ _
-    (λ files shows. subst (λ (o : Order). Does (Ok o) files g.D.Disk.seen g.D.Disk.moment g.D.Disk.may_leave c.args.journal.now c.args.journal.now
-    (g.S.Sink.told c.args.out.now) (g.S.Sink.told c.show_records.new.out) c.show_records.result) (sym c.in-Dump.is)
-    (does-dump g.D.Disk.seen g.D.Disk.moment g.D.Disk.may_leave files _ c.args.journal.now (g.S.Sink.told c.args.out.now) (g.S.Sink.told c.show_records.new.out) c.show_records.result
-    c.show_records.ensures.stage shows))
-    c.show_records.ensures.shows
+    does-text g.D.Disk.seen g.D.Disk.moment g.D.Disk.may_leave (g.F.Shelf.told c.args.shelf.now) c.args.order.now _
+    (λ files. RecordsOf files c.in-Dump.file.now) (λ files. dump_text) c.in-Dump.is (λ files o p. p)
+    c.args.journal.now (g.S.Sink.told c.args.out.now) (g.S.Sink.told c.show_records.new.out) c.show_records.result (shows-stage c.show_records.result c.show_records.ensures.stage)
+    (where_then (g.F.Shelf.told c.args.shelf.now) _ _
+    (λ files shows. shows-tells (RecordsOf files c.in-Dump.file.now) (g.S.Sink.told c.args.out.now) (g.S.Sink.told c.show_records.new.out) c.show_records.result c.show_records.ensures.stage shows)
+    c.show_records.ensures.shows)
 
 pub returns-in-Gen-clause-does : goal.returns-in-Gen-clause-does
 returns-in-Gen-clause-does g c =
-    where_always (g.F.Shelf.told c.args.shelf.now) _
-    (λ files. subst (λ (o : Order). Does (Ok o) files g.D.Disk.seen g.D.Disk.moment g.D.Disk.may_leave c.args.journal.now c.args.journal.now
-    (g.S.Sink.told c.args.out.now) (g.S.Sink.told c.total_sample.new.out) c.total_sample.result) (sym c.in-Gen.is)
-    (does-gen g.D.Disk.seen g.D.Disk.moment g.D.Disk.may_leave files _ _ _ _ c.args.journal.now (g.S.Sink.told c.args.out.now) (g.S.Sink.told c.total_sample.new.out) c.total_sample.result
-    (of-files c.total_sample.result c.total_sample.ensures.stage) c.total_sample.ensures.tells))
+    does-text g.D.Disk.seen g.D.Disk.moment g.D.Disk.may_leave (g.F.Shelf.told c.args.shelf.now) c.args.order.now _
+    (λ files. SampleOf c.in-Gen.seed.now c.in-Gen.seconds.now) (λ files. sample_text c.in-Gen.seed.now c.in-Gen.seconds.now) c.in-Gen.is (λ files o p. p)
+    c.args.journal.now (g.S.Sink.told c.args.out.now) (g.S.Sink.told c.total_sample.new.out) c.total_sample.result (of-files c.total_sample.result c.total_sample.ensures.stage)
+    (where_always (g.F.Shelf.told c.args.shelf.now) _ (λ files. c.total_sample.ensures.tells))
 
 pub returns-in-Plain-clause-reads : goal.returns-in-Plain-clause-reads
 returns-in-Plain-clause-reads g c = reads-beside _ _ c.plain_job.result c.plain_job.ensures.reads
@@ -54,13 +89,13 @@ pub returns-in-Gen-clause-reads : goal.returns-in-Gen-clause-reads
 returns-in-Gen-clause-reads g c = reads-beside _ _ c.total_sample.result (reads-same _ c.total_sample.result c.total_sample.ensures.stage)
 
 pub returns-in-Run-clause-alone : goal.returns-in-Run-clause-alone
-returns-in-Run-clause-alone g c = λ alone. absurd (run-not-alone c.args.order.now (subst IsRunOrder (sym c.in-Run.is) tt) alone)
+returns-in-Run-clause-alone g c = λ alone. absurd (not_both true refl (subst (λ (o : Order). is_run o ≡ false) c.in-Run.is alone))
 
 pub returns-in-Gen-clause-alone : goal.returns-in-Gen-clause-alone
 returns-in-Gen-clause-alone g c = λ alone. reads-same _ c.total_sample.result c.total_sample.ensures.stage
 
 pub returns-in-Run-clause-unnumbered : goal.returns-in-Run-clause-unnumbered
-returns-in-Run-clause-unnumbered g c = λ alone. absurd (run-not-alone c.args.order.now (subst IsRunOrder (sym c.in-Run.is) tt) alone)
+returns-in-Run-clause-unnumbered g c = λ alone. absurd (not_both true refl (subst (λ (o : Order). is_run o ≡ false) c.in-Run.is alone))
 
 pub returns-in-Plain-clause-unnumbered : goal.returns-in-Plain-clause-unnumbered
 returns-in-Plain-clause-unnumbered g c = λ alone. files-unnumbered c.plain_job.result c.plain_job.ensures.stage

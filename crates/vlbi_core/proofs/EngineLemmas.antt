@@ -1,6 +1,6 @@
 -- What the engine's parts say of their faults holds of the refusals that these become.
-use Rattle.std.specs.Prelude.{IfOk, IfErr}
-use Rattle.std.proofs.Common.{◌≡◌, ℕ, ◌≤◌, List, Option, None, Some, Result, Ok, Err, ap}
+use Rattle.std.specs.Prelude.{IfOk, IfErr, IfSome}
+use Rattle.std.proofs.Common.{◌≡◌, ℕ, ◌≤◌, List, Option, None, Some, Result, Ok, Err, ap, subst}
 use Rattle.dev_traits.specs.Fault.{HasRisen}
 use Rattle.dev_traits.specs.Told.{WhereTold}
 use Rattle.dev_traits.proofs.ToldLemmas.{WhereTold-weaker}
@@ -120,3 +120,11 @@ emitted-writes before now (Ok x) counts = counts
 emitted-writes before now (Err EmitMemory) counts = counts
 emitted-writes before now (Err (EmitJournal kept)) counts = counts
 emitted-writes before now (Err EmitWrite) counts = counts
+
+-- ---- the job of an order
+
+-- what holds of a job's names holds of those that an order has
+pub by-names : (P : List ℕ → Option (List ℕ) → Type 0) (names : Option (List ℕ × Option (List ℕ))) (job : List ℕ) (vex : Option (List ℕ))
+    → IfSome names (λ n. job ≡ n.0) → IfSome names (λ n. vex ≡ n.1) → P job vex → IfSome names (λ n. P n.0 n.1)
+by-names P None job vex same alike holds = tt
+by-names P (Some n) job vex same alike holds = subst (λ (v : Option (List ℕ)). P n.0 v) alike (subst (λ (j : List ℕ). P j vex) same holds)

@@ -13,10 +13,8 @@ use Rattle.frame_index.specs.Recording.{IsOnShelf, AreOnShelf}
 use Rattle.job_plan.specs.declared.plan.StationPlan.{StationPlan}
 use Rattle.job_plan.specs.declared.plan.Plan.{Plan}
 use Rattle.checkpoint_journal.specs.Identity.{identity_of}
-use Rattle.run_words.specs.declared.order.Order.{Order}
 use Rattle.run_ready.specs.declared.recordings.StationFiles.{StationFiles}
-use Rattle.run_ready.specs.Outcome.{job_names}
-use Rattle.run_ready.specs.Identities.{schedule_text, lengths_of, identity_named, identity_under}
+use Rattle.run_ready.specs.Identities.{lengths_of}
 use Rattle.run_ready.specs.Sizes.{IsSizedBy, AreShelved, sizes_in}
 use Rattle.run_ready.proofs.FilesLemmas.{length-shelved}
 
@@ -117,20 +115,3 @@ identity-there (Some files) schedule job vex name a b id stations scheduled writ
     is
     ∙ ap₂ (λ (v j : List ℕ). identity_of v j (lengths_of files stations))
     (first ∙ sym (bytes_under-there files vex schedule scheduled)) (second ∙ sym (bytes_under-there files name job written))
-
-same_identity : (files : Files) (sizes : List ℕ) (job other : List ℕ) (vex another : Option (List ℕ)) → job ≡ other → vex ≡ another
-    → identity_of (schedule_text files vex) (bytes_under files job) sizes ≡ identity_of (schedule_text files another) (bytes_under files other) sizes
-same_identity files sizes job other vex another same alike =
-    ap₂ (λ (v : Option (List ℕ)) (j : List ℕ). identity_of (schedule_text files v) (bytes_under files j) sizes) alike same
-
-identity_named-names : (files : Files) (names : Option (List ℕ × Option (List ℕ))) (plan : Plan) (job : List ℕ) (vex : Option (List ℕ))
-    → IsSome names → IfSome names (λ n. job ≡ n.0) → IfSome names (λ n. vex ≡ n.1)
-    → identity_of (schedule_text files vex) (bytes_under files job) (lengths_of files plan.stations) ≡ identity_named files names plan
-identity_named-names files None plan job vex there same alike = absurd cc
-identity_named-names files (Some n) plan job vex there same alike = same_identity files (lengths_of files plan.stations) job n.0 vex n.1 same alike
-
--- the identity by the names is the order's
-pub identity_under-names : (files : Files) (order : Order) (plan : Plan) (job : List ℕ) (vex : Option (List ℕ))
-    → IsSome (job_names order) → IfSome (job_names order) (λ names. job ≡ names.0) → IfSome (job_names order) (λ names. vex ≡ names.1)
-    → identity_of (schedule_text files vex) (bytes_under files job) (lengths_of files plan.stations) ≡ identity_under files order plan
-identity_under-names files order = identity_named-names files (job_names order)

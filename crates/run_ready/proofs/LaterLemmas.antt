@@ -1,4 +1,4 @@
--- What an order comes to where its recordings may be wrong besides its files.
+-- What a job comes to where its recordings may be wrong besides its files.
 use Rattle.std.proofs.Common.{◌≡◌, ℕ, true, false, List, Option, None, Some, Result, Ok, Err, refl, sym, ap, subst, inl, inr}
 use Rattle.corr_model.specs.Files.{Files}
 use Rattle.scan_list.specs.declared.scan.Scan.{Scan}
@@ -6,7 +6,6 @@ use Rattle.job_text.specs.Job.{JobFields}
 use Rattle.job_text.specs.Inline.{scans_of}
 use Rattle.job_join.specs.Joined.{joined}
 use Rattle.job_plan.specs.declared.plan.Plan.{Plan}
-use Rattle.run_words.specs.declared.order.Order.{Order}
 use Rattle.run_notes.specs.Answers.{Answer, words_answer, other_answer}
 use Rattle.run_notes.specs.Refusals.{Outcomes, IsCause, due_answer}
 use Rattle.run_notes.specs.declared.refusal.Refusal.{Refusal}
@@ -15,7 +14,7 @@ use Rattle.run_ready.specs.Due.{IsDue}
 use Rattle.run_ready.specs.Steps.{Is, Then, answered, unless, or_else}
 use Rattle.run_ready.specs.Stage.{IsOfFiles}
 use Rattle.run_ready.specs.Recordings.{files_answer, first_foreign, recordings_answer}
-use Rattle.run_ready.specs.Outcome.{job_names, cause_answer, Wrong, Joins, JobOf, ScheduleOf, PlanUnder, PlanNamed, PlanBy, SurveyOf, PlanOf}
+use Rattle.run_ready.specs.Outcome.{cause_answer, Wrong, Joins, JobOf, ScheduleOf, PlanUnder, SurveyOf, PlanOf}
 
 -- another outcome, which is the same where it is an answer
 abbrev Stays : {A : Type 0} → Result A Answer → Result A Answer → Type 0
@@ -52,15 +51,6 @@ PlanUnder-turn files w v job (Some vex) x y stays turns p =
     (λ scans. Then-turn (JobOf files job false) (λ fields. Joins w fields scans) (λ fields. Joins v fields scans) x y stays
     (λ fields. Joins-turn w v fields scans x y stays turns)) p
 
-PlanNamed-turn : (files : Files) (w v : Wrong) (names : Option (List ℕ × Option (List ℕ))) (x y : Result Plan Answer)
-    → Stays x y → Turns w v x y → PlanNamed files w names x → PlanNamed files v names y
-PlanNamed-turn files w v None x y stays turns p = absurd p
-PlanNamed-turn files w v (Some names) x y stays turns p = PlanUnder-turn files w v names.0 names.1 x y stays turns p
-
-PlanBy-turn : (files : Files) (w v : Wrong) (order : Order) (x y : Result Plan Answer)
-    → Stays x y → Turns w v x y → PlanBy files w order x → PlanBy files v order y
-PlanBy-turn files w v order = PlanNamed-turn files w v (job_names order)
-
 -- a plan whose files stand becomes what its recordings come to
 turns-plan : (files : Files) (plan : Plan) (o : Option Answer) → first_foreign files plan.stations ≡ o
     → Turns (files_answer files) (recordings_answer files) (Ok plan) (unless o plan)
@@ -82,31 +72,31 @@ turns-answer files answer other is = by (files_answer files other.stations) is
     by None e = absurd cc
     by (Some told) e = e
 
-pub PlanOf-plan : (files : Files) (order : Order) (plan : Plan) (o : Option Answer) → first_foreign files plan.stations ≡ o
-    → SurveyOf files order (Ok plan) → PlanOf files order (unless o plan)
-PlanOf-plan files order plan o held is =
-    PlanBy-turn files (files_answer files) (recordings_answer files) order (Ok plan) (unless o plan)
+pub PlanOf-plan : (files : Files) (job : List ℕ) (vex : Option (List ℕ)) (plan : Plan) (o : Option Answer) → first_foreign files plan.stations ≡ o
+    → SurveyOf files job vex (Ok plan) → PlanOf files job vex (unless o plan)
+PlanOf-plan files job vex plan o held is =
+    PlanUnder-turn files (files_answer files) (recordings_answer files) job vex (Ok plan) (unless o plan)
     (λ answer e. absurd (cc)) (turns-plan files plan o held) is
 
 -- the cause that a survey is refused for
-pub IsCause-surveyed : (files : Files) (order : Order) (r : Refusal) → IsOfFiles r → IsCause r (SurveyOf files order) → IsCause r (PlanOf files order)
-IsCause-surveyed files order Memory stage cause = tt
-IsCause-surveyed files order (Words fault) stage cause = absurd stage
-IsCause-surveyed files order (DueRefusal due) stage cause =
-    PlanBy-turn files (files_answer files) (recordings_answer files) order (Err (due_answer due)) (Err (due_answer due))
+pub IsCause-surveyed : (files : Files) (job : List ℕ) (vex : Option (List ℕ)) (r : Refusal) → IsOfFiles r → IsCause r (SurveyOf files job vex) → IsCause r (PlanOf files job vex)
+IsCause-surveyed files job vex Memory stage cause = tt
+IsCause-surveyed files job vex (Words fault) stage cause = absurd stage
+IsCause-surveyed files job vex (DueRefusal due) stage cause =
+    PlanUnder-turn files (files_answer files) (recordings_answer files) job vex (Err (due_answer due)) (Err (due_answer due))
     (λ answer e. e) (turns-answer files (due_answer due)) cause
-IsCause-surveyed files order (Other d) stage cause = absurd stage
-IsCause-surveyed files order Read stage cause = tt
-IsCause-surveyed files order (Journal kept) stage cause = absurd stage
-IsCause-surveyed files order Write stage cause = absurd stage
+IsCause-surveyed files job vex (Other d) stage cause = absurd stage
+IsCause-surveyed files job vex Read stage cause = tt
+IsCause-surveyed files job vex (Journal kept) stage cause = absurd stage
+IsCause-surveyed files job vex Write stage cause = absurd stage
 
 -- and the one that its recordings are
-pub IsCause-foreign : (files : Files) (order : Order) (plan : Plan) (r : Refusal) → SurveyOf files order (Ok plan)
-    → IsDue r (first_foreign files plan.stations) → IsCause r (PlanOf files order)
-IsCause-foreign files order plan Memory is due = tt
-IsCause-foreign files order plan (Words fault) is due = PlanOf-plan files order plan (Some (words_answer fault)) due is
-IsCause-foreign files order plan (DueRefusal d) is due = PlanOf-plan files order plan (Some (due_answer d)) due is
-IsCause-foreign files order plan (Other x) is due = PlanOf-plan files order plan (Some (other_answer x)) due is
-IsCause-foreign files order plan Read is due = tt
-IsCause-foreign files order plan (Journal kept) is due = absurd due
-IsCause-foreign files order plan Write is due = absurd due
+pub IsCause-foreign : (files : Files) (job : List ℕ) (vex : Option (List ℕ)) (plan : Plan) (r : Refusal) → SurveyOf files job vex (Ok plan)
+    → IsDue r (first_foreign files plan.stations) → IsCause r (PlanOf files job vex)
+IsCause-foreign files job vex plan Memory is due = tt
+IsCause-foreign files job vex plan (Words fault) is due = PlanOf-plan files job vex plan (Some (words_answer fault)) due is
+IsCause-foreign files job vex plan (DueRefusal d) is due = PlanOf-plan files job vex plan (Some (due_answer d)) due is
+IsCause-foreign files job vex plan (Other x) is due = PlanOf-plan files job vex plan (Some (other_answer x)) due is
+IsCause-foreign files job vex plan Read is due = tt
+IsCause-foreign files job vex plan (Journal kept) is due = absurd due
+IsCause-foreign files job vex plan Write is due = absurd due

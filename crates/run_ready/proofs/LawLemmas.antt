@@ -13,11 +13,10 @@ use Rattle.job_text.specs.Inline.{scans_of}
 use Rattle.job_join.specs.Joined.{joined}
 use Rattle.job_join.specs.declared.fault.Quantity.TheVariants.{Schedule, Job}
 use Rattle.job_plan.specs.declared.plan.Plan.{Plan}
-use Rattle.run_words.specs.declared.order.Order.{Order}
 use Rattle.run_notes.specs.Answers.{Answer, vex_answer, schedule_answer, job_answer}
 use Rattle.run_notes.specs.Refusals.{Outcomes}
 use Rattle.run_ready.specs.Steps.{Is, Then, answered, unless}
-use Rattle.run_ready.specs.Outcome.{job_names, text_under, ScansOf, cause_answer, Wrong, Joins, JobOf, ScheduleOf, PlanUnder, PlanNamed, PlanBy}
+use Rattle.run_ready.specs.Outcome.{text_under, ScansOf, cause_answer, Wrong, Joins, JobOf, ScheduleOf, PlanUnder}
 
 -- there is at most one of these outcomes
 abbrev pub AreOne : {A : Type 0} → Outcomes A → Type 0
@@ -108,17 +107,10 @@ ScheduleOf-one laws files name =
     Then-one (Is (text_under files name Schedule 8388608)) ScansOf (Is-one (text_under files name Schedule 8388608))
     (λ text. ScansOf-one text (laws.one_file text) (laws.one_fault text) (laws.not_both text))
 
-PlanUnder-one : AreLaws → (files : Files) (wrong : Wrong) (job : List ℕ) (vex : Option (List ℕ)) → AreOne (PlanUnder files wrong job vex)
+pub PlanUnder-one : AreLaws → (files : Files) (wrong : Wrong) (job : List ℕ) (vex : Option (List ℕ)) → AreOne (PlanUnder files wrong job vex)
 PlanUnder-one laws files wrong job None =
     Then-one (JobOf files job true) (λ fields. Joins wrong fields (scans_of fields)) (JobOf-one files job true)
     (λ fields. Joins-one wrong fields (scans_of fields))
 PlanUnder-one laws files wrong job (Some vex) =
     Then-one (ScheduleOf files vex) (λ scans. Then (JobOf files job false) (λ fields. Joins wrong fields scans)) (ScheduleOf-one laws files vex)
     (λ scans. Then-one (JobOf files job false) (λ fields. Joins wrong fields scans) (JobOf-one files job false) (λ fields. Joins-one wrong fields scans))
-
-PlanNamed-one : AreLaws → (files : Files) (wrong : Wrong) (names : Option (List ℕ × Option (List ℕ))) → AreOne (PlanNamed files wrong names)
-PlanNamed-one laws files wrong None a b p q = absurd p
-PlanNamed-one laws files wrong (Some names) a b p q = PlanUnder-one laws files wrong names.0 names.1 a b p q
-
-pub PlanBy-one : AreLaws → (files : Files) (wrong : Wrong) (order : Order) → AreOne (PlanBy files wrong order)
-PlanBy-one laws files wrong order = PlanNamed-one laws files wrong (job_names order)

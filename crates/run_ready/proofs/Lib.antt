@@ -6,7 +6,7 @@ pub mod FilesLemmas
 pub mod FirstLemmas
 pub mod RecordingLemmas
 pub mod StepLemmas
-pub mod OrderLemmas
+pub mod StationLemmas
 pub mod LawLemmas
 pub mod IdentityLemmas
 pub mod LaterLemmas

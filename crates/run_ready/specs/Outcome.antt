@@ -1,4 +1,4 @@
--- What an order for a job comes to: the plan of the job, or the answer of the first thing that is wrong.
+-- What a job comes to: its plan, or the answer of the first thing that is wrong.
 use Rattle.std.specs.Prelude.{◌≡◌, ◌⊎◌, ℕ, nat_lt, if◌then◌else◌, Bool, true, false, List, [], length, slice_get, Option, None, Some, Result, Ok, Err}
 use Rattle.std.specs.Option.{option_map_or}
 use Rattle.corr_model.specs.Files.{Files}
@@ -16,22 +16,11 @@ use Rattle.job_join.specs.declared.fault.JoinFault.{JoinFault}
 use Rattle.job_join.specs.declared.fault.JoinFault.TheVariants.{UnknownScan, UnknownStation, RateDiffers, ChannelDiffers, ProductDiffers, FrameRate, NoModel, NoClock, Limit, Memory}
 use Rattle.job_join.specs.Joined.{joined}
 use Rattle.job_plan.specs.declared.plan.Plan.{Plan}
-use Rattle.run_words.specs.declared.order.Order.{Order}
-use Rattle.run_words.specs.declared.order.Order.TheVariants.{Run, Plain, Check, Status, Dump, Gen}
 use Rattle.run_notes.specs.Answers.{Answer, vex_answer, schedule_answer, job_answer, join_answer, limit_answer, no_file_answer}
 use Rattle.run_notes.specs.Refusals.{Outcomes}
 use Rattle.run_ready.specs.Steps.{Is, Then, answered, unless}
 use Rattle.job_plan.specs.declared.plan.StationPlan.{StationPlan}
 use Rattle.run_ready.specs.Recordings.{files_answer, recordings_answer}
-
--- the job's file and the schedule's, where the order is for a job
-abbrev pub job_names : Order → Option (List ℕ × Option (List ℕ))
-job_names (Run job vex workers piece) = Some (job, vex)
-job_names (Plain job vex) = Some (job, vex)
-job_names (Check job vex) = Some (job, vex)
-job_names (Status job vex) = Some (job, vex)
-job_names (Dump file) = None
-job_names (Gen seed seconds workers piece) = None
 
 -- a text under a name: it is there, and has at most so many bytes
 abbrev pub text_under : Files → List ℕ → Quantity → ℕ → Result (List ℕ) Answer
@@ -109,18 +98,10 @@ PlanUnder files wrong job None = Then (JobOf files job true) (λ fields. Joins w
 PlanUnder files wrong job (Some vex) =
     Then (ScheduleOf files vex) (λ scans. Then (JobOf files job false) (λ fields. Joins wrong fields scans))
 
--- the plan of the job with these names; nothing where there are none
-abbrev pub PlanNamed : Files → Wrong → Option (List ℕ × Option (List ℕ)) → Outcomes Plan
-PlanNamed files wrong None outcome = ⊥
-PlanNamed files wrong (Some names) outcome = PlanUnder files wrong names.0 names.1 outcome
+-- the plan of a job, as far as the lengths of its files show
+abbrev pub SurveyOf : Files → List ℕ → Option (List ℕ) → Outcomes Plan
+SurveyOf files job vex = PlanUnder files (files_answer files) job vex
 
-abbrev pub PlanBy : Files → Wrong → Order → Outcomes Plan
-PlanBy files wrong order = PlanNamed files wrong (job_names order)
-
--- the plan of an order for a job, as far as the lengths of its files show
-abbrev pub SurveyOf : Files → Order → Outcomes Plan
-SurveyOf files order = PlanBy files (files_answer files) order
-
--- the plan of an order for a job
-abbrev pub PlanOf : Files → Order → Outcomes Plan
-PlanOf files order = PlanBy files (recordings_answer files) order
+-- the plan of a job
+abbrev pub PlanOf : Files → List ℕ → Option (List ℕ) → Outcomes Plan
+PlanOf files job vex = PlanUnder files (recordings_answer files) job vex

@@ -9,8 +9,8 @@
 
 mod identity;
 mod indexes;
+mod job;
 pub mod laws;
-mod order;
 mod ready;
 mod recordings;
 mod refusals;
@@ -18,7 +18,7 @@ mod scans;
 mod surveys;
 mod texts;
 
-pub use order::survey;
+pub use job::survey;
 pub use ready::prepare;
 pub use recordings::StationFiles;
 pub use surveys::Survey;

@@ -1,10 +1,10 @@
 //! What a command has before its output.
-ghost use Rattle.std.specs.Prelude.{◌≡◌, IfOk, IfErr, OnOk, IsSome, Ok, None};
+ghost use Rattle.std.specs.Prelude.{◌≡◌, IfOk, IfErr, IfSome, OnOk, Ok, None, option_copied};
+ghost use Rattle.std.specs.Str.{IsUtf8};
 ghost use Rattle.dev_traits.specs.Told.{WhereTold};
-ghost use Rattle.run_words.specs.Orders.{AreTexts};
 ghost use Rattle.run_notes.specs.Refusals.{IsCause};
 ghost use Rattle.run_notes.specs.Counted.{CountsReads};
-ghost use Rattle.run_ready.specs.Outcome.{job_names, PlanOf};
+ghost use Rattle.run_ready.specs.Outcome.{PlanOf};
 ghost use Rattle.run_ready.specs.Due.{IsDue};
 ghost use Rattle.run_ready.specs.Recordings.{first_foreign};
 ghost use Rattle.run_ready.specs.Sizes.{AreShelved};
@@ -13,12 +13,12 @@ ghost use Rattle.run_ready.specs.Stage.{IsOfFiles};
 ghost use Rattle.station_stream.specs.Recorded.{AreRecorded};
 
 use crate::indexes::index_all;
-use crate::order::survey;
+use crate::job::survey;
 use crate::surveys::Survey;
 use dev_traits::Shelf;
+use num_time::Name;
 use ready_job::Ready;
 use run_notes::Refusal;
-use run_words::Order;
 use std::alloc::Global;
 
 // What was surveyed, with each station's recording.
@@ -48,18 +48,23 @@ fn indexed<F: Shelf>(alloc: Global, shelf: &mut F, survey: Survey) -> Result<Rea
     })
 }
 
-/// Reads what an order names, and joins and indexes it: what `survey` does, and then each station's index.
-pub fn prepare<F: Shelf>(alloc: Global, order: &Order, shelf: &mut F) -> Result<Ready, Refusal>
-    requires job { IsSome (job_names order.now) }
-    requires texts { AreTexts order.now }
+/// Reads a job, joins and indexes it: what `survey` does, and then each station's index.
+pub fn prepare<F: Shelf>(
+    alloc: Global,
+    job: &Name,
+    vex: Option<&Name>,
+    shelf: &mut F,
+) -> Result<Ready, Refusal>
+    requires job_text { IsUtf8 job.now }
+    requires vex_text { IfSome vex (λ name. IsUtf8 name.now) }
     ensures same { F.told shelf.new ≡ F.told shelf.old }
-    ensures plan { IfOk result (λ ready. WhereTold (F.told shelf.old) (λ files. PlanOf files order.now (Ok ready.plan))) }
+    ensures plan { IfOk result (λ ready. WhereTold (F.told shelf.old) (λ files. PlanOf files job.now (option_copied vex) (Ok ready.plan))) }
     ensures recorded { IfOk result (λ ready. WhereTold (F.told shelf.old) (λ files. AreRecorded files ready.plan.stations ready.recordings.items)) }
-    ensures identity { IfOk result (λ ready. WhereTold (F.told shelf.old) (λ files. ready.identity ≡ identity_under files order.now ready.plan)) }
-    ensures cause { IfErr result (λ r. WhereTold (F.told shelf.old) (λ files. IsCause r (PlanOf files order.now))) }
+    ensures identity { IfOk result (λ ready. WhereTold (F.told shelf.old) (λ files. ready.identity ≡ identity_under files job.now (option_copied vex) ready.plan)) }
+    ensures cause { IfErr result (λ r. WhereTold (F.told shelf.old) (λ files. IsCause r (PlanOf files job.now (option_copied vex)))) }
     ensures stage { IfErr result IsOfFiles }
     ensures counts { CountsReads (F.faults shelf.old) (F.faults shelf.new) result }
 {
-    let survey = survey(alloc, order, shelf)?;
+    let survey = survey(alloc, job, vex, shelf)?;
     indexed(alloc, shelf, survey)
 }

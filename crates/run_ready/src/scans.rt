@@ -1,4 +1,4 @@
-//! The schedule and the job of an order, and the plan that comes of both.
+//! A schedule, a job, and the plan that comes of both.
 ghost use Rattle.std.specs.Prelude.{◌≡◌, ◌≤◌, ◌<◌, ◌^◌, length, IsTrue, IsSome, IfOk, IfErr, Ok, Some};
 ghost use Rattle.std.specs.List.{All};
 ghost use Rattle.std.specs.Str.{IsUtf8};

@@ -1,4 +1,5 @@
 use Rattle.std.proofs.Common.{◌≡◌, ◌∙◌, None, Ok, sym, ap, subst}
+use Rattle.std.specs.Prelude.{option_copied}
 use Rattle.std.proofs.lemmas.Result.{err_from_is_err_and, IfOk-weaker, IfErr-weaker}
 use Rattle.dev_traits.specs.Told.{WhereTold}
 use Rattle.dev_traits.proofs.ToldLemmas.{WhereTold-weaker}
@@ -21,7 +22,7 @@ returns-in_err-survey-clause-cause g c =
     let p = err_from_is_err_and c.from_residual.result c.from_residual.ensures.1 in
     rw (p.1, p.2)
     (WhereTold-weaker (g.F.Shelf.told c.args.shelf.now) _ _
-    (λ files cause. IsCause-surveyed files c.args.order.now c.in_err-survey.field-0.0 c.in_err-survey.ensures.stage cause) c.in_err-survey.ensures.cause)
+    (λ files cause. IsCause-surveyed files c.args.job.now (option_copied c.args.vex) c.in_err-survey.field-0.0 c.in_err-survey.ensures.stage cause) c.in_err-survey.ensures.cause)
 
 pub returns-clause-plan : goal.returns-clause-plan
 returns-clause-plan g c =
@@ -29,7 +30,7 @@ returns-clause-plan g c =
     let plan = c.in_ok-survey.survey.plan in
     IfOk-both c.indexed.result _ (λ _. WhereTold (told c.survey.new.shelf) (λ files. first_foreign files plan.stations ≡ None)) _
     (λ ready same held. WhereTold-then (told c.args.shelf.now) (told c.survey.new.shelf) _ _ _
-    (λ files is none. subst (λ (p : Plan). PlanOf files c.args.order.now (Ok p)) (sym same) (PlanOf-plan files c.args.order.now plan None none is))
+    (λ files is none. subst (λ (p : Plan). PlanOf files c.args.job.now (option_copied c.args.vex) (Ok p)) (sym same) (PlanOf-plan files c.args.job.now (option_copied c.args.vex) plan None none is))
     c.survey.ensures.same c.in_ok-survey.ensures.plan held)
     c.indexed.ensures.plan c.indexed.ensures.agrees
 
@@ -44,7 +45,7 @@ pub returns-clause-identity : goal.returns-clause-identity
 returns-clause-identity g c =
     IfOk-both c.indexed.result _ _ _
     (λ ready same alike. WhereTold-weaker (g.F.Shelf.told c.args.shelf.now) _ _
-    (λ files is. alike ∙ is ∙ ap (λ (p : Plan). identity_under files c.args.order.now p) (sym same)) c.in_ok-survey.ensures.identity)
+    (λ files is. alike ∙ is ∙ ap (λ (p : Plan). identity_under files c.args.job.now (option_copied c.args.vex) p) (sym same)) c.in_ok-survey.ensures.identity)
     c.indexed.ensures.plan c.indexed.ensures.identity
 
 pub returns-clause-cause : goal.returns-clause-cause
@@ -52,6 +53,6 @@ returns-clause-cause g c =
     let told = g.F.Shelf.told in
     IfErr-weaker c.indexed.result _ _
     (λ r due. WhereTold-then (told c.args.shelf.now) (told c.survey.new.shelf) _ _ _
-    (λ files is late. IsCause-foreign files c.args.order.now c.in_ok-survey.survey.plan r is late)
+    (λ files is late. IsCause-foreign files c.args.job.now (option_copied c.args.vex) c.in_ok-survey.survey.plan r is late)
     c.survey.ensures.same c.in_ok-survey.ensures.plan due)
     c.indexed.ensures.due

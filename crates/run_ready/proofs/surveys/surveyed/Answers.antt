@@ -7,7 +7,7 @@ use Rattle.checkpoint_journal.specs.Identity.{identity_of}
 use Rattle.run_ready.specs.Identities.{lengths_of}
 use Rattle.run_ready.specs.Sizes.{HasFiles}
 use Rattle.run_ready.proofs.IdentityLemmas.{sizes_in-shelved}
-use Rattle.run_ready.proofs.OrderLemmas.{HasFiles-plan}
+use Rattle.run_ready.proofs.StationLemmas.{HasFiles-plan}
 use Rattle.run_ready.proofs.surveys.surveyed.Goals as goal
 
 pub files_of-requires-clause-files : goal.files_of-requires-clause-files

@@ -7,7 +7,7 @@ use Rattle.run_ready.specs.Steps.{Is, answered, unless}
 use Rattle.run_ready.specs.Recordings.{files_answer}
 use Rattle.run_ready.specs.Outcome.{cause_answer}
 use Rattle.run_ready.proofs.StepLemmas.{IsOfFiles-texts, MatchRead-texts, IfErr-both, Told-first, Told-next, Told-done}
-use Rattle.run_ready.proofs.order.joins.Goals as goal
+use Rattle.run_ready.proofs.job.joins.Goals as goal
 
 pub returns-in_err-plan-clause-cause : goal.returns-in_err-plan-clause-cause
 returns-in_err-plan-clause-cause g c =

@@ -13,7 +13,7 @@ use Rattle.checkpoint_journal.specs.Identity.{identity_of}
 use Rattle.run_ready.specs.Identities.{lengths_of}
 use Rattle.run_ready.proofs.IdentityLemmas.{bytes_under-there}
 use Rattle.run_ready.proofs.StepLemmas.{IfErr-both, Told-first, Told-next, Told-done}
-use Rattle.run_ready.proofs.order.survey_inline.Goals as goal
+use Rattle.run_ready.proofs.job.survey_inline.Goals as goal
 
 pub returns-in_err-read-clause-cause : goal.returns-in_err-read-clause-cause
 returns-in_err-read-clause-cause g c =

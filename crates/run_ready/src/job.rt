@@ -1,14 +1,13 @@
-//! What an order for a job comes to, before the recordings are looked into.
-ghost use Rattle.std.specs.Prelude.{◌≡◌, ◌≤◌, IsSome, IfOk, IfErr, IfSome, Ok, None, Some, [], length, option_copied};
+//! What a job comes to before its recordings are looked into.
+ghost use Rattle.std.specs.Prelude.{◌≡◌, ◌≤◌, IfOk, IfErr, IfSome, Ok, None, Some, [], length, option_copied};
 ghost use Rattle.std.specs.List.{All};
 ghost use Rattle.std.specs.Str.{IsUtf8};
 ghost use Rattle.dev_traits.specs.Told.{WhereTold};
 ghost use Rattle.corr_model.specs.Files.{bytes_under};
 ghost use Rattle.checkpoint_journal.specs.Identity.{identity_of};
-ghost use Rattle.run_words.specs.Orders.{AreTexts};
 ghost use Rattle.run_notes.specs.Refusals.{IsCause};
 ghost use Rattle.run_notes.specs.Counted.{CountsReads};
-ghost use Rattle.run_ready.specs.Outcome.{job_names, Joins, PlanUnder, SurveyOf};
+ghost use Rattle.run_ready.specs.Outcome.{Joins, PlanUnder, SurveyOf};
 ghost use Rattle.run_ready.specs.Recordings.{files_answer};
 ghost use Rattle.run_ready.specs.Identities.{lengths_of, identity_under};
 ghost use Rattle.run_ready.specs.Sizes.{HasFewFiles, AreShelved};
@@ -20,7 +19,6 @@ use dev_traits::Shelf;
 use job_text::{Job, inline_schedule};
 use num_time::Name;
 use run_notes::Refusal;
-use run_words::Order;
 use scan_list::ScanList;
 use std::alloc::Global;
 
@@ -94,55 +92,25 @@ fn survey_beside<F: Shelf>(
     )
 }
 
-// The name of an order's job.
-fn job_of(order: &Order) -> &Name
-    requires job { IsSome (job_names order.now) }
-    requires texts { AreTexts order.now }
-    ensures name { IfSome (job_names order.now) (λ names. result.now ≡ names.0) }
-    ensures text { IsUtf8 result.now }
-{
-    match order {
-        Order::Run { job, .. } => job,
-        Order::Plain { job, .. } => job,
-        Order::Check { job, .. } => job,
-        Order::Status { job, .. } => job,
-        Order::Dump { .. } => unreachable!(),
-        Order::Gen { .. } => unreachable!(),
-    }
-}
-
-// The name of its schedule, where it has one.
-fn vex_of(order: &Order) -> Option<&Name>
-    requires job { IsSome (job_names order.now) }
-    requires texts { AreTexts order.now }
-    ensures name { IfSome (job_names order.now) (λ names. option_copied result ≡ names.1) }
-    ensures text { IfSome result (λ vex. IsUtf8 vex.now) }
-{
-    match order {
-        Order::Run { vex, .. } => vex.as_ref(),
-        Order::Plain { vex, .. } => vex.as_ref(),
-        Order::Check { vex, .. } => vex.as_ref(),
-        Order::Status { vex, .. } => vex.as_ref(),
-        Order::Dump { .. } => unreachable!(),
-        Order::Gen { .. } => unreachable!(),
-    }
-}
-
-/// Reads what an order names, and joins it: the schedule, if there is one, then the job, then both together, then the sizes of
-/// all recordings, station by station and file by file, and the number of their slots.
-pub fn survey<F: Shelf>(alloc: Global, order: &Order, shelf: &mut F) -> Result<Survey, Refusal>
-    requires job { IsSome (job_names order.now) }
-    requires texts { AreTexts order.now }
+/// Reads a job beside its schedule or, where there is none, by itself, and joins them: the schedule comes first, then the job, then
+/// both together, then the sizes of all recordings, station by station and file by file, and the number of their slots.
+pub fn survey<F: Shelf>(
+    alloc: Global,
+    job: &Name,
+    vex: Option<&Name>,
+    shelf: &mut F,
+) -> Result<Survey, Refusal>
+    requires job_text { IsUtf8 job.now }
+    requires vex_text { IfSome vex (λ name. IsUtf8 name.now) }
     ensures same { F.told shelf.new ≡ F.told shelf.old }
-    ensures plan { IfOk result (λ s. WhereTold (F.told shelf.old) (λ files. SurveyOf files order.now (Ok s.plan))) }
+    ensures plan { IfOk result (λ s. WhereTold (F.told shelf.old) (λ files. SurveyOf files job.now (option_copied vex) (Ok s.plan))) }
     ensures shelved { IfOk result (λ s. WhereTold (F.told shelf.old) (AreShelved s.files.items)) }
-    ensures identity { IfOk result (λ s. WhereTold (F.told shelf.old) (λ files. s.identity ≡ identity_under files order.now s.plan)) }
-    ensures cause { IfErr result (λ r. WhereTold (F.told shelf.old) (λ files. IsCause r (SurveyOf files order.now))) }
+    ensures identity { IfOk result (λ s. WhereTold (F.told shelf.old) (λ files. s.identity ≡ identity_under files job.now (option_copied vex) s.plan)) }
+    ensures cause { IfErr result (λ r. WhereTold (F.told shelf.old) (λ files. IsCause r (SurveyOf files job.now (option_copied vex)))) }
     ensures stage { IfErr result IsOfFiles }
     ensures counts { CountsReads (F.faults shelf.old) (F.faults shelf.new) result }
 {
-    let job = job_of(order);
-    match vex_of(order) {
+    match vex {
         None => survey_inline(alloc, shelf, job),
         Some(vex) => survey_beside(alloc, shelf, job, vex),
     }

@@ -8,7 +8,7 @@ use Rattle.run_ready.specs.Recordings.{files_answer}
 use Rattle.run_ready.proofs.ToldLemmas.{WhereTold-moved}
 use Rattle.run_ready.proofs.IdentityLemmas.{identity-there}
 use Rattle.run_ready.proofs.StepLemmas.{IfErr-both, Told-first, Told-next, Told-done}
-use Rattle.run_ready.proofs.order.survey_beside.Goals as goal
+use Rattle.run_ready.proofs.job.survey_beside.Goals as goal
 
 pub returns-in_err-schedule-clause-cause : goal.returns-in_err-schedule-clause-cause
 returns-in_err-schedule-clause-cause g c =

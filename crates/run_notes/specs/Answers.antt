@@ -12,11 +12,12 @@ use Rattle.vex_schedule.specs.KindName.{kind_name as schedule_fault_name}
 use Rattle.job_text.specs.declared.fault.JobFault.{JobFault}
 use Rattle.job_text.specs.KindName.{kind_name as job_fault_name}
 use Rattle.job_join.specs.declared.fault.JoinFault.{JoinFault}
-use Rattle.job_join.specs.declared.fault.Quantity.{Quantity}
 use Rattle.checkpoint_journal.specs.declared.fault.Differs.{Differs}
 use Rattle.vis_records.specs.declared.fault.VisFault.{VisFault}
 use Rattle.vis_records.specs.KindName.{kind_name as records_fault_name}
-use Rattle.job_join.specs.KindName.{fault_name as join_fault_name, quantity_name}
+use Rattle.job_join.specs.KindName.{fault_name as join_fault_name}
+use Rattle.run_notes.specs.declared.measure.Measure.{Measure}
+use Rattle.run_notes.specs.Measures.{measure_name}
 
 pub record Answer : Type 0 where
   pub status : ℕ
@@ -62,8 +63,8 @@ recording_answer key field = answer 5 (codes "recording: " ∷ key ∷ codes " "
 abbrev pub records_answer : VisFault → Answer
 records_answer fault = answer 5 (codes "records: " ∷ records_fault_name fault.kind ∷ codes " at byte " ∷ decimal fault.at ∷ [])
 
-abbrev pub limit_answer : Quantity → ℕ → Answer
-limit_answer quantity value = answer 6 (codes "limit: " ∷ quantity_name quantity ∷ codes " " ∷ decimal value ∷ [])
+abbrev pub limit_answer : Measure → ℕ → Answer
+limit_answer measure value = answer 6 (codes "limit: " ∷ measure_name measure ∷ codes " " ∷ decimal value ∷ [])
 
 abbrev pub read_answer : Answer
 read_answer = answer 7 (codes "read fault" ∷ [])
@@ -89,3 +90,7 @@ abbrev pub other_answer : Differs → Answer
 other_answer d =
     answer 10
     (codes "other journal at byte " ∷ decimal d.at ∷ codes ": kept " ∷ byte_or_none d.kept ∷ codes ", ours " ∷ byte_or_none d.ours ∷ [])
+
+-- a text that is no right certificate of a record file, and the byte at which it is wrong
+abbrev pub certificate_answer : ℕ → Answer
+certificate_answer at = answer 13 (codes "certificate at byte " ∷ decimal at ∷ [])

@@ -1,3 +1,5 @@
+pub mod Measures
 pub mod Answers
 pub mod Refusals
 pub mod Counted
+pub mod Commands

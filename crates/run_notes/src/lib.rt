@@ -4,8 +4,10 @@
 //! which status and which line each has. Only the making of a refusal with a name takes memory.
 #![tactic(auto)]
 
+mod measure;
 mod notes;
 mod refusal;
 
+pub use measure::Measure;
 pub use notes::{status, write_note};
 pub use refusal::{Due, Refusal};

@@ -38,6 +38,7 @@ fn due_status(due: &Due) -> u8
         Due::Recording(_, _) | Due::Records(_) => 5,
         Due::Limit(_, _) => 6,
         Due::NoFile(_) => 11,
+        Due::Certificate(_) => 13,
     }
 }
 
@@ -105,10 +106,10 @@ fn write_due<N: Sink>(due: &Due, notes: &mut N) -> Result<(), Failed>
             ],
             notes,
         ),
-        Due::Limit(quantity, value) => append_pieces(
+        Due::Limit(measure, value) => append_pieces(
             &[
                 Piece::Text("vlbi: limit: "),
-                Piece::Text(quantity.name()),
+                Piece::Text(measure.name()),
                 Piece::Text(" "),
                 Piece::Wide(*value),
                 Piece::Text("\n"),
@@ -139,6 +140,14 @@ fn write_due<N: Sink>(due: &Due, notes: &mut N) -> Result<(), Failed>
                 Piece::Text(fault.kind.name()),
                 Piece::Text(" at byte "),
                 Piece::Number(fault.at),
+                Piece::Text("\n"),
+            ],
+            notes,
+        ),
+        Due::Certificate(at) => append_pieces(
+            &[
+                Piece::Text("vlbi: certificate at byte "),
+                Piece::Number(*at),
                 Piece::Text("\n"),
             ],
             notes,

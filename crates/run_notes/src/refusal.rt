@@ -1,8 +1,9 @@
 //! Refusals.
 ghost use Rattle.std.specs.Prelude.{◌≡◌};
 
+use crate::measure::Measure;
 use checkpoint_journal::Differs;
-use job_join::{JoinFault, Quantity};
+use job_join::JoinFault;
 use job_text::JobFault;
 use num_time::Name;
 use run_words::WordsFault;
@@ -23,15 +24,18 @@ pub enum Due {
     Job(JobFault),
     /// Job and schedule do not go together: the cause, and the name of the take, station or scan.
     Join(JoinFault, Name),
-    /// A quantity is past its greatest: its value.
-    Limit(Quantity, u128),
+    /// A measure is past its greatest: its value.
+    Limit(Measure, u128),
     /// A named file is not on the shelf.
     NoFile(Name),
     /// A station's recording has slots, and none of them agrees with its shape: the station's key, and the field in which
     /// the first one differs.
     Recording(Name, Field),
-    /// The file that is shown is no record file.
+    /// The file that is read as a record file is none.
     Records(VisFault),
+    /// The text is not a right certificate of the record file: the byte with which its first wrong line begins, or its length
+    /// where a line is missing.
+    Certificate(u64),
 }
 
 /// Why a call did not do what it was asked for.

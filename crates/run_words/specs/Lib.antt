@@ -1,4 +1,5 @@
 pub mod Faults
-pub mod Options
 pub mod Numbers
+pub mod Options
+pub mod Commands
 pub mod Orders

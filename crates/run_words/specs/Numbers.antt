@@ -16,3 +16,11 @@ within least most number = if nat_le least number && nat_le number most then Ok 
 -- the number from `least` to `most` that a text writes
 unfoldable pub number_in : ℕ → ℕ → List ℕ → Result ℕ WordsFault
 number_in least most text = if is_count text then within least most (digits_value 10 text) else Err Value
+
+-- the number of workers, from 1 to 64
+abbrev pub workers_in : List ℕ → Result ℕ WordsFault
+workers_in = number_in 1 64
+
+-- the samples of a piece, from 64 to 4,194,304
+abbrev pub piece_in : List ℕ → Result ℕ WordsFault
+piece_in = number_in 64 4194304

@@ -1,6 +1,7 @@
--- The options of each command, and what words give them, as `clap` defines it.
+-- Options and words of a command, and what words give them, as `clap` defines it.
 use Rattle.std.specs.Prelude.{◌≡◌, ◌⊎◌, true, List, [], ◌∷◌, Option, Some, None, Result, Ok, Err, codes}
-use Rattle.clap.specs.Words.{App, Rule, Row, Text, Kinds, new_app, new_rule, with_rule, fault_of, matches_of, rows_of, found_of}
+use Rattle.std.specs.Option.{option_map_or}
+use Rattle.clap.specs.Words.{App, Rule, Row, Text, Kinds, new_app, new_rule, with_rule, fault_of, matches_of, rows_of, found_of, first_of}
 use Rattle.clap.specs.Simple.{on_top}
 use Rattle.clap.specs.declared.builder.action.ArgAction.TheVariants.{Set}
 use Rattle.clap.specs.declared.parser.matches.ArgMatches.{ArgMatches}
@@ -25,22 +26,9 @@ needed_word name = record (new_rule name) { action = Some Set; required = true }
 abbrev pub bare_app : Text → App
 bare_app name = on_top (λ s. record s { no_binary_name = true }) (new_app name)
 
--- a command on a job, by the names of its file and of the schedule's
-abbrev pub job_app : Text → App
-job_app name = with_rule (with_rule (bare_app name) (needed_option (codes "job"))) (option_rule (codes "vex"))
-
--- the same with the number of workers and the length of a piece
+-- a command with the number of workers and the samples of a piece
 abbrev pub work_app : App → App
 work_app app = with_rule (with_rule app (needed_option (codes "workers"))) (needed_option (codes "piece"))
-
-abbrev pub run_app : App
-run_app = work_app (job_app (codes "run"))
-
-abbrev pub gen_app : App
-gen_app = work_app (with_rule (with_rule (bare_app (codes "gen")) (needed_option (codes "seed"))) (needed_option (codes "seconds")))
-
-abbrev pub dump_app : App
-dump_app = with_rule (bare_app (codes "dump")) (needed_word (codes "file"))
 
 abbrev pub unless_refused : Kinds → List Row → Option (List Row)
 unless_refused [] rows = Some rows
@@ -59,3 +47,17 @@ kind_fault _ = OptionFault
 abbrev pub Parses : Option (List Row) → Result ArgMatches WordsFault → Type 0
 Parses wanted (Ok matches) = wanted ≡ Some (rows_of (found_of matches))
 Parses wanted (Err fault) = (fault ≡ Memory) ⊎ ((fault ≡ OptionFault) × (wanted ≡ None))
+
+-- one step behind another, unless that one ends in a fault
+infixl 10 ◌>>=◌
+abbrev pub ◌>>=◌ : {A B : Type 0} → Result A WordsFault → (A → Result B WordsFault) → Result B WordsFault
+(Ok x) >>= f = f x
+(Err fault) >>= f = Err fault
+
+-- the text of an option or a word that has to be there
+unfoldable pub needed : Text → List Row → Result Text WordsFault
+needed name rows = option_map_or Ok (first_of name rows) (Err OptionFault)
+
+-- what is read of the words that a command takes
+unfoldable pub taken_by : {A : Type 0} → App → (List Row → Result A WordsFault) → List Text → Result A WordsFault
+taken_by app read words = option_map_or read (rows_in app words) (Err OptionFault)

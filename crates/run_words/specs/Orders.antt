@@ -1,69 +1,14 @@
--- The order that words give, or the first fault.
+-- The order that words give, or the first fault, and what an order is that was read.
 use Rattle.read_steps.specs.Steps as steps
-use Rattle.std.specs.Prelude.{◌≡◌, ◌⊎◌, ⊤, ℕ, ◌^◌, ◌-◌, List, [], ◌∷◌, Option, Result, Ok, Err, IfSome, codes, bytes_eq, if◌then◌else◌}
-use Rattle.std.specs.Option.{option_map_or}
+use Rattle.std.specs.Prelude.{ℕ, ◌≤◌, List, [], ◌∷◌, Option, Result, Err, IfSome, codes, bytes_eq, if◌then◌else◌}
 use Rattle.std.specs.Str.{IsUtf8}
-use Rattle.clap.specs.Words.{App, Row, Text, first_of}
+use Rattle.clap.specs.Words.{Text}
 use Rattle.run_words.specs.declared.fault.WordsFault.{WordsFault}
-use Rattle.run_words.specs.declared.fault.WordsFault.TheVariants.{NoCommand, UnknownCommand, Option as OptionFault, Memory}
+use Rattle.run_words.specs.declared.fault.WordsFault.TheVariants.{NoCommand, UnknownCommand, Memory}
 use Rattle.run_words.specs.declared.order.Order.{Order}
-use Rattle.run_words.specs.declared.order.Order.TheVariants.{Run, Plain, Check, Status, Dump, Gen}
-use Rattle.run_words.specs.Numbers.{number_in}
-use Rattle.run_words.specs.Options.{job_app, run_app, gen_app, dump_app, rows_in}
-
-infixl 10 ◌>>=◌
-abbrev pub ◌>>=◌ : {A B : Type 0} → Result A WordsFault → (A → Result B WordsFault) → Result B WordsFault
-(Ok x) >>= f = f x
-(Err fault) >>= f = Err fault
-
--- the text of an option or a word that has to be there
-unfoldable pub needed : Text → List Row → Result Text WordsFault
-needed name rows = option_map_or Ok (first_of name rows) (Err OptionFault)
-
--- the number of workers, from 1 to 64
-abbrev pub workers_in : Text → Result ℕ WordsFault
-workers_in = number_in 1 64
-
--- the samples of a piece, from 64 to 4,194,304
-abbrev pub piece_in : Text → Result ℕ WordsFault
-piece_in = number_in 64 4194304
-
-unfoldable pub run_of : List Row → Result Order WordsFault
-run_of rows =
-    needed (codes "job") rows >>= λ job.
-    needed (codes "workers") rows >>= λ workers_text.
-    needed (codes "piece") rows >>= λ piece_text.
-    workers_in workers_text >>= λ workers.
-    piece_in piece_text >>= λ piece.
-    Ok (Run job (first_of (codes "vex") rows) workers piece)
-
--- the names of a job's file and of its schedule's
-unfoldable pub job_names_of : List Row → Result (Text × Option Text) WordsFault
-job_names_of rows = needed (codes "job") rows >>= λ job. Ok (job, first_of (codes "vex") rows)
-
-unfoldable pub dump_of : List Row → Result Order WordsFault
-dump_of rows = needed (codes "file") rows >>= λ file. Ok (Dump file)
-
--- the seed is below 2^64, and the job lasts 1 to 60 seconds
-unfoldable pub gen_of : List Row → Result Order WordsFault
-gen_of rows =
-    needed (codes "seed") rows >>= λ seed_text.
-    needed (codes "seconds") rows >>= λ seconds_text.
-    needed (codes "workers") rows >>= λ workers_text.
-    needed (codes "piece") rows >>= λ piece_text.
-    number_in 0 (2 ^ 64 - 1) seed_text >>= λ seed.
-    number_in 1 60 seconds_text >>= λ seconds.
-    workers_in workers_text >>= λ workers.
-    piece_in piece_text >>= λ piece.
-    Ok (Gen seed seconds workers piece)
-
--- what is read of the words that a command takes
-unfoldable pub taken_by : {A : Type 0} → App → (List Row → Result A WordsFault) → List Text → Result A WordsFault
-taken_by app read words = option_map_or read (rows_in app words) (Err OptionFault)
-
--- an order of the two names of a job
-abbrev pub job_order : (Text → Option Text → Order) → Text → List Text → Result Order WordsFault
-job_order order command words = taken_by (job_app command) job_names_of words >>= λ names. Ok (order names.0 names.1)
+use Rattle.run_words.specs.declared.order.Order.TheVariants.{Run, Plain, Check, Status, Dump, Gen, Fringe, Verify}
+use Rattle.run_words.specs.Options.{taken_by}
+use Rattle.run_words.specs.Commands.{job_order, run_app, run_of, dump_app, dump_of, gen_app, gen_of, fringe_app, fringe_of, verify_app, verify_of}
 
 -- the order of a command and the words behind it
 unfoldable pub order_after : Text → List Text → Result Order WordsFault
@@ -74,6 +19,8 @@ order_after command words =
     else if bytes_eq command (codes "status") then job_order Status (codes "status") words
     else if bytes_eq command (codes "dump") then taken_by dump_app dump_of words
     else if bytes_eq command (codes "gen") then taken_by gen_app gen_of words
+    else if bytes_eq command (codes "fringe") then taken_by fringe_app fringe_of words
+    else if bytes_eq command (codes "verify") then taken_by verify_app verify_of words
     else Err UnknownCommand
 
 abbrev pub order_of : List Text → Result Order WordsFault
@@ -84,11 +31,37 @@ order_of (command ∷ words) = order_after command words
 abbrev pub Gives : {X : Type 0} → Result X WordsFault → Result X WordsFault → Type 0
 Gives = steps.Gives Memory (λ x. x)
 
--- the names of an order are texts
-abbrev pub AreTexts : Order → Type 0
-AreTexts (Run job vex workers piece) = IsUtf8 job × IfSome vex IsUtf8
-AreTexts (Plain job vex) = IsUtf8 job × IfSome vex IsUtf8
-AreTexts (Check job vex) = IsUtf8 job × IfSome vex IsUtf8
-AreTexts (Status job vex) = IsUtf8 job × IfSome vex IsUtf8
-AreTexts (Dump file) = IsUtf8 file
-AreTexts (Gen seed seconds workers piece) = ⊤
+-- ---- orders that were read
+
+-- the names of a job's file and of its schedule's are texts
+abbrev pub AreNames : Text → Option Text → Type 0
+AreNames job vex = IsUtf8 job × IfSome vex IsUtf8
+
+-- the number of workers and the samples of a piece, in their ranges
+pub record IsWork (workers piece : ℕ) : Type 0 where
+  pub some : 1 ≤ workers
+  pub few : workers ≤ 64
+  pub least : 64 ≤ piece
+  pub most : piece ≤ 4194304
+
+-- the seconds of a generated job, in their range
+pub record IsSample (seconds : ℕ) : Type 0 where
+  pub some : 1 ≤ seconds
+  pub few : seconds ≤ 60
+
+-- the rates on either side of 0 and what divides them, in their ranges
+pub record IsGrid (rates divide : ℕ) : Type 0 where
+  pub few : rates ≤ 4096
+  pub some : 1 ≤ divide
+  pub most : divide ≤ 65536
+
+-- an order whose names are texts, and whose numbers are in their ranges
+abbrev pub IsOrder : Order → Type 0
+IsOrder (Run job vex workers piece) = AreNames job vex × IsWork workers piece
+IsOrder (Plain job vex) = AreNames job vex
+IsOrder (Check job vex) = AreNames job vex
+IsOrder (Status job vex) = AreNames job vex
+IsOrder (Dump file) = IsUtf8 file
+IsOrder (Gen seed seconds workers piece) = IsSample seconds × IsWork workers piece
+IsOrder (Fringe file rates divide) = IsUtf8 file × IsGrid rates divide
+IsOrder (Verify file certificate) = IsUtf8 file × IsUtf8 certificate

@@ -1,115 +1,48 @@
-//! The commands as `clap` knows them, each for the words behind its name.
-ghost use Rattle.std.specs.Prelude.{◌≡◌, IfOk, map, string_bytes, true, false};
-ghost use Rattle.clap.specs.Words.{app_of, rule_of, with_rule, is_simple_and_free};
-ghost use Rattle.run_words.specs.Options.{option_rule, needed_option, needed_word, bare_app, job_app, work_app, run_app, gen_app, dump_app, rows_in, kind_fault, Parses};
+//! The commands, each in a file of its own kind: what `clap` knows of it, and the order that the words behind its name give.
+ghost use Rattle.std.specs.Prelude.{◌≡◌, IfOk, map, string_bytes};
+ghost use Rattle.run_words.specs.Orders.{order_after, Gives, IsOrder};
+
+mod dump;
+mod fringe;
+mod generated;
+mod job;
+mod run;
+mod verify;
 
 use crate::fault::WordsFault;
-use clap::error::ErrorKind;
-use clap::{Arg, ArgAction, ArgMatches, Command};
-use std::alloc::{AllocError, Global};
+use crate::order::Order;
+use std::alloc::Global;
 
-// An option that may be absent.
-fn option<'a>(alloc: Global, name: &'a str) -> Arg<'a>
-    ensures rule { rule_of result ≡ option_rule name.entry.now }
-    ensures local { result.global ≡ false }
+/// The order of a command and the words behind it.
+#[tactic(auto, unfolding(crate::specs::Orders::order_after))]
+pub(crate) fn order_after(
+    alloc: Global,
+    command: &str,
+    words: &[String],
+) -> Result<Order, WordsFault>
+    ensures order { Gives result (order_after command.now (map string_bytes words.now)) }
+    ensures is_order { IfOk result IsOrder }
 {
-    Arg::new(alloc, name).long(name).action(ArgAction::Set)
-}
-
-// An option that has to be there.
-fn needed<'a>(alloc: Global, name: &'a str) -> Arg<'a>
-    ensures rule { rule_of result ≡ needed_option name.entry.now }
-    ensures local { result.global ≡ false }
-{
-    Arg::new(alloc, name)
-        .long(name)
-        .action(ArgAction::Set)
-        .required(true)
-}
-
-// A word that has to be there.
-fn word<'a>(alloc: Global, name: &'a str) -> Arg<'a>
-    ensures rule { rule_of result ≡ needed_word name.entry.now }
-    ensures local { result.global ≡ false }
-{
-    Arg::new(alloc, name).action(ArgAction::Set).required(true)
-}
-
-// A command without options, whose name is none of its words.
-fn bare<'a>(alloc: Global, name: &'a str) -> Command<'a>
-    ensures { app_of result ≡ bare_app name.entry.now }
-{
-    Command::new(alloc, name).no_binary_name(true)
-}
-
-// The command with an option or a word more.
-fn with<'a>(command: Command<'a>, arg: Arg<'a>) -> Result<Command<'a>, AllocError>
-    requires { arg.global ≡ false }
-    ensures { IfOk result (λ more. app_of more ≡ with_rule (app_of command.entry) (rule_of arg.entry)) }
-{
-    command.arg(arg)
-}
-
-// A command on a job: `--job` and `--vex`.
-pub(crate) fn job_command<'a>(alloc: Global, name: &'a str) -> Result<Command<'a>, AllocError>
-    ensures { IfOk result (λ command. app_of command ≡ job_app name.entry.now) }
-{
-    let command = with(bare(alloc, name), needed(alloc, "job"))?;
-    with(command, option(alloc, "vex"))
-}
-
-// The command with `--workers` and `--piece`.
-fn with_work<'a>(alloc: Global, command: Command<'a>) -> Result<Command<'a>, AllocError>
-    ensures { IfOk result (λ more. app_of more ≡ work_app (app_of command.entry)) }
-{
-    let command = with(command, needed(alloc, "workers"))?;
-    with(command, needed(alloc, "piece"))
-}
-
-// The command `run`.
-pub(crate) fn run_command<'a>(alloc: Global) -> Result<Command<'a>, AllocError>
-    ensures { IfOk result (λ command. app_of command ≡ run_app) }
-{
-    let command = job_command(alloc, "run")?;
-    with_work(alloc, command)
-}
-
-// The command `gen`.
-pub(crate) fn gen_command<'a>(alloc: Global) -> Result<Command<'a>, AllocError>
-    ensures { IfOk result (λ command. app_of command ≡ gen_app) }
-{
-    let command = with(bare(alloc, "gen"), needed(alloc, "seed"))?;
-    let command = with(command, needed(alloc, "seconds"))?;
-    with_work(alloc, command)
-}
-
-// The command `dump`.
-pub(crate) fn dump_command<'a>(alloc: Global) -> Result<Command<'a>, AllocError>
-    ensures { IfOk result (λ command. app_of command ≡ dump_app) }
-{
-    with(bare(alloc, "dump"), word(alloc, "file"))
-}
-
-// The fault of a kind of error.
-fn fault_of_kind(kind: ErrorKind) -> WordsFault
-    ensures { result ≡ kind_fault kind }
-{
-    match kind {
-        ErrorKind::OutOfMemory => WordsFault::Memory,
-        _ => WordsFault::Option,
-    }
-}
-
-// What the words are to the command.
-pub(crate) fn parsed<'a>(
-    command: Command<'a>,
-    words: &'a [String],
-) -> Result<ArgMatches<'a>, WordsFault>
-    requires { is_simple_and_free (app_of command) ≡ true }
-    ensures { Parses (rows_in (app_of command.entry) (map string_bytes words.entry.now)) result }
-{
-    match command.try_get_matches_from(words) {
-        Ok(matches) => Ok(matches),
-        Err(error) => Err(fault_of_kind(error.kind())),
+    if command == "run" {
+        run::run_order(alloc, words)
+    } else if command == "plain" {
+        let (job, vex) = job::job_names(alloc, "plain", words)?;
+        Ok(Order::Plain { job, vex })
+    } else if command == "check" {
+        let (job, vex) = job::job_names(alloc, "check", words)?;
+        Ok(Order::Check { job, vex })
+    } else if command == "status" {
+        let (job, vex) = job::job_names(alloc, "status", words)?;
+        Ok(Order::Status { job, vex })
+    } else if command == "dump" {
+        dump::dump_order(alloc, words)
+    } else if command == "gen" {
+        generated::gen_order(alloc, words)
+    } else if command == "fringe" {
+        fringe::fringe_order(alloc, words)
+    } else if command == "verify" {
+        verify::verify_order(alloc, words)
+    } else {
+        Err(WordsFault::UnknownCommand)
     }
 }

@@ -5,9 +5,10 @@
 
 mod commands;
 mod fault;
+mod given;
 mod numbers;
+mod options;
 mod order;
-mod orders;
 mod words;
 
 pub use fault::WordsFault;

@@ -1,7 +1,7 @@
 //! Numbers among the words.
 ghost use Rattle.std.specs.Prelude.{◌≡◌, ◌≤◌, IfOk};
 ghost use Rattle.num_time.specs.Numerals.{are_digits};
-ghost use Rattle.run_words.specs.Numbers.{is_count, number_in, within};
+ghost use Rattle.run_words.specs.Numbers.{is_count, number_in, within, workers_in, piece_in};
 
 use crate::fault::WordsFault;
 
@@ -20,7 +20,7 @@ fn is_count(text: &str) -> bool
     1 <= bytes.len() && bytes.len() <= 20 && are_digits(bytes)
 }
 
-// The number from `least` to `most` that a text writes.
+/// The number from `least` to `most` that a text writes.
 pub(crate) fn number_in(text: &str, least: u64, most: u64) -> Result<u64, WordsFault>
     ensures number { result ≡ number_in least most text.now }
     ensures range { IfOk result (λ number. (least ≤ number) × (number ≤ most)) }
@@ -44,4 +44,21 @@ fn within(number: u64, least: u64, most: u64) -> Result<u64, WordsFault>
     } else {
         Err(WordsFault::Value)
     }
+}
+
+/// The number of workers that a text writes.
+pub(crate) fn workers_in(text: &str) -> Result<u32, WordsFault>
+    ensures number { result ≡ workers_in text.now }
+    ensures range { IfOk result (λ workers. (1 ≤ workers) × (workers ≤ 64)) }
+{
+    let workers = number_in(text, 1, 64)?;
+    Ok(workers as u32)
+}
+
+/// The samples of a piece that a text writes.
+pub(crate) fn piece_in(text: &str) -> Result<u64, WordsFault>
+    ensures number { result ≡ piece_in text.now }
+    ensures range { IfOk result (λ piece. (64 ≤ piece) × (piece ≤ 4194304)) }
+{
+    number_in(text, 64, 4_194_304)
 }

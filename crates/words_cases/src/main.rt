@@ -50,28 +50,33 @@ fn print_order(rt: &impl Print, order: &Order) -> Result<()> {
             print_names(rt, "run", job, vex)?;
             println!(rt; " workers {workers} piece {piece}")?;
         }
-        Order::Plain { job, vex } => {
-            print_names(rt, "plain", job, vex)?;
-            println!(rt; "")?;
-        }
-        Order::Check { job, vex } => {
-            print_names(rt, "check", job, vex)?;
-            println!(rt; "")?;
-        }
-        Order::Status { job, vex } => {
-            print_names(rt, "status", job, vex)?;
-            println!(rt; "")?;
-        }
+        Order::Plain { job, vex } => print_job(rt, "plain", job, vex)?,
+        Order::Check { job, vex } => print_job(rt, "check", job, vex)?,
+        Order::Status { job, vex } => print_job(rt, "status", job, vex)?,
         Order::Dump { file } => println!(rt; "dump file \"{}\"", text_of(file)?)?,
         Order::Gen {
             seed,
             seconds,
             workers,
             piece,
-        } => {
-            println!(rt; "gen seed {seed} seconds {seconds} workers {workers} piece {piece}")?;
+        } => println!(rt; "gen seed {seed} seconds {seconds} workers {workers} piece {piece}")?,
+        Order::Fringe {
+            file,
+            rates,
+            divide,
+        } => println!(rt; "fringe file \"{}\" rates {rates} divide {divide}", text_of(file)?)?,
+        Order::Verify { file, certificate } => {
+            let (file, certificate) = (text_of(file)?, text_of(certificate)?);
+            println!(rt; "verify file \"{file}\" certificate \"{certificate}\"")?;
         }
     }
+    Ok(())
+}
+
+// A command on a job alone.
+fn print_job(rt: &impl Print, command: &str, job: &Name, vex: &Option<Name>) -> Result<()> {
+    print_names(rt, command, job, vex)?;
+    println!(rt; "")?;
     Ok(())
 }
 

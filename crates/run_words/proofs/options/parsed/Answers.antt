@@ -2,7 +2,7 @@ use Rattle.std.proofs.Common.{map, string_bytes}
 use Rattle.std.proofs.lemmas.Bool.{and_parts}
 use Rattle.clap.specs.Words.{app_of}
 use Rattle.run_words.proofs.Parsing.{rows_in-matches, rows_in-refused}
-use Rattle.run_words.proofs.commands.parsed.Goals as goal
+use Rattle.run_words.proofs.options.parsed.Goals as goal
 
 pub returns-in-Ok : goal.returns-in-Ok
 returns-in-Ok c =

@@ -4,4 +4,9 @@ pub mod Sums
 pub mod Peaks
 pub mod Best
 pub mod Phases
+pub mod Certificates
+pub mod Fronts
+pub mod Written
+pub mod Taken
+pub mod Numbers
 pub mod Laws

@@ -14,11 +14,14 @@ pub record IsRate (rates : ℕ) (rate : ℤ) : Type 0 where
   pub least : neg_ℤ (pos rates) ≤ℤ rate
   pub most : rate ≤ℤ pos rates
 
--- The power at (l, r) is not below that at (lag, rate); where both are equal, (l, r) is not behind (lag, rate).
-pub record Leads (power : ℕ → ℤ → ℕ) (l : ℕ) (r : ℤ) (lag : ℕ) (rate : ℤ) : Type 0 where
-  pub most : power lag rate ≤ power l r
-  pub lag_first : power lag rate ≡ power l r → l ≤ lag
-  pub rate_first : power lag rate ≡ power l r → lag ≡ l → r ≤ℤ rate
+-- A power at (l, r) is not below one at (lag, rate); where both are equal, (l, r) is not behind (lag, rate).
+pub record IsAhead (top l : ℕ) (r : ℤ) (power lag : ℕ) (rate : ℤ) : Type 0 where
+  pub most : power ≤ top
+  pub lag_first : power ≡ top → l ≤ lag
+  pub rate_first : power ≡ top → lag ≡ l → r ≤ℤ rate
+
+abbrev pub Leads : (ℕ → ℤ → ℕ) → ℕ → ℤ → ℕ → ℤ → Type 0
+Leads power l r lag rate = IsAhead (power l r) l r (power lag rate) lag rate
 
 -- a lag, by its number, and a rate of the grid, with the sum there
 pub record IsPointOf (s : Series) (g : Grid) (p : Peak) (number : ℕ) : Type 0 where

@@ -93,7 +93,7 @@ fn after_lag(series: &CellSeries, grid: &Grid, lag: u32, best: Point) -> Point
 }
 
 // The best point of all.
-fn best_of(series: &CellSeries, grid: &Grid) -> Point
+pub(crate) fn best_of(series: &CellSeries, grid: &Grid) -> Point
     requires small { IsSmall series.now }
     ensures best { IsBest series.now grid.now series.now.lags 0 result }
 {

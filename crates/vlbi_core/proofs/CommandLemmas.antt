@@ -14,6 +14,7 @@ use Rattle.run_notes.specs.declared.refusal.Refusal.{Refusal}
 use Rattle.run_notes.specs.declared.refusal.Refusal.TheVariants.{Memory, Words, Due as DueRefusal, Other, Read, Journal, Write}
 use Rattle.run_notes.specs.Answers.{Answer, words_answer}
 use Rattle.run_notes.specs.Refusals.{Outcomes, IsCause}
+use Rattle.run_notes.specs.Commands.{IsPartOf, IsPartlyOf, Tells, IsOfFilesOrOutput}
 use Rattle.run_notes.specs.Counted.{CountsReads, CountsReadsBeside}
 use Rattle.run_ready.specs.Steps.{answered}
 use Rattle.run_ready.specs.Outcome.{SurveyOf, PlanOf}
@@ -21,13 +22,10 @@ use Rattle.run_ready.specs.Stage.{IsOfFiles}
 use Rattle.station_stream.specs.declared.recording.Recording.{Recording as StationRecording}
 use Rattle.station_stream.specs.Recorded.{AreRecorded}
 use Rattle.run_summary.specs.Summaries.{check_text}
-use Rattle.vis_records.specs.Content.{Content}
-use Rattle.vis_records.specs.Dumped.{dump_text}
-use Rattle.run_dump.specs.Shown.{Shows, IsOfFilesOrOutput as ShowsStage}
 use Rattle.vlbi_core.specs.Calls.{Call, call_of, Task, OfJob, OfText, JobFor, TextFor, TaskFor, is_run}
 use Rattle.vlbi_core.specs.Texts.{IsPart}
 use Rattle.vlbi_core.specs.Faults.{written_with}
-use Rattle.vlbi_core.specs.Steps.{OutcomeFrom, IsOfWords, IsBehindWords, IsUnnumbered, IsPartOf, IsPartlyOf, Tells, IsOfFilesOrOutput, MatchDue, MatchEarly, IsCauseOf, IsPartly, Does, MatchVerdict, Leaves}
+use Rattle.vlbi_core.specs.Steps.{OutcomeFrom, IsOfWords, IsBehindWords, IsUnnumbered, MatchDue, MatchEarly, IsCauseOf, IsPartly, Does, MatchVerdict, Leaves}
 
 -- an order of a job and its journal, by the plans that its files come to
 abbrev pub IsJobOf : Files → Order → Bool → List ℕ → Option (List ℕ) → Outcomes Plan → Type 0
@@ -82,29 +80,6 @@ words-unnumbered wanted (Other d) of = absurd of
 words-unnumbered wanted Read of = absurd of
 words-unnumbered wanted (Journal kept) of = absurd of
 words-unnumbered wanted Write of = absurd of
-
--- ---- what showing a record file did
-
-pub shows-stage : (result : Result (Unit {0}) Refusal) → IfErr result ShowsStage → IfErr result IsOfFilesOrOutput
-shows-stage (Ok x) stage = tt
-shows-stage (Err Memory) stage = tt
-shows-stage (Err (Words fault)) stage = absurd stage
-shows-stage (Err (DueRefusal due)) stage = tt
-shows-stage (Err (Other d)) stage = absurd stage
-shows-stage (Err Read) stage = tt
-shows-stage (Err (Journal kept)) stage = absurd stage
-shows-stage (Err Write) stage = tt
-
-pub shows-tells : (outcomes : Outcomes Content) (old new : Option (List ℕ)) (result : Result (Unit {0}) Refusal) → IfErr result ShowsStage → Shows outcomes old new result
-    → Tells outcomes dump_text old new result
-shows-tells outcomes old new (Ok x) stage shows = record { done = shows.done; cause = tt; part = tt }
-shows-tells outcomes old new (Err Memory) stage shows = record { done = tt; cause = tt; part = inl shows.part }
-shows-tells outcomes old new (Err (Words fault)) stage shows = record { done = tt; cause = shows.cause; part = shows.part }
-shows-tells outcomes old new (Err (DueRefusal due)) stage shows = record { done = tt; cause = shows.cause; part = shows.part }
-shows-tells outcomes old new (Err (Other d)) stage shows = record { done = tt; cause = shows.cause; part = shows.part }
-shows-tells outcomes old new (Err Read) stage shows = record { done = tt; cause = tt; part = inl shows.part }
-shows-tells outcomes old new (Err (Journal kept)) stage shows = absurd stage
-shows-tells outcomes old new (Err Write) stage shows = record { done = tt; cause = shows.cause; part = shows.part }
 
 pub is_some_at : (o : Option (List (List ℕ))) (bodies : List (List ℕ)) → o ≡ Some bodies → IsSome o
 is_some_at o bodies e = subst (λ (q : Option (List (List ℕ))). IsSome q) (sym e) refl

@@ -11,7 +11,7 @@ use Rattle.job_epochs.specs.Sizes.{sizes_of}
 use Rattle.checkpoint_journal.specs.Image.{is_blank}
 use Rattle.checkpoint_journal.proofs.FindLemmas.{reading-blank}
 use Rattle.run_words.specs.declared.order.Order.{Order}
-use Rattle.run_words.specs.declared.order.Order.TheVariants.{Run, Plain, Check, Status, Dump, Gen}
+use Rattle.run_words.specs.declared.order.Order.TheVariants.{Run, Plain, Check, Status, Dump, Gen, Fringe, Verify}
 use Rattle.run_notes.specs.Answers.{Answer}
 use Rattle.run_ready.specs.Outcome.{PlanOf}
 use Rattle.run_ready.specs.Recordings.{recordings_answer}
@@ -32,6 +32,8 @@ plan-at files (Plain job vex) call there run = absurd there
 plan-at files (Check job vex) call there run = absurd there
 plan-at files (Dump file) call there run = absurd there
 plan-at files (Gen seed seconds workers piece) call there run = absurd there
+plan-at files (Fringe file rates divide) call there run = absurd there
+plan-at files (Verify file certificate) call there run = absurd there
 
 plan-by : (files : Files) (words : List (List ℕ)) (call : Call) → IsRunBy files words call → PlanOf files call.job call.vex (Ok call.plan)
 plan-by files words call by = plan-at files by.outcome.0 call by.outcome.2 by.run

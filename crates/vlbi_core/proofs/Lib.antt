@@ -1,5 +1,4 @@
 pub mod PlainLemmas
-pub mod OrderLemmas
 pub mod ExtendLemmas
 pub mod RecordFileLemmas
 pub mod CommandLemmas

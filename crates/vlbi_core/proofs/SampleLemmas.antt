@@ -19,6 +19,7 @@ use Rattle.run_notes.specs.declared.refusal.Refusal.{Refusal}
 use Rattle.run_notes.specs.declared.refusal.Refusal.TheVariants.{Memory, Words, Due as DueRefusal, Other, Read, Journal, Write}
 use Rattle.run_notes.specs.Answers.{Answer, words_answer}
 use Rattle.run_notes.specs.Refusals.{Outcomes}
+use Rattle.run_notes.specs.Commands.{Tells, IsOfFilesOrOutput}
 use Rattle.run_notes.specs.Counted.{CountsReads, CountsReadsBeside}
 use Rattle.run_ready.specs.Steps.{answered}
 use Rattle.run_ready.specs.Recordings.{recordings_answer}
@@ -29,7 +30,7 @@ use Rattle.vlbi_core.specs.Restart.{IsHonest}
 use Rattle.sample_job.specs.Sample.{sample_files, sample_shelf, SampleOf}
 use Rattle.vlbi_core.specs.Sample.{IsSampled, content_for, sample_text}
 use Rattle.vlbi_core.specs.Faults.{written_with}
-use Rattle.vlbi_core.specs.Steps.{OutcomeFrom, IsBehindWords, IsOfFilesOrOutput, IsCauseOf, IsDone, Does, IsOfSample, IsOfMemory, IsOtherCause, IsPlanned, Tells}
+use Rattle.vlbi_core.specs.Steps.{OutcomeFrom, IsBehindWords, IsCauseOf, IsDone, Does, IsOfSample, IsOfMemory, IsOtherCause, IsPlanned}
 use Rattle.vlbi_core.proofs.RecordFileLemmas.{output-IsRecordFile}
 use Rattle.vlbi_core.proofs.TopLemmas.{OneOutcome}
 

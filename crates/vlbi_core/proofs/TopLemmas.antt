@@ -16,9 +16,9 @@ use Rattle.checkpoint_journal.specs.Runs.{Looks, Changes}
 use Rattle.checkpoint_journal.proofs.RunLemmas.{changes_looks, told_value}
 use Rattle.run_words.specs.declared.fault.WordsFault.{WordsFault}
 use Rattle.run_words.specs.declared.order.Order.{Order}
-use Rattle.run_words.specs.declared.order.Order.TheVariants.{Run, Plain, Check, Status, Dump, Gen}
+use Rattle.run_words.specs.declared.order.Order.TheVariants.{Run, Plain, Check, Status, Dump, Gen, Fringe, Verify}
 use Rattle.run_notes.specs.declared.refusal.Due.{Due}
-use Rattle.run_notes.specs.declared.refusal.Due.TheVariants.{Vex, Schedule, Job, Join, Limit, NoFile, Recording, Records}
+use Rattle.run_notes.specs.declared.refusal.Due.TheVariants.{Vex, Schedule, Job, Join, Limit, NoFile, Recording, Records, Certificate}
 use Rattle.run_notes.specs.declared.refusal.Refusal.{Refusal}
 use Rattle.run_notes.specs.declared.refusal.Refusal.TheVariants.{Memory, Words, Due as DueRefusal, Other, Read, Journal, Write}
 use Rattle.run_notes.specs.Answers.{Answer, words_answer, journal_answer}
@@ -31,6 +31,8 @@ use Rattle.vis_records.specs.Content.{Content}
 use Rattle.vis_records.specs.Dumped.{dump_text}
 use Rattle.run_summary.specs.Summaries.{check_text}
 use Rattle.run_dump.specs.Shown.{RecordsOf}
+use Rattle.fringe_search.specs.Certificates.{Line, lines_text}
+use Rattle.run_fringe.specs.Searched.{FringeOf, VerifyOf, right_text}
 use Rattle.sample_job.specs.Sample.{SampleOf, sample_shelf}
 use Rattle.vlbi_core.specs.Sample.{sample_text}
 use Rattle.vlbi_core.specs.Calls.{Call, call_of, Task, OfJob, OfText, JobFor, TextFor, TaskFor, identity_for, sizes_for, bodies_for, kept_for}
@@ -121,24 +123,41 @@ text-one {A} outcomes text one (Err d) (Err e) p q =
 abbrev pub OneShown : Type 0
 OneShown = (files : Files) (name : List ℕ) (a b : Result Content Answer) → RecordsOf files name a → RecordsOf files name b → a ≡ b
 
-task-one : OneOutcome → OneShown → (files : Files) (order : Order) → AreOne (TaskFor files order)
-task-one law shown files (Run job vex workers piece) = job-one true job vex (PlanOf files job vex) (law files (recordings_answer files) job vex)
-task-one law shown files (Status job vex) = job-one false job vex (SurveyOf files job vex) (law files (files_answer files) job vex)
-task-one law shown files (Plain job vex) = text-one (PlanOf files job vex) (λ plan. output plan files) (law files (recordings_answer files) job vex)
-task-one law shown files (Check job vex) = text-one (PlanOf files job vex) (λ plan. check_text plan files) (law files (recordings_answer files) job vex)
-task-one law shown files (Dump file) = text-one (RecordsOf files file) dump_text (shown files file)
-task-one law shown files (Gen seed seconds workers piece) =
-    text-one (SampleOf seed seconds) (sample_text seed seconds) (law (sample_shelf seed seconds) (recordings_answer (sample_shelf seed seconds)) (codes "job") None)
+-- the laws of searches, and of verdicts on certificates
+abbrev pub OneSearch : Type 0
+OneSearch = (files : Files) (name : List ℕ) (rates divide : ℕ) (a b : Result (List Line) Answer) → FringeOf files name rates divide a → FringeOf files name rates divide b → a ≡ b
 
-pub outcome-one : OneOutcome → OneShown → (wanted : Result Order WordsFault) (files : Files) → AreOne (OutcomeFrom wanted files)
-outcome-one law shown wanted files =
-    Then-one (Is (answered words_answer wanted)) (TaskFor files) (λ a b p q. p ∙ sym q) (λ order. task-one law shown files order)
+abbrev pub OneVerdict : Type 0
+OneVerdict = (files : Files) (name certificate : List ℕ) (a b : Result Content Answer) → VerifyOf files name certificate a → VerifyOf files name certificate b → a ≡ b
+
+-- of what each command comes to there is one
+pub record AreLaws : Type 0 where
+  pub outcome : OneOutcome
+  pub shown : OneShown
+  pub search_is : OneSearch
+  pub verdict : OneVerdict
+
+task-one : AreLaws → (files : Files) (order : Order) → AreOne (TaskFor files order)
+task-one laws files (Run job vex workers piece) = job-one true job vex (PlanOf files job vex) (laws.outcome files (recordings_answer files) job vex)
+task-one laws files (Status job vex) = job-one false job vex (SurveyOf files job vex) (laws.outcome files (files_answer files) job vex)
+task-one laws files (Plain job vex) = text-one (PlanOf files job vex) (λ plan. output plan files) (laws.outcome files (recordings_answer files) job vex)
+task-one laws files (Check job vex) = text-one (PlanOf files job vex) (λ plan. check_text plan files) (laws.outcome files (recordings_answer files) job vex)
+task-one laws files (Dump file) = text-one (RecordsOf files file) dump_text (laws.shown files file)
+task-one laws files (Gen seed seconds workers piece) =
+    text-one (SampleOf seed seconds) (sample_text seed seconds)
+    (laws.outcome (sample_shelf seed seconds) (recordings_answer (sample_shelf seed seconds)) (codes "job") None)
+task-one laws files (Fringe file rates divide) = text-one (FringeOf files file rates divide) lines_text (laws.search_is files file rates divide)
+task-one laws files (Verify file certificate) = text-one (VerifyOf files file certificate) right_text (laws.verdict files file certificate)
+
+pub outcome-one : AreLaws → (wanted : Result Order WordsFault) (files : Files) → AreOne (OutcomeFrom wanted files)
+outcome-one laws wanted files =
+    Then-one (Is (answered words_answer wanted)) (TaskFor files) (λ a b p q. p ∙ sym q) (λ order. task-one laws files order)
 
 -- ---- statuses
 
 -- the statuses of what is wrong with the files
 abbrev IsFilesStatus : ℕ → Type 0
-IsFilesStatus status = (status ≡ 3) ⊎ ((status ≡ 4) ⊎ ((status ≡ 5) ⊎ ((status ≡ 6) ⊎ (status ≡ 11))))
+IsFilesStatus status = (status ≡ 3) ⊎ ((status ≡ 4) ⊎ ((status ≡ 5) ⊎ ((status ≡ 6) ⊎ ((status ≡ 11) ⊎ (status ≡ 13)))))
 
 due-files : (due : Due) → IsFilesStatus (due_answer due).status
 due-files (Vex fault) = inl refl
@@ -148,7 +167,8 @@ due-files (Join fault name) = inr (inl refl)
 due-files (Recording key field) = inr (inr (inl refl))
 due-files (Records fault) = inr (inr (inl refl))
 due-files (Limit quantity value) = inr (inr (inr (inl refl)))
-due-files (NoFile name) = inr (inr (inr (inr refl)))
+due-files (NoFile name) = inr (inr (inr (inr (inl refl))))
+due-files (Certificate at) = inr (inr (inr (inr (inr refl))))
 
 due-verdict : (due : Due) → IsVerdictStatus (due_answer due).status
 due-verdict due = inr (due-files due)

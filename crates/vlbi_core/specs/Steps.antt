@@ -10,7 +10,7 @@ use Rattle.checkpoint_journal.specs.Finding.{IsOther}
 use Rattle.checkpoint_journal.specs.Runs.{Looks, Changes, StepTold, KeepsBodies}
 use Rattle.run_words.specs.declared.fault.WordsFault.{WordsFault}
 use Rattle.run_words.specs.declared.order.Order.{Order}
-use Rattle.run_words.specs.declared.order.Order.TheVariants.{Run, Gen}
+use Rattle.run_words.specs.declared.order.Order.TheVariants.{Run}
 use Rattle.run_notes.specs.declared.refusal.Refusal.{Refusal}
 use Rattle.run_notes.specs.declared.refusal.Refusal.TheVariants.{Memory, Words, Due as DueRefusal, Other, Read, Journal, Write}
 use Rattle.run_notes.specs.Answers.{words_answer}
@@ -20,26 +20,6 @@ use Rattle.run_journal.specs.Extended.{Extends}
 use Rattle.vlbi_core.specs.Calls.{Call, Task, OfJob, OfText, TaskFor, identity_for, sizes_for, bodies_for, kept_for}
 use Rattle.vlbi_core.specs.Texts.{IsSums, IsText, IsPart, epochs_for}
 use Rattle.vlbi_core.specs.Restart.{IsHonest, IsRunOf, IsNoRun}
-
--- ---- orders
-
--- the number of workers and the samples of a piece, in their ranges
-pub record IsWork (workers piece : ℕ) : Type 0 where
-  pub some : 1 ≤ workers
-  pub few : workers ≤ 64
-  pub least : 64 ≤ piece
-  pub most : piece ≤ 4194304
-
--- the seconds of a sample, in their range
-pub record IsSample (seconds : ℕ) : Type 0 where
-  pub some : 1 ≤ seconds
-  pub few : seconds ≤ 60
-
--- an order whose numbers are in their ranges
-abbrev pub IsNumbered : Order → Type 0
-IsNumbered (Run job vex workers piece) = IsWork workers piece
-IsNumbered (Gen seed seconds workers piece) = IsSample seconds × IsWork workers piece
-IsNumbered _ = ⊤
 
 -- what words and files come to, by the order that the words give
 abbrev pub OutcomeFrom : Result Order WordsFault → Files → Outcomes Task
@@ -86,35 +66,7 @@ abbrev pub IsShort : Refusal → Type 0
 IsShort (Journal kept) = (k : ℕ) → kept ≡ Some k → k < 2 ^ 64
 IsShort _ = ⊤
 
--- ---- commands that leave the journal alone
-
--- a first part of the text of what an order comes to
-abbrev pub IsPartOf : {A : Type 0} → Outcomes A → (A → List ℕ) → Option (List ℕ) → Option (List ℕ) → Type 0
-IsPartOf {A} outcomes text old new = (x : A) × outcomes (Ok x) × PrefixMore old (text x) new
-
--- what such a command appended where it was refused
-abbrev pub IsPartlyOf : {A : Type 0} → Refusal → Outcomes A → (A → List ℕ) → Option (List ℕ) → Option (List ℕ) → Type 0
-IsPartlyOf Memory outcomes text old new = (new ≡ old) ⊎ IsPartOf outcomes text old new
-IsPartlyOf (Words fault) outcomes text old new = new ≡ old
-IsPartlyOf (DueRefusal due) outcomes text old new = new ≡ old
-IsPartlyOf (Other d) outcomes text old new = new ≡ old
-IsPartlyOf Read outcomes text old new = (new ≡ old) ⊎ IsPartOf outcomes text old new
-IsPartlyOf (Journal kept) outcomes text old new = ⊥
-IsPartlyOf Write outcomes text old new = IsPartOf outcomes text old new
-
--- The text of what an order comes to was appended; or the order was refused, with its cause, and with a first part of that text
--- appended or nothing.
-pub record Tells {A : Type 0} (outcomes : Outcomes A) (text : A → List ℕ) (old new : Option (List ℕ)) (result : Result (Unit {0}) Refusal) : Type 0 where
-  pub done : OnOk result ((x : A) × outcomes (Ok x) × (new ≡ more old (text x)))
-  pub cause : IfErr result (λ r. IsCause r outcomes)
-  pub part : IfErr result (λ r. IsPartlyOf r outcomes text old new)
-
--- what they may be refused for: anything but a fault of the words, another journal and a fault of the journal
-abbrev pub IsOfFilesOrOutput : Refusal → Type 0
-IsOfFilesOrOutput (Words fault) = ⊥
-IsOfFilesOrOutput (Other d) = ⊥
-IsOfFilesOrOutput (Journal kept) = ⊥
-IsOfFilesOrOutput _ = ⊤
+-- ---- commands whose refusals are few
 
 -- What a call over devices in memory may be refused for, where no verdict is due and no read fails: want of memory, and a fault of
 -- its journal or its output.

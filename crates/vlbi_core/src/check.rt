@@ -2,11 +2,12 @@
 ghost use Rattle.std.specs.Prelude.{◌≡◌, IfErr, IfSome, option_copied};
 ghost use Rattle.std.specs.Str.{IsUtf8};
 ghost use Rattle.dev_traits.specs.Told.{WhereTold};
+ghost use Rattle.run_notes.specs.Commands.{Tells, IsOfFilesOrOutput};
 ghost use Rattle.run_notes.specs.Counted.{CountsReads, CountsWrites};
 ghost use Rattle.run_ready.specs.Outcome.{PlanOf};
 ghost use Rattle.run_summary.specs.Summaries.{check_text};
 ghost use Rattle.vlbi_core.specs.Faults.{written_with};
-ghost use Rattle.vlbi_core.specs.Steps.{Tells, IsOfFilesOrOutput, MatchDue};
+ghost use Rattle.vlbi_core.specs.Steps.{MatchDue};
 
 use dev_traits::{Failed, Shelf, Sink};
 use num_time::Name;

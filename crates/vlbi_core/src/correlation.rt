@@ -5,7 +5,8 @@ ghost use Rattle.dev_traits.specs.Told.{WhereTold};
 ghost use Rattle.run_notes.specs.Counted.{CountsReadsBeside, CountsJournal, CountsWrites};
 ghost use Rattle.run_ready.specs.Outcome.{PlanOf};
 ghost use Rattle.run_words.specs.declared.order.Order.TheVariants.{Run};
-ghost use Rattle.vlbi_core.specs.Steps.{IsWork, IsBehindWords, IsPlanned, Does, Leaves};
+ghost use Rattle.run_words.specs.Orders.{IsWork};
+ghost use Rattle.vlbi_core.specs.Steps.{IsBehindWords, IsPlanned, Does, Leaves};
 
 use crate::engine::{emit, resume};
 use dev_traits::{Disk, Gate, Shelf, Sink};

@@ -9,7 +9,7 @@ ghost use Rattle.epoch_run.specs.Sums.{pieces_in_epoch};
 ghost use Rattle.checkpoint_journal.specs.Image.{body_sizes};
 ghost use Rattle.checkpoint_journal.specs.Standing.{Stands, StandsOn};
 ghost use Rattle.checkpoint_journal.specs.Runs.{Changes, Looks, Spares};
-ghost use Rattle.run_words.specs.Orders.{AreTexts};
+ghost use Rattle.run_words.specs.Orders.{IsOrder};
 ghost use Rattle.run_notes.specs.Refusals.{IsCause};
 ghost use Rattle.run_notes.specs.Counted.{CountsReads, CountsReadsBeside, CountsJournal, CountsWrites};
 ghost use Rattle.run_ready.specs.Outcome.{PlanOf};
@@ -36,7 +36,7 @@ use std::thread::Threads;
 /// What the job of an order comes to: its plan, the recordings of its stations, and its identity.
 pub fn prepare<F: Shelf>(alloc: Global, order: &Order, shelf: &mut F) -> Result<Ready, Refusal>
     requires job { IsSome (job_names order.now) }
-    requires texts { AreTexts order.now }
+    requires is_order { IsOrder order.now }
     ensures same { F.told shelf.new ≡ F.told shelf.old }
     ensures plan { IfSome (job_names order.now) (λ names. IfOk result (λ ready. WhereTold (F.told shelf.old) (λ files. PlanOf files names.0 names.1 (Ok ready.plan)))) }
     ensures recorded { IfOk result (λ ready. WhereTold (F.told shelf.old) (λ files. AreRecorded files ready.plan.stations ready.recordings.items)) }

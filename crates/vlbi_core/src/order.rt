@@ -1,11 +1,11 @@
 //! The order of a call.
 ghost use Rattle.std.specs.Prelude.{◌≡◌, Ok, IfOk, IfErr, IfSome, IsSome, option_copied};
 ghost use Rattle.std.specs.Str.{IsUtf8};
-ghost use Rattle.run_words.specs.Orders.{AreTexts};
+ghost use Rattle.run_words.specs.Orders.{IsOrder};
 ghost use Rattle.vlbi_core.specs.Calls.{texts_of, order_in};
 ghost use Rattle.vlbi_core.specs.Engine.{job_names};
 ghost use Rattle.vlbi_core.specs.Faults.{words_refusal};
-ghost use Rattle.vlbi_core.specs.Steps.{IsNumbered, IsOfWords};
+ghost use Rattle.vlbi_core.specs.Steps.{IsOfWords};
 
 use num_time::Name;
 use run_notes::Refusal;
@@ -15,8 +15,7 @@ use std::alloc::Global;
 /// The order that the words give.
 pub fn read_order(alloc: Global, words: &[String]) -> Result<Order, Refusal>
     ensures order { IfOk result (λ order. order_in (texts_of words.now) ≡ Ok order) }
-    ensures texts { IfOk result AreTexts }
-    ensures numbers { IfOk result IsNumbered }
+    ensures is_order { IfOk result IsOrder }
     ensures fault { IfErr result (IsOfWords (order_in (texts_of words.now))) }
 {
     match read_words(alloc, words) {
@@ -38,7 +37,7 @@ fn words_refusal(fault: WordsFault) -> Refusal
 /// The name of an order's job.
 pub fn job_of(order: &Order) -> &Name
     requires job { IsSome (job_names order.now) }
-    requires texts { AreTexts order.now }
+    requires is_order { IsOrder order.now }
     ensures name { IfSome (job_names order.now) (λ names. result.now ≡ names.0) }
     ensures text { IsUtf8 result.now }
 {
@@ -54,7 +53,7 @@ pub fn job_of(order: &Order) -> &Name
 /// The name of its schedule, where it has one.
 pub fn vex_of(order: &Order) -> Option<&Name>
     requires job { IsSome (job_names order.now) }
-    requires texts { AreTexts order.now }
+    requires is_order { IsOrder order.now }
     ensures name { IfSome (job_names order.now) (λ names. option_copied result ≡ names.1) }
     ensures text { IfSome result (λ vex. IsUtf8 vex.now) }
 {

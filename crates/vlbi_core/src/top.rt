@@ -3,12 +3,12 @@ ghost use Rattle.std.specs.Prelude.{◌≡◌, ◌≢◌, ◌⊎◌, ◌≤◌, 
 ghost use Rattle.dev_traits.specs.Fault.{HasRisen};
 ghost use Rattle.dev_traits.specs.Told.{WhereTold};
 ghost use Rattle.checkpoint_journal.specs.Runs.{Looks};
-ghost use Rattle.run_words.specs.Orders.{AreTexts};
+ghost use Rattle.run_words.specs.Orders.{IsOrder};
 ghost use Rattle.run_notes.specs.Counted.{CountsReads, CountsReadsBeside, CountsJournal, CountsWrites};
 ghost use Rattle.vlbi_core.specs.Calls.{texts_of, order_in, is_run, OutcomeOf};
 ghost use Rattle.vlbi_core.specs.Run.{IsVerdictStatus, IsDueStatus, IsStatus, IsVerdict, IsAppended, IsNoteOf};
 ghost use Rattle.vlbi_core.specs.Restart.{Restarts, AppendsOutput, IsRunOf, IsNoRun, IsGenOf};
-ghost use Rattle.vlbi_core.specs.Steps.{IsNumbered, IsWorded, IsBehindWords, IsShort, IsUnnumbered, IsOfSample, Goes, Does, Leaves};
+ghost use Rattle.vlbi_core.specs.Steps.{IsWorded, IsBehindWords, IsShort, IsUnnumbered, IsOfSample, Goes, Does, Leaves};
 
 use crate::check::check_job;
 use crate::correlation::correlate_job;
@@ -19,6 +19,8 @@ use crate::status::journal_status;
 use dev_traits::{Disk, Gate, Shelf, Sink};
 use run_dump::laws::one_shown;
 use run_dump::show_records;
+use run_fringe::laws::{one_search, one_verdict};
+use run_fringe::{verify_peaks, write_peaks};
 use run_notes::{Refusal, status, write_note};
 use run_ready::laws::one_outcome;
 use run_words::Order;
@@ -44,6 +46,7 @@ use std::thread::Threads;
 /// | 9 | the output failed |
 /// | 10 | the journal is another job's |
 /// | 11 | a named file is not there |
+/// | 13 | a text is no right certificate of the record file |
 pub fn run<R: Threads + Sync, F: Shelf + Send, D: Disk + Send, S: Sink, N: Sink, G: Gate + Sync>(
     rt: &R,
     alloc: Global,
@@ -106,6 +109,8 @@ pub fn run<R: Threads + Sync, F: Shelf + Send, D: Disk + Send, S: Sink, N: Sink,
 {
     one_outcome();
     one_shown();
+    one_search();
+    one_verdict();
     match call(rt, alloc, words, shelf, journal, out, gate) {
         Ok(()) => 0,
         Err(refusal) => {
@@ -169,8 +174,7 @@ fn command<R: Threads + Sync, F: Shelf + Send, D: Disk + Send, S: Sink, G: Gate 
     out: &mut S,
     gate: &G,
 ) -> Result<(), Refusal>
-    requires texts { AreTexts order.now }
-    requires numbers { IsNumbered order.now }
+    requires { IsOrder order.now }
     ensures same { F.told shelf.new ≡ F.told shelf.old }
     ensures does { WhereTold (F.told shelf.old) (λ files. Does (Ok order.now) files D.seen D.moment D.may_leave journal.old journal.new (S.told out.old) (S.told out.new) result) }
     ensures leaves { Leaves (Ok order.now) D.seen D.moment D.may_leave journal.old journal.new (S.told out.old) (S.told out.new) result }
@@ -203,5 +207,11 @@ fn command<R: Threads + Sync, F: Shelf + Send, D: Disk + Send, S: Sink, G: Gate 
             workers,
             piece,
         } => total_sample(rt, alloc, *seed, *seconds, *workers, *piece, out, gate),
+        Order::Fringe {
+            file,
+            rates,
+            divide,
+        } => write_peaks(alloc, file, *rates, *divide, shelf, out),
+        Order::Verify { file, certificate } => verify_peaks(alloc, file, certificate, shelf, out),
     }
 }

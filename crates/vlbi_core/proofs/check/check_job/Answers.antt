@@ -4,7 +4,7 @@ use Rattle.dev_traits.specs.Told.{WhereTold}
 use Rattle.run_notes.specs.declared.refusal.Refusal.{Refusal}
 use Rattle.run_ready.specs.Outcome.{PlanOf}
 use Rattle.run_summary.specs.Summaries.{check_text}
-use Rattle.vlbi_core.specs.Steps.{Tells}
+use Rattle.run_notes.specs.Commands.{Tells}
 use Rattle.vlbi_core.proofs.CommandLemmas.{check-tells}
 use Rattle.vlbi_core.proofs.check.check_job.Goals as goal
 

@@ -6,11 +6,7 @@ use Rattle.run_words.specs.declared.order.Order.{Order}
 use Rattle.vlbi_core.specs.Calls.{order_in}
 use Rattle.vlbi_core.specs.Faults.{words_refusal}
 use Rattle.vlbi_core.specs.Steps.{IsOfWords}
-use Rattle.vlbi_core.proofs.OrderLemmas.{numbered}
 use Rattle.vlbi_core.proofs.order.read_order.Goals as goal
-
-pub returns-in-Ok-clause-numbers : goal.returns-in-Ok-clause-numbers
-returns-in-Ok-clause-numbers c = numbered (map string_bytes c.args.words.now) c.in-Ok.order c.in-Ok.ensures.order
 
 IsOfWords-refusal : (wanted : Result Order WordsFault) (fault : WordsFault) → (fault ≡ Memory) ⊎ (wanted ≡ Err fault) → IsOfWords wanted (words_refusal fault)
 IsOfWords-refusal wanted fault (inl memory) = subst (λ (f : WordsFault). IsOfWords wanted (words_refusal f)) (sym memory) tt

@@ -5,7 +5,7 @@ use Rattle.gen_summary.specs.Totals.{totals_text}
 use Rattle.vis_records.specs.Content.{IsRecordFile}
 use Rattle.sample_job.specs.Sample.{SampleOf, sample_shelf}
 use Rattle.vlbi_core.specs.Sample.{content_for, sample_text}
-use Rattle.vlbi_core.specs.Steps.{Tells}
+use Rattle.run_notes.specs.Commands.{Tells}
 use Rattle.vlbi_core.proofs.RecordFileLemmas.{output-IsRecordFile}
 use Rattle.vlbi_core.proofs.SampleLemmas.{sample-totals}
 use Rattle.vlbi_core.proofs.sample.total_sample.Goals as goal

@@ -7,15 +7,18 @@ use Rattle.vis_records.specs.Dumped.{dump_text}
 use Rattle.run_summary.specs.Summaries.{check_text}
 use Rattle.run_dump.specs.Shown.{RecordsOf}
 use Rattle.run_words.specs.declared.order.Order.{Order}
-use Rattle.run_words.specs.declared.order.Order.TheVariants.{Run, Plain, Check, Status, Dump, Gen}
+use Rattle.run_words.specs.declared.order.Order.TheVariants.{Run, Plain, Check, Status, Dump, Gen, Fringe, Verify}
 use Rattle.run_ready.specs.Outcome.{PlanOf}
 use Rattle.sample_job.specs.Sample.{SampleOf}
 use Rattle.vis_writer.proofs.WritesLemmas.{where_then, where_always}
+use Rattle.run_notes.proofs.CommandLemmas.{shows-tells}
+use Rattle.fringe_search.specs.Certificates.{lines_text}
+use Rattle.run_fringe.specs.Searched.{FringeOf, VerifyOf, right_text}
 use Rattle.vlbi_core.specs.Calls.{is_run}
 use Rattle.vlbi_core.specs.Restart.{IsGenOf}
 use Rattle.vlbi_core.specs.Sample.{sample_text}
 use Rattle.vlbi_core.specs.Steps.{Does, Leaves}
-use Rattle.vlbi_core.proofs.CommandLemmas.{reads-beside, not_both, shows-stage, shows-tells, files-unnumbered, does-text}
+use Rattle.vlbi_core.proofs.CommandLemmas.{reads-beside, not_both, files-unnumbered, does-text}
 use Rattle.vlbi_core.proofs.SampleLemmas.{of-files, reads-same}
 use Rattle.vlbi_core.proofs.top.command.Goals as goal
 
@@ -59,12 +62,33 @@ returns-in-Plain-clause-does g c =
 
 pub returns-in-Dump-clause-does : goal.returns-in-Dump-clause-does
 returns-in-Dump-clause-does g c =
-    does-text g.D.Disk.seen g.D.Disk.moment g.D.Disk.may_leave (g.F.Shelf.told c.args.shelf.now) c.args.order.now _
-    (λ files. RecordsOf files c.in-Dump.file.now) (λ files. dump_text) c.in-Dump.is (λ files o p. p)
-    c.args.journal.now (g.S.Sink.told c.args.out.now) (g.S.Sink.told c.show_records.new.out) c.show_records.result (shows-stage c.show_records.result c.show_records.ensures.stage)
-    (where_then (g.F.Shelf.told c.args.shelf.now) _ _
-    (λ files shows. shows-tells (RecordsOf files c.in-Dump.file.now) (g.S.Sink.told c.args.out.now) (g.S.Sink.told c.show_records.new.out) c.show_records.result c.show_records.ensures.stage shows)
+    let told = g.F.Shelf.told c.args.shelf.now in
+    let outcomes = λ files. RecordsOf files c.in-Dump.file.now in
+    does-text g.D.Disk.seen g.D.Disk.moment g.D.Disk.may_leave told c.args.order.now _ outcomes (λ files. dump_text) c.in-Dump.is (λ files o p. p)
+    c.args.journal.now (g.S.Sink.told c.args.out.now) (g.S.Sink.told c.show_records.new.out) c.show_records.result c.show_records.ensures.stage
+    (where_then told _ _
+    (λ files shows. shows-tells (outcomes files) dump_text (g.S.Sink.told c.args.out.now) (g.S.Sink.told c.show_records.new.out) c.show_records.result c.show_records.ensures.stage shows)
     c.show_records.ensures.shows)
+
+pub returns-in-Fringe-clause-does : goal.returns-in-Fringe-clause-does
+returns-in-Fringe-clause-does g c =
+    let told = g.F.Shelf.told c.args.shelf.now in
+    let outcomes = λ files. FringeOf files c.in-Fringe.file.now c.in-Fringe.rates.now c.in-Fringe.divide.now in
+    does-text g.D.Disk.seen g.D.Disk.moment g.D.Disk.may_leave told c.args.order.now _ outcomes (λ files. lines_text) c.in-Fringe.is (λ files o p. p)
+    c.args.journal.now (g.S.Sink.told c.args.out.now) (g.S.Sink.told c.write_peaks.new.out) c.write_peaks.result c.write_peaks.ensures.stage
+    (where_then told _ _
+    (λ files shows. shows-tells (outcomes files) lines_text (g.S.Sink.told c.args.out.now) (g.S.Sink.told c.write_peaks.new.out) c.write_peaks.result c.write_peaks.ensures.stage shows)
+    c.write_peaks.ensures.shows)
+
+pub returns-in-Verify-clause-does : goal.returns-in-Verify-clause-does
+returns-in-Verify-clause-does g c =
+    let told = g.F.Shelf.told c.args.shelf.now in
+    let outcomes = λ files. VerifyOf files c.in-Verify.file.now c.in-Verify.certificate.now in
+    does-text g.D.Disk.seen g.D.Disk.moment g.D.Disk.may_leave told c.args.order.now _ outcomes (λ files. right_text) c.in-Verify.is (λ files o p. p)
+    c.args.journal.now (g.S.Sink.told c.args.out.now) (g.S.Sink.told c.verify_peaks.new.out) c.verify_peaks.result c.verify_peaks.ensures.stage
+    (where_then told _ _
+    (λ files shows. shows-tells (outcomes files) right_text (g.S.Sink.told c.args.out.now) (g.S.Sink.told c.verify_peaks.new.out) c.verify_peaks.result c.verify_peaks.ensures.stage shows)
+    c.verify_peaks.ensures.shows)
 
 pub returns-in-Gen-clause-does : goal.returns-in-Gen-clause-does
 returns-in-Gen-clause-does g c =
@@ -104,7 +128,7 @@ pub returns-in-Check-clause-unnumbered : goal.returns-in-Check-clause-unnumbered
 returns-in-Check-clause-unnumbered g c = λ alone. files-unnumbered c.check_job.result c.check_job.ensures.stage
 
 pub returns-in-Dump-clause-unnumbered : goal.returns-in-Dump-clause-unnumbered
-returns-in-Dump-clause-unnumbered g c = λ alone. files-unnumbered c.show_records.result (shows-stage c.show_records.result c.show_records.ensures.stage)
+returns-in-Dump-clause-unnumbered g c = λ alone. files-unnumbered c.show_records.result c.show_records.ensures.stage
 
 pub returns-in-Gen-clause-unnumbered : goal.returns-in-Gen-clause-unnumbered
 returns-in-Gen-clause-unnumbered g c = λ alone. files-unnumbered c.total_sample.result (of-files c.total_sample.result c.total_sample.ensures.stage)
@@ -123,3 +147,21 @@ returns-in-Status-clause-generated g c = λ is. absurd (subst (λ (o : Order). I
 
 pub returns-in-Dump-clause-generated : goal.returns-in-Dump-clause-generated
 returns-in-Dump-clause-generated g c = λ is. absurd (subst (λ (o : Order). IsGenOf (Ok o)) c.in-Dump.is is)
+
+pub returns-in-Fringe-clause-reads : goal.returns-in-Fringe-clause-reads
+returns-in-Fringe-clause-reads g c = reads-beside _ _ c.write_peaks.result c.write_peaks.ensures.reads
+
+pub returns-in-Fringe-clause-unnumbered : goal.returns-in-Fringe-clause-unnumbered
+returns-in-Fringe-clause-unnumbered g c = λ alone. files-unnumbered c.write_peaks.result c.write_peaks.ensures.stage
+
+pub returns-in-Fringe-clause-generated : goal.returns-in-Fringe-clause-generated
+returns-in-Fringe-clause-generated g c = λ is. absurd (subst (λ (o : Order). IsGenOf (Ok o)) c.in-Fringe.is is)
+
+pub returns-in-Verify-clause-reads : goal.returns-in-Verify-clause-reads
+returns-in-Verify-clause-reads g c = reads-beside _ _ c.verify_peaks.result c.verify_peaks.ensures.reads
+
+pub returns-in-Verify-clause-unnumbered : goal.returns-in-Verify-clause-unnumbered
+returns-in-Verify-clause-unnumbered g c = λ alone. files-unnumbered c.verify_peaks.result c.verify_peaks.ensures.stage
+
+pub returns-in-Verify-clause-generated : goal.returns-in-Verify-clause-generated
+returns-in-Verify-clause-generated g c = λ is. absurd (subst (λ (o : Order). IsGenOf (Ok o)) c.in-Verify.is is)

@@ -13,6 +13,7 @@ use Rattle.job_text.specs.Inline.{scans_of}
 use Rattle.job_join.specs.Joined.{joined}
 use Rattle.job_join.specs.declared.fault.Quantity.TheVariants.{Schedule, Job}
 use Rattle.job_plan.specs.declared.plan.Plan.{Plan}
+use Rattle.run_notes.specs.declared.measure.Measure.TheVariants.{Job as OfJob}
 use Rattle.run_notes.specs.Answers.{Answer, vex_answer, schedule_answer, job_answer}
 use Rattle.run_notes.specs.Refusals.{Outcomes}
 use Rattle.run_ready.specs.Steps.{Is, Then, answered, unless}
@@ -99,12 +100,12 @@ Joins-one wrong job scans =
 
 JobOf-one : (files : Files) (name : List ℕ) (inline : Bool) → AreOne (JobOf files name inline)
 JobOf-one files name inline =
-    Then-one (Is (text_under files name Job 4194304)) (λ text. Is (answered job_answer (job_in inline text)))
-    (Is-one (text_under files name Job 4194304)) (λ text. Is-one (answered job_answer (job_in inline text)))
+    Then-one (Is (text_under files name (OfJob Job) 4194304)) (λ text. Is (answered job_answer (job_in inline text)))
+    (Is-one (text_under files name (OfJob Job) 4194304)) (λ text. Is-one (answered job_answer (job_in inline text)))
 
 ScheduleOf-one : AreLaws → (files : Files) (name : List ℕ) → AreOne (ScheduleOf files name)
 ScheduleOf-one laws files name =
-    Then-one (Is (text_under files name Schedule 8388608)) ScansOf (Is-one (text_under files name Schedule 8388608))
+    Then-one (Is (text_under files name (OfJob Schedule) 8388608)) ScansOf (Is-one (text_under files name (OfJob Schedule) 8388608))
     (λ text. ScansOf-one text (laws.one_file text) (laws.one_fault text) (laws.not_both text))
 
 pub PlanUnder-one : AreLaws → (files : Files) (wrong : Wrong) (job : List ℕ) (vex : Option (List ℕ)) → AreOne (PlanUnder files wrong job vex)

@@ -7,6 +7,7 @@ use Rattle.std.proofs.lemmas.List.{drop_more}
 use Rattle.corr_model.specs.Files.{Files}
 use Rattle.job_join.specs.declared.fault.Quantity.TheVariants.{Slots}
 use Rattle.job_plan.specs.declared.plan.StationPlan.{StationPlan}
+use Rattle.run_notes.specs.declared.measure.Measure.TheVariants.{Job as OfJob}
 use Rattle.run_notes.specs.Answers.{limit_answer}
 use Rattle.run_notes.specs.declared.refusal.Refusal.{Refusal}
 use Rattle.run_ready.specs.declared.recordings.StationFiles.{StationFiles}
@@ -37,20 +38,20 @@ pub IsDue-no_file : (files : Files) (stations : List StationPlan) (r : Refusal) 
 unfolding files_answer
 IsDue-no_file files stations r due = IsDue-or_else r (no_file_for files stations) (too_many_slots files stations) due
 
-some_slots : (n total : ℕ) → n ≡ total → 67108864 < n → cond (nat_lt 67108864 total) (Some (limit_answer Slots total)) None ≡ Some (limit_answer Slots n)
+some_slots : (n total : ℕ) → n ≡ total → 67108864 < n → cond (nat_lt 67108864 total) (Some (limit_answer (OfJob Slots) total)) None ≡ Some (limit_answer (OfJob Slots) n)
 some_slots n total same many =
     let test : nat_lt 67108864 total ≡ true = grind (arith, nat_tests) in
-    ap (λ b. cond b (Some (limit_answer Slots total)) None) test ∙ ap (λ k. Some (limit_answer Slots k)) (sym same)
+    ap (λ b. cond b (Some (limit_answer (OfJob Slots) total)) None) test ∙ ap (λ k. Some (limit_answer (OfJob Slots) k)) (sym same)
 
-no_slots : (n total : ℕ) → n ≡ total → n ≤ 67108864 → cond (nat_lt 67108864 total) (Some (limit_answer Slots total)) None ≡ None
+no_slots : (n total : ℕ) → n ≡ total → n ≤ 67108864 → cond (nat_lt 67108864 total) (Some (limit_answer (OfJob Slots) total)) None ≡ None
 no_slots n total same few =
     let test : nat_lt 67108864 total ≡ false = grind (arith, nat_tests) in
-    ap (λ b. cond b (Some (limit_answer Slots total)) None) test
+    ap (λ b. cond b (Some (limit_answer (OfJob Slots) total)) None) test
 
 -- then too many slots
 pub files_answer-slots : (files : Files) (stations : List StationPlan) (sized : List StationFiles) (n : ℕ)
     → AllZip IsSizedBy stations sized → AreShelved sized files → n ≡ slots_together sized → no_file_for files stations ≡ None → 67108864 < n
-    → files_answer files stations ≡ Some (limit_answer Slots n)
+    → files_answer files stations ≡ Some (limit_answer (OfJob Slots) n)
 unfolding files_answer
 files_answer-slots files stations sized n all are is none many =
     ap (λ o. or_else o (too_many_slots files stations)) none

@@ -10,12 +10,13 @@ use Rattle.vex_schedule.specs.Schedule.{schedule_of}
 use Rattle.job_text.specs.Job.{JobFields, StationFields}
 use Rattle.job_text.specs.Answer.{job_in}
 use Rattle.job_text.specs.Inline.{scans_of}
-use Rattle.job_join.specs.declared.fault.Quantity.{Quantity}
 use Rattle.job_join.specs.declared.fault.Quantity.TheVariants.{Schedule, Job}
 use Rattle.job_join.specs.declared.fault.JoinFault.{JoinFault}
 use Rattle.job_join.specs.declared.fault.JoinFault.TheVariants.{UnknownScan, UnknownStation, RateDiffers, ChannelDiffers, ProductDiffers, FrameRate, NoModel, NoClock, Limit, Memory}
 use Rattle.job_join.specs.Joined.{joined}
 use Rattle.job_plan.specs.declared.plan.Plan.{Plan}
+use Rattle.run_notes.specs.declared.measure.Measure.{Measure}
+use Rattle.run_notes.specs.declared.measure.Measure.TheVariants.{Job as OfJob}
 use Rattle.run_notes.specs.Answers.{Answer, vex_answer, schedule_answer, job_answer, join_answer, limit_answer, no_file_answer}
 use Rattle.run_notes.specs.Refusals.{Outcomes}
 use Rattle.run_ready.specs.Steps.{Is, Then, answered, unless}
@@ -23,12 +24,12 @@ use Rattle.job_plan.specs.declared.plan.StationPlan.{StationPlan}
 use Rattle.run_ready.specs.Recordings.{files_answer, recordings_answer}
 
 -- a text under a name: it is there, and has at most so many bytes
-abbrev pub text_under : Files → List ℕ → Quantity → ℕ → Result (List ℕ) Answer
-text_under files name quantity most = by (files name)
+abbrev pub text_under : Files → List ℕ → Measure → ℕ → Result (List ℕ) Answer
+text_under files name measure most = by (files name)
   where
     by : Option (List ℕ) → Result (List ℕ) Answer
     by None = Err (no_file_answer name)
-    by (Some text) = if nat_lt most (length text) then Err (limit_answer quantity (length text)) else Ok text
+    by (Some text) = if nat_lt most (length text) then Err (limit_answer measure (length text)) else Ok text
 
 -- the scans of a schedule's text, or its fault
 abbrev pub ScansOf : List ℕ → Outcomes (List Scan)
@@ -70,7 +71,7 @@ cause_answer job scans (ProductDiffers number) = join_answer (ProductDiffers num
 cause_answer job scans (FrameRate number) = join_answer (FrameRate number) (key_name job number)
 cause_answer job scans (NoModel number) = join_answer (NoModel number) (key_name job number)
 cause_answer job scans (NoClock number) = join_answer (NoClock number) (key_name job number)
-cause_answer job scans (Limit quantity value) = limit_answer quantity value
+cause_answer job scans (Limit quantity value) = limit_answer (OfJob quantity) value
 cause_answer job scans Memory = join_answer Memory []
 
 -- what is wrong with the files of a plan's stations, if anything is
@@ -86,11 +87,11 @@ Joins wrong job scans =
 -- the job of a text, read beside a schedule or, inline, without one
 abbrev pub JobOf : Files → List ℕ → Bool → Outcomes JobFields
 JobOf files name inline =
-    Then (Is (text_under files name Job 4194304)) (λ text. Is (answered job_answer (job_in inline text)))
+    Then (Is (text_under files name (OfJob Job) 4194304)) (λ text. Is (answered job_answer (job_in inline text)))
 
 -- the scans of the schedule under a name
 abbrev pub ScheduleOf : Files → List ℕ → Outcomes (List Scan)
-ScheduleOf files name = Then (Is (text_under files name Schedule 8388608)) ScansOf
+ScheduleOf files name = Then (Is (text_under files name (OfJob Schedule) 8388608)) ScansOf
 
 -- Without a schedule a job states its scans itself; else the schedule comes before the job.
 abbrev pub PlanUnder : Files → Wrong → List ℕ → Option (List ℕ) → Outcomes Plan

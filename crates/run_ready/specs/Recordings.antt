@@ -5,6 +5,7 @@ use Rattle.corr_model.specs.Slots.{slots_of}
 use Rattle.frame_index.specs.Foreign.{foreign_field}
 use Rattle.job_join.specs.declared.fault.Quantity.TheVariants.{Slots}
 use Rattle.job_plan.specs.declared.plan.StationPlan.{StationPlan}
+use Rattle.run_notes.specs.declared.measure.Measure.TheVariants.{Job as OfJob}
 use Rattle.run_notes.specs.Answers.{Answer, no_file_answer, limit_answer, recording_answer}
 use Rattle.run_ready.specs.Steps.{or_else}
 
@@ -22,7 +23,7 @@ slot_total files stations = sum_by (slot_count files) stations
 -- the slots of all stations are at most 2^26
 abbrev pub too_many_slots : Files → List StationPlan → Option Answer
 too_many_slots files stations =
-    if nat_lt 67108864 (slot_total files stations) then Some (limit_answer Slots (slot_total files stations)) else None
+    if nat_lt 67108864 (slot_total files stations) then Some (limit_answer (OfJob Slots) (slot_total files stations)) else None
 
 -- a station that has slots, none of which agrees with its shape
 abbrev pub foreign_answer : Files → StationPlan → Option Answer

@@ -4,13 +4,14 @@ use Rattle.frame_index.specs.declared.fault.IndexFault.{IndexFault}
 use Rattle.frame_index.specs.declared.fault.IndexFault.TheVariants.{Read, NoFrameAgrees, TooManySlots, Memory}
 use Rattle.job_join.specs.declared.fault.JoinFault.{JoinFault}
 use Rattle.job_join.specs.declared.fault.JoinFault.TheVariants.{Limit, Memory as JoinMemory}
+use Rattle.run_notes.specs.declared.measure.Measure.TheVariants.{Job as OfJob}
 use Rattle.run_notes.specs.declared.refusal.Due.TheVariants.{Join, Limit as DueLimit, Recording}
 use Rattle.run_notes.specs.declared.refusal.Refusal.{Refusal}
 use Rattle.run_notes.specs.declared.refusal.Refusal.TheVariants.{Memory as MemoryRefusal, Due as DueRefusal, Read as ReadRefusal}
 
 -- the refusal for a cause for which a job and a schedule do not go together, which speaks of this name
 abbrev pub join_refusal : JoinFault → List ℕ → Refusal
-join_refusal (Limit quantity value) name = DueRefusal (DueLimit quantity value)
+join_refusal (Limit quantity value) name = DueRefusal (DueLimit (OfJob quantity) value)
 join_refusal JoinMemory name = MemoryRefusal
 join_refusal fault name = DueRefusal (Join fault name)
 

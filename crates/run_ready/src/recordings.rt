@@ -18,7 +18,7 @@ use item_list::ItemList;
 use job_join::Quantity;
 use job_plan::StationPlan;
 use num_time::Name;
-use run_notes::Refusal;
+use run_notes::{Measure, Refusal};
 use std::alloc::{AllocError, Global};
 use vdif_frame::Shape;
 
@@ -178,6 +178,6 @@ pub fn files_of<F: Shelf>(
 {
     let sized = all_files(alloc, shelf, stations)?;
     let slots = slots_together(&sized);
-    within(Quantity::Slots, MOST_SLOTS, slots)?;
+    within(Measure::Job(Quantity::Slots), MOST_SLOTS, slots)?;
     Ok(sized)
 }

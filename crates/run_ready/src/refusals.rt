@@ -3,10 +3,10 @@ ghost use Rattle.std.specs.Prelude.{◌≡◌, ◌≢◌, ◌≤◌, ◌<◌, So
 ghost use Rattle.run_ready.specs.Refused.{recording_refusal, join_refusal};
 
 use frame_index::IndexFault;
-use job_join::{JoinFault, Quantity};
+use job_join::JoinFault;
 use job_text::{JobFault, JobKind};
 use num_time::Name;
-use run_notes::{Due, Refusal};
+use run_notes::{Due, Measure, Refusal};
 use vex_reader::{VexFault, VexKind};
 use vex_schedule::{SchedFault, SchedKind};
 
@@ -21,13 +21,13 @@ pub fn there(size: Option<u64>, name: Name) -> Result<u64, Refusal>
     }
 }
 
-/// Whether a quantity is at most its greatest value.
-pub fn within(quantity: Quantity, most: u128, value: u128) -> Result<(), Refusal>
+/// Whether a measure is at most its greatest value.
+pub fn within(measure: Measure, most: u128, value: u128) -> Result<(), Refusal>
     ensures within { OnOk result (value ≤ most) }
-    ensures past { IfErr result (λ r. (most < value) × (r ≡ Refusal.Due (Due.Limit quantity value))) }
+    ensures past { IfErr result (λ r. (most < value) × (r ≡ Refusal.Due (Due.Limit measure value))) }
 {
     if value > most {
-        return Err(Refusal::Due(Due::Limit(quantity, value)));
+        return Err(Refusal::Due(Due::Limit(measure, value)));
     }
     Ok(())
 }
@@ -70,7 +70,9 @@ pub fn join_refusal(fault: JoinFault, name: Name) -> Refusal
     ensures { result ≡ join_refusal fault name }
 {
     match fault {
-        JoinFault::Limit(quantity, value) => Refusal::Due(Due::Limit(quantity, value)),
+        JoinFault::Limit(quantity, value) => {
+            Refusal::Due(Due::Limit(Measure::Job(quantity), value))
+        }
         JoinFault::Memory => Refusal::Memory,
         _ => Refusal::Due(Due::Join(fault, name)),
     }

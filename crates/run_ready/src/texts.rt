@@ -14,9 +14,8 @@ ghost use Rattle.run_ready.specs.Stage.{IsOfFiles};
 
 use crate::refusals::{there, within};
 use dev_traits::{Failed, Shelf};
-use job_join::Quantity;
 use num_time::Name;
-use run_notes::Refusal;
+use run_notes::{Measure, Refusal};
 use std::alloc::Global;
 
 // A name, as the text that it is.
@@ -50,20 +49,20 @@ pub fn load_text<F: Shelf>(
     alloc: Global,
     shelf: &mut F,
     name: &Name,
-    quantity: Quantity,
+    measure: Measure,
     most: u64,
 ) -> Result<Vec<u8>, Refusal>
     requires text { IsUtf8 name.now }
     ensures same { F.told shelf.new ≡ F.told shelf.old }
-    ensures text { IfOk result (λ text. WhereTold (F.told shelf.old) (λ files. Is (text_under files name.now quantity most) (Ok text.items))) }
+    ensures text { IfOk result (λ text. WhereTold (F.told shelf.old) (λ files. Is (text_under files name.now measure most) (Ok text.items))) }
     ensures bytes { IfOk result (λ text. WhereTold (F.told shelf.old) (λ files. files name.now ≡ Some text.items)) }
     ensures short { IfOk result (λ text. length text.items ≤ most) }
-    ensures cause { IfErr result (λ r. WhereTold (F.told shelf.old) (λ files. IsCause r (Is (text_under files name.now quantity most)))) }
+    ensures cause { IfErr result (λ r. WhereTold (F.told shelf.old) (λ files. IsCause r (Is (text_under files name.now measure most)))) }
     ensures stage { IfErr result IsOfFiles }
     ensures counts { CountsReads (F.faults shelf.old) (F.faults shelf.new) result }
 {
     let size = file_size(alloc, shelf, name)?;
-    within(quantity, u128::from(most), u128::from(size))?;
+    within(measure, u128::from(most), u128::from(size))?;
     read_whole(alloc, shelf, name, size)
 }
 

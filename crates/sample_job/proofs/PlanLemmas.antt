@@ -12,6 +12,7 @@ use Rattle.job_text.specs.Inline.{scans_of}
 use Rattle.job_join.specs.declared.fault.Quantity.TheVariants.{Job}
 use Rattle.job_join.specs.Joined.{plan_of, station_plan}
 use Rattle.run_words.specs.declared.order.Order.{Order}
+use Rattle.run_notes.specs.declared.measure.Measure.TheVariants.{Job as OfJob}
 use Rattle.run_notes.specs.Answers.{Answer, job_answer, recording_answer}
 use Rattle.run_ready.specs.Steps.{answered, unless}
 use Rattle.run_ready.specs.Recordings.{missing_file, slot_total, too_many_slots, foreign_answer, first_foreign, files_answer, recordings_answer}
@@ -77,7 +78,7 @@ right seed seconds few =
 abbrev plan_at : ℕ → Plan
 plan_at n = plan_of (job_with n) (scans_of (job_with n))
 
-text-is : (seed seconds : ℕ) → nat_lt 4194304 (length (job_of seconds)) ≡ false → text_under (sample_shelf seed seconds) (codes "job") Job 4194304 ≡ Ok (job_of seconds)
+text-is : (seed seconds : ℕ) → nat_lt 4194304 (length (job_of seconds)) ≡ false → text_under (sample_shelf seed seconds) (codes "job") (OfJob Job) 4194304 ≡ Ok (job_of seconds)
 text-is seed seconds short = rw short refl
 
 planned : (seed seconds workers piece : ℕ) → 1 ≤ seconds → seconds ≤ 60 → SampleOf seed seconds workers piece (Ok (plan_at (160000 * seconds)))

@@ -8,6 +8,7 @@ use Rattle.vis_records.specs.declared.fault.VisFault.{VisFault}
 use Rattle.vis_records.specs.Content.{Content, IsRecordFile}
 use Rattle.vis_records.specs.Reading.{record_file, fault_of}
 use Rattle.vis_records.proofs.FileForms.{reads_back, one_content}
+use Rattle.run_notes.specs.declared.measure.Measure.TheVariants.{Job as OfJob}
 use Rattle.run_notes.specs.Answers.{limit_answer, records_answer}
 use Rattle.run_ready.specs.Steps.{Is}
 use Rattle.run_ready.specs.Outcome.{text_under}
@@ -34,20 +35,20 @@ ContentOf-one text short = by
     by (Err d) (Err e) p q = ap Err (p.2 ∙ ap records_answer (same p.0 q.0 p.1 q.1) ∙ sym q.2)
 
 -- a text that is not too long
-few-bytes : (files : Files) (name text : List ℕ) → text_under files name Records 1073741824 ≡ Ok text → length text ≤ 1073741824
+few-bytes : (files : Files) (name text : List ℕ) → text_under files name (OfJob Records) 1073741824 ≡ Ok text → length text ≤ 1073741824
 few-bytes files name text = by (files name) refl
   where
     within : (t : List ℕ) (b : Bool) → nat_lt 1073741824 (length t) ≡ b
-        → (if b then Err (limit_answer Records (length t)) else Ok t) ≡ Ok text
+        → (if b then Err (limit_answer (OfJob Records) (length t)) else Ok t) ≡ Ok text
         → length text ≤ 1073741824
     within t true is h = cc
     within t false is h = let e : t ≡ text = cc in omega (arith, ap length e, ltb-false 1073741824 (length t) is)
 
-    by : (file : Option (List ℕ)) → files name ≡ file → text_under files name Records 1073741824 ≡ Ok text → length text ≤ 1073741824
+    by : (file : Option (List ℕ)) → files name ≡ file → text_under files name (OfJob Records) 1073741824 ≡ Ok text → length text ≤ 1073741824
     by None is = rw is (λ h. cc)
     by (Some t) is = rw is (λ h. within t (nat_lt 1073741824 (length t)) refl h)
 
 pub RecordsOf-one : (files : Files) (name : List ℕ) → AreOne (RecordsOf files name)
 RecordsOf-one files name =
-    Then-one-behind (Is (text_under files name Records 1073741824)) ContentOf (Is-one (text_under files name Records 1073741824))
+    Then-one-behind (Is (text_under files name (OfJob Records) 1073741824)) ContentOf (Is-one (text_under files name (OfJob Records) 1073741824))
     (λ text is. ContentOf-one text (omega (arith, few-bytes files name text (sym is))))

@@ -1,4 +1,4 @@
--- What a call that shows a record file does, by its steps.
+-- What a call that reads files and appends a text does, by its steps.
 use Rattle.std.proofs.Common.{◌≡◌, ℕ, List, length, Option, Some, None, Result, Ok, Err, refl, sym, subst}
 use Rattle.std.specs.Prelude.{◌≢◌, ⊤, IfErr}
 use Rattle.std.specs.Result.{is_err}
@@ -9,15 +9,14 @@ use Rattle.sink_text.specs.Appends.{Appends}
 use Rattle.vis_records.specs.declared.fault.VisFault.{VisFault}
 use Rattle.vis_records.specs.declared.fault.VisKind.{VisKind}
 use Rattle.vis_records.specs.declared.fault.VisKind.TheVariants.{Magic, Short, Order, AfterEnd, Head, Memory as MemoryKind}
-use Rattle.vis_records.specs.Content.{Content}
 use Rattle.vis_records.specs.Reading.{record_file, fault_of}
-use Rattle.vis_records.specs.Dumped.{dump_text}
 use Rattle.run_notes.specs.declared.refusal.Refusal.{Refusal}
 use Rattle.run_notes.specs.declared.refusal.Refusal.TheVariants.{Memory, Words, Due as DueRefusal, Other, Read, Journal, Write}
 use Rattle.run_notes.specs.Refusals.{Outcomes, IsCause, MatchRead, MatchWrite}
 use Rattle.run_notes.specs.Counted.{CountsReads, CountsWrites}
+use Rattle.run_notes.specs.Commands.{IsPartOf, Shows, IsOfFilesOrOutput}
 use Rattle.run_ready.specs.Stage.{IsOfFiles, IsOfTexts}
-use Rattle.run_dump.specs.Shown.{ContentOf, refusal_by, records_refusal, IsPartOf, Shows, IsOfFilesOrOutput}
+use Rattle.run_dump.specs.Shown.{ContentOf, refusal_by, records_refusal}
 
 -- what is refused for a file is no fault of the output
 pub MatchWrite-files : (r : Refusal) (P Q : Type 0) → IsOfFiles r → Q → MatchWrite r P Q
@@ -29,36 +28,46 @@ MatchWrite-files Read P Q stage q = q
 MatchWrite-files (Journal kept) P Q stage q = absurd stage
 MatchWrite-files Write P Q stage q = absurd stage
 
--- a call that was refused for the file
-pub Shows-refused : (told : Option Files) (outcomes : Files → Outcomes Content) (old : Option (List ℕ)) (r : Refusal) → IsOfFiles r
+pub IsOfFiles-output : (r : Refusal) → IsOfFiles r → IsOfFilesOrOutput r
+IsOfFiles-output Memory stage = tt
+IsOfFiles-output (Words fault) stage = absurd stage
+IsOfFiles-output (DueRefusal due) stage = tt
+IsOfFiles-output (Other d) stage = absurd stage
+IsOfFiles-output Read stage = tt
+IsOfFiles-output (Journal kept) stage = absurd stage
+IsOfFiles-output Write stage = absurd stage
+
+-- a call that was refused for its files
+pub Shows-refused : {A : Type 0} (told : Option Files) (outcomes : Files → Outcomes A) (text : A → List ℕ) (old : Option (List ℕ)) (r : Refusal)
+    → IsOfFiles r
     → WhereTold told (λ files. IsCause r (outcomes files))
-    → WhereTold told (λ files. Shows (outcomes files) old old (Err r))
-Shows-refused None outcomes old r stage cause = tt
-Shows-refused (Some files) outcomes old r stage cause = record {
+    → WhereTold told (λ files. Shows (outcomes files) text old old (Err r))
+Shows-refused None outcomes text old r stage cause = tt
+Shows-refused (Some files) outcomes text old r stage cause = record {
   done = tt;
   cause = cause;
-  part = MatchWrite-files r (IsPartOf (outcomes files) old old) (old ≡ old) stage refl;
+  part = MatchWrite-files r (IsPartOf (outcomes files) text old old) (old ≡ old) stage refl;
 }
 
--- a call that came to its lines
-pub Shows-shown : (told : Option Files) (outcomes : Files → Outcomes Content) (content : Content) (old new : Option (List ℕ))
+-- a call that came to its text
+pub Shows-shown : {A : Type 0} (told : Option Files) (outcomes : Files → Outcomes A) (text : A → List ℕ) (x : A) (old new : Option (List ℕ))
     (before now : ℕ) (r : Result (Unit {0}) Refusal)
-    → WhereTold told (λ files. outcomes files (Ok content))
-    → Appends old new (dump_text content) before now r
+    → WhereTold told (λ files. outcomes files (Ok x))
+    → Appends old new (text x) before now r
     → IfErr r (λ e. e ≡ Write)
-    → WhereTold told (λ files. Shows (outcomes files) old new r)
-Shows-shown None outcomes content old new before now r is appends write = tt
-Shows-shown (Some files) outcomes content old new before now (Ok x) is appends write = record {
-  done = (content, is, appends.ok);
+    → WhereTold told (λ files. Shows (outcomes files) text old new r)
+Shows-shown None outcomes text x old new before now r is appends write = tt
+Shows-shown (Some files) outcomes text x old new before now (Ok done) is appends write = record {
+  done = (x, is, appends.ok);
   cause = tt;
   part = tt;
 }
-Shows-shown (Some files) outcomes content old new before now (Err e) is appends write = record {
+Shows-shown (Some files) outcomes text x old new before now (Err e) is appends write = record {
   done = tt;
-  cause = subst (λ (r : Refusal). IsCause r (outcomes files)) (sym write) (content, is);
+  cause = subst (λ (r : Refusal). IsCause r (outcomes files)) (sym write) (x, is);
   part =
-      subst (λ (r : Refusal). MatchWrite r (IsPartOf (outcomes files) old new) (new ≡ old)) (sym write)
-      (content, is, appends.prefix);
+      subst (λ (r : Refusal). MatchWrite r (IsPartOf (outcomes files) text old new) (new ≡ old)) (sym write)
+      (x, is, appends.prefix);
 }
 
 pub nothing-shown : (r : Result (Unit {0}) Refusal) (P : Type 0) → IfErr r (λ e. e ≡ Write) → IfErr r (λ e. MatchWrite e ⊤ P)

@@ -51,10 +51,7 @@ pub(crate) fn with<'a>(command: Command<'a>, arg: Arg<'a>) -> Result<Command<'a>
 }
 
 /// The command with `--workers` and `--piece`.
-pub(crate) fn with_work<'a>(
-    alloc: Global,
-    command: Command<'a>,
-) -> Result<Command<'a>, AllocError>
+pub(crate) fn with_work<'a>(alloc: Global, command: Command<'a>) -> Result<Command<'a>, AllocError>
     ensures { IfOk result (λ more. app_of more ≡ work_app (app_of command.entry)) }
 {
     let command = with(command, needed_option(alloc, "workers"))?;

@@ -9,3 +9,4 @@ pub mod Counting
 pub mod Turns
 pub mod Passed
 pub mod Placing
+pub mod OneLemmas

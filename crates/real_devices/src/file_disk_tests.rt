@@ -36,6 +36,18 @@ fn a_file_as_a_disk(rt: HostRuntime) -> Result<(), Fail> {
     assert_eq!(rt; buf, [0, 1, 2, 2, 3, 4, 9, 9]);
     assert_eq!(rt; again.read_at(u64::MAX, &mut buf), Ok(0));
 
+    // While the first one has the lock nothing is changed through another.
+    assert_eq!(rt; again.sync(), Err(Failed));
+    assert_eq!(rt; again.write_at(0, &[1]), Err(Failed));
+    assert_eq!(rt; again.cut(0), Err(Failed));
+
+    // Nor afterwards, where something else stands in the file than what the mark stands for.
+    drop(disk);
+    assert_eq!(rt; again.sync(), Ok(()));
+    assert_eq!(rt; again.write_at(0, &[1]), Err(Failed));
+    assert_eq!(rt; again.cut(0), Err(Failed));
+    assert_eq!(rt; again.len(), Ok(4));
+
     // A folder is no file.
     let mut none = FileDisk::new(&rt, String::from_str(alloc, folder.as_str())?, MARK, None);
     assert_eq!(rt; none.sync(), Err(Failed));

@@ -3,11 +3,11 @@ ghost use Rattle.std.specs.Prelude.{◌≡◌};
 ghost use Rattle.real_devices.specs.Begun.{is_begun, are_zeros};
 
 /// A disk writes so many bytes whole, or not at all.
-pub const SECTOR: usize = 512;
+pub(crate) const SECTOR: usize = 512;
 
 /// Whether a file with this front, its first sector or all of a shorter one, is one whose writing was begun, with an open or a
 /// closed gate and the mark behind it, or may be what a crash has left of its beginning.
-pub fn is_begun(front: &[u8], mark: &[u8]) -> bool
+pub(crate) fn is_begun(front: &[u8], mark: &[u8]) -> bool
     ensures { result ≡ is_begun mark.now front.now }
 {
     if front.len() <= 1 {

@@ -81,7 +81,7 @@ impl Cases {
 
     /// The index of files of the folder in which the program runs.
     pub fn index_on_disk(&mut self, rt: &HostRuntime, rest: &str) -> Result<()> {
-        let mut shelf = FileShelf::new(SystemFiles::new(rt));
+        let mut shelf = FileShelf::new(SystemFiles::new(rt, [None, None]));
         self.build(rt, "disk", &mut shelf, rest)
     }
 

@@ -1,3 +1,4 @@
+pub mod Begun
 pub mod FileShelfState
 pub mod Opened
 pub mod Placed

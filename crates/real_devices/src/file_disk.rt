@@ -2,6 +2,8 @@
 ghost use Rattle.std.specs.Prelude.{◌≡◌, ◌+◌, ◌<◌, ◌≤◌, ◌^◌, None, IfSome, length};
 ghost use Rattle.dev_traits.specs.Fault.{HasRisen};
 
+use crate::begun::{SECTOR, is_begun};
+use crate::file_id::FileId;
 use dev_traits::{Disk, Failed};
 use std::fs::{File, OpenOptions};
 use std::marker::Model;
@@ -10,16 +12,32 @@ use std::path::Path;
 use std::rt::Files;
 
 /// A regular file of the operating system, opened or made at the first call and kept open from then
-/// on, under one descriptor that is never 0, 1 or 2. Where it cannot be opened the call fails. A
-/// contract sees it as its count of faults.
+/// on, under one descriptor that is never 0, 1 or 2. Where it cannot be opened the call fails, and so
+/// it does where the file is that of standard output. A contract sees it as its count of faults.
+///
+/// The first call that syncs, writes or cuts locks the file, which the system gives back when the process
+/// ends, however it does. While another process has the lock each such call fails. So does each that
+/// writes or cuts where the file held something else when it was locked: more than a byte, and not
+/// the mark behind a gate.
 #[derive(Drop)]
 pub struct FileDisk<R: Files<File = File> + Drop> {
     rt: R,
     path: String,
+    mark: [u8; 8],
+    output: Option<FileId>,
     file: Option<File>,
     // The file was made here, and its folder does not surely name it yet.
     is_new: bool,
+    claim: Claim,
     faults: u64,
+}
+
+// Whether the file is locked, and whose it was found to be then.
+#[derive(Clone, Copy, PartialEq, Eq)]
+enum Claim {
+    Unlocked,
+    Foreign,
+    Own,
 }
 
 impl<R: Files<File = File> + Drop> Model for FileDisk<R> {
@@ -31,15 +49,18 @@ impl<R: Files<File = File> + Drop> Model for FileDisk<R> {
 }
 
 impl<R: Files<File = File> + Drop> FileDisk<R> {
-    /// The file of that path.
-    pub fn new(rt: R, path: String) -> FileDisk<R>
+    /// The file of that path, which is written with this mark, and is not that of the output.
+    pub fn new(rt: R, path: String, mark: [u8; 8], output: Option<FileId>) -> FileDisk<R>
         ensures { result ≡ 0 }
     {
         FileDisk {
             rt,
             path,
+            mark,
+            output,
             file: None,
             is_new: false,
+            claim: Claim::Unlocked,
             faults: 0,
         }
     }
@@ -58,10 +79,20 @@ impl<R: Files<File = File> + Drop> FileDisk<R> {
         ensures { self.new ≡ self.old }
     {
         if self.file.is_none() {
-            if let Some((file, is_new)) = open_or_make(&self.rt, self.path.as_str()) {
+            if let Some((file, is_new)) = open_or_make(&self.rt, self.path.as_str(), self.output) {
                 self.file = Some(file);
                 self.is_new = is_new;
             }
+        }
+    }
+
+    // Opens and locks the file, where that was not done yet; without success it stays unlocked.
+    fn claim(&mut self)
+        ensures { self.new ≡ self.old }
+    {
+        self.open();
+        if let (Some(file), Claim::Unlocked) = (&self.file, self.claim) {
+            self.claim = claim_of(file, &self.mark);
         }
     }
 }
@@ -106,28 +137,28 @@ impl<R: Files<File = File> + Drop> Disk for FileDisk<R> {
     }
 
     fn write_at(&mut self, at: u64, bytes: &[u8]) -> Result<(), Failed> {
-        self.open();
+        self.claim();
         let done = match &self.file {
-            Some(file) => write_whole(file, at, bytes),
-            None => false,
+            Some(file) if self.claim == Claim::Own => write_whole(file, at, bytes),
+            _ => false,
         };
         if done { Ok(()) } else { Err(self.failed()) }
     }
 
     fn cut(&mut self, len: u64) -> Result<(), Failed> {
-        self.open();
+        self.claim();
         let done = match &self.file {
-            Some(file) => shorten(file, len),
-            None => false,
+            Some(file) if self.claim == Claim::Own => shorten(file, len),
+            _ => false,
         };
         if done { Ok(()) } else { Err(self.failed()) }
     }
 
     fn sync(&mut self) -> Result<(), Failed> {
-        self.open();
+        self.claim();
         let done = match &self.file {
-            Some(file) => file.sync_all().is_ok(),
-            None => false,
+            Some(file) if self.claim != Claim::Unlocked => file.sync_all().is_ok(),
+            _ => false,
         };
         if !done || self.is_new && !sync_folder(&self.rt, self.path.as_str()) {
             return Err(self.failed());
@@ -138,25 +169,46 @@ impl<R: Files<File = File> + Drop> Disk for FileDisk<R> {
 }
 
 // Opens a regular file for reading and writing, or makes it, and tells whether it was made.
-fn open_or_make<R: Files<File = File>>(rt: &R, path: &str) -> Option<(File, bool)> {
+fn open_or_make<R: Files<File = File>>(
+    rt: &R,
+    path: &str,
+    output: Option<FileId>,
+) -> Option<(File, bool)> {
     let mut options = OpenOptions::new();
     options.read(true).write(true);
     if let Ok(file) = options.open(rt, path) {
-        return Some((clear_of_streams(&file)?, false));
+        return Some((clear_of_streams(&file, output)?, false));
     }
     options.create_new(true);
     match options.open(rt, path) {
-        Ok(file) => Some((clear_of_streams(&file)?, true)),
+        Ok(file) => Some((clear_of_streams(&file, output)?, true)),
         Err(_) => None,
     }
 }
 
-// A regular file under a descriptor from 3 on. A process that was started without one of its
-// standard streams would open the file in that stream's place; a clone never stands there.
-fn clear_of_streams(file: &File) -> Option<File> {
+// A regular file that is not the output's, under a descriptor from 3 on. A process that was started
+// without one of its standard streams would open the file in that stream's place; a clone never
+// stands there.
+fn clear_of_streams(file: &File, output: Option<FileId>) -> Option<File> {
     match file.metadata() {
-        Ok(metadata) if metadata.is_file() => file.try_clone().ok(),
+        Ok(found) if found.is_file() && Some(FileId::new(&found)) != output => file
+            .try_clone()
+            .ok(),
         _ => None,
+    }
+}
+
+// Locks the file and looks whose it is; it counts as unlocked where another process has the lock, or
+// the file cannot be read.
+fn claim_of(file: &File, mark: &[u8]) -> Claim {
+    if file.try_lock().is_err() {
+        return Claim::Unlocked;
+    }
+    let mut front = [0; SECTOR];
+    match read_full(file, 0, &mut front) {
+        Some(n) if is_begun(&front[..n], mark) => Claim::Own,
+        Some(_) => Claim::Foreign,
+        None => Claim::Unlocked,
     }
 }
 

@@ -2,9 +2,11 @@
 //! not tell their content, since no contract can speak of the files and streams of a system.
 #![tactic(auto)]
 
+mod begun;
 mod file_disk;
 #[cfg(test)]
 mod file_disk_tests;
+mod file_id;
 mod file_shelf;
 mod held_streams;
 mod named_files;
@@ -15,6 +17,7 @@ mod std_sink;
 mod tests;
 
 pub use file_disk::FileDisk;
+pub use file_id::FileId;
 pub use file_shelf::FileShelf;
 pub use held_streams::HeldStreams;
 pub use named_files::{Kind, NamedFiles, SystemFiles};

@@ -3,6 +3,7 @@ ghost use Rattle.std.specs.Prelude.{◌≡◌, ◌↔◌, List, ℕ, Bool, Optio
 ghost use Rattle.dev_traits.specs.Told.{WhereTold};
 ghost use Rattle.real_devices.specs.Opened.{Opens};
 
+use crate::file_id::FileId;
 use crate::placed_file::PlacedFile;
 use std::fs::File;
 use std::os::fd::AsRawFd;
@@ -15,7 +16,7 @@ use std::{fs, io};
 pub enum Kind {
     Missing,
     Regular,
-    /// A folder, a pipe, a device or a socket.
+    /// A folder, a pipe, a device or a socket, or a file that is not for reading.
     Other,
 }
 
@@ -44,16 +45,21 @@ pub trait NamedFiles {
             Opens Self.File.told Self.File.never_fails (never_fails self.old) (files name.now) result) };
 }
 
-/// The files of the operating system; a name is a path.
+/// The files of the operating system but those that the program itself writes; a name is a path.
 #[derive(Drop)]
 pub struct SystemFiles<R: Files<File = File> + Drop> {
     rt: R,
+    written: [Option<FileId>; 2],
 }
 
 impl<R: Files<File = File> + Drop> SystemFiles<R> {
-    /// The files that this runtime reaches.
-    pub fn new(rt: R) -> SystemFiles<R> {
-        SystemFiles { rt }
+    /// The files that this runtime reaches, but for those which are written, under whatever name they stand.
+    pub fn new(rt: R, written: [Option<FileId>; 2]) -> SystemFiles<R> {
+        SystemFiles { rt, written }
+    }
+
+    fn is_written(&self, file: FileId) -> bool {
+        self.written.contains(&Some(file))
     }
 }
 
@@ -66,7 +72,7 @@ impl<R: Files<File = File> + Drop> NamedFiles for SystemFiles<R> {
 
     fn kind(&mut self, name: &str) -> Kind {
         match fs::metadata(&self.rt, name) {
-            Ok(found) if found.is_file() => Kind::Regular,
+            Ok(found) if found.is_file() && !self.is_written(FileId::new(&found)) => Kind::Regular,
             Ok(_) => Kind::Other,
             Err(_) => Kind::Missing,
         }

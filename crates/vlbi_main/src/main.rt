@@ -1,11 +1,12 @@
 //! The program `vlbi`: the devices of the operating system, and one call of `run` over them. Its first
 //! word is the path of the journal; the other words are the command's. Standard output gets the
 //! records, standard error a refusal's line, and the exit status is the call's. Where one of the
-//! standard streams is closed, no file of the program's gets its number.
+//! standard streams is closed, no file of the program's gets its number. Neither the journal nor what
+//! standard output goes to is read as anything else.
 #![tactic(auto)]
 
 use mem_devices::OpenGate;
-use real_devices::{FileDisk, FileShelf, HeldStreams, StdSink, SystemFiles};
+use real_devices::{FileDisk, FileId, FileShelf, HeldStreams, StdSink, SystemFiles};
 use run_notes::{Refusal, status, write_note};
 use run_words::WordsFault;
 use std::env;
@@ -13,13 +14,18 @@ use std::io::ErrorKind;
 use std::process::ExitCode;
 use vlbi_core::run;
 
+/// What a journal's file has behind its head gate.
+const MARK: [u8; 8] = *b"VLBIJRN1";
+
 fn main(rt: HostRuntime) -> ExitCode {
     let _held = HeldStreams::new(&rt);
     let mut notes = StdSink::new(rt.stderr());
     match words(&rt) {
         Ok((path, words)) => {
-            let mut shelf = FileShelf::new(SystemFiles::new(&rt));
-            let mut journal = FileDisk::new(&rt, path);
+            let output = FileId::of_output(&rt);
+            let written = [FileId::at(&rt, path.as_str()), output];
+            let mut shelf = FileShelf::new(SystemFiles::new(&rt, written));
+            let mut journal = FileDisk::new(&rt, path, MARK, output);
             let mut out = StdSink::new(rt.stdout());
             ExitCode::from(run(
                 &rt,

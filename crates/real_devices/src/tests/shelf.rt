@@ -10,7 +10,7 @@ fn a_shelf_of_files(rt: HostRuntime) -> Result<(), Fail> {
     let other = format!(in rt.alloc(); "{}/other-{}", dir.as_str(), process::id(rt.process()))?;
     let (path, other) = (path.as_str(), other.as_str());
     fs::write(&rt, path, [1, 2, 3, 4, 5])?;
-    let mut shelf = FileShelf::new(SystemFiles::new(&rt));
+    let mut shelf = FileShelf::new(SystemFiles::new(&rt, [None, None]));
     let mut buf = [7; 3];
     assert_eq!(rt; shelf.size(path), Ok(Some(5)));
     assert_eq!(rt; shelf.read_at(path, 1, &mut buf), Ok(3));

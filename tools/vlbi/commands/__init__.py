@@ -3,6 +3,7 @@ from __future__ import annotations
 
 import argparse
 import os
+import shutil
 import sys
 from collections.abc import Callable, Sequence
 from typing import Any
@@ -58,3 +59,13 @@ def told(name: str, work: Callable[[], int]) -> int:
         return 130
     print(f"{name}: {words}", file=sys.stderr)
     return 1
+
+
+def program(asked: str | None = None) -> str | None:
+    """The path of the program `vlbi`: the one that is asked for, or that beside this command, or the first on the path; None where there is none."""
+    if asked is not None:
+        if not os.access(asked, os.X_OK) or os.path.isdir(asked):
+            raise Fault("it is no program", asked)
+        return os.path.abspath(asked)
+    beside = os.path.join(os.path.dirname(os.path.realpath(sys.argv[0])), "vlbi")
+    return beside if os.access(beside, os.X_OK) and os.path.isfile(beside) else shutil.which("vlbi")

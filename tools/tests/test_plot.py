@@ -116,6 +116,8 @@ def test_no_pairs(folder: Folder) -> None:
     first = len(file) - 9 - 2 * size
     for record in range(2):
         file[first + record * size + records.PLACE.itemsize:first + (record + 1) * size] = 0
+    scan = records.from_bytes(file.tobytes()).scans[0]
+    assert numpy.isnan(fringes.of(scan, 0, 0).lag) and drawing.Pair(scan, 0, 0).peak_words == "no pairs"
     assert folder.call(file.tobytes(), "sky.vis", "picture.png") == (0, ["picture.png"], "")
 
 

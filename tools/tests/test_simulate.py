@@ -16,7 +16,7 @@ import theory
 from numpy.typing import NDArray
 
 from vlbi import fringe as fringes
-from vlbi import job, records, vex
+from vlbi import commands, job, records, vex
 from vlbi.commands import simulate as command
 from vlbi.simulate import BLOCK, THRESHOLD, CommonNoise, Sky, SkyFault, Station, codes_of, packed, simulate, wave_at
 
@@ -195,16 +195,16 @@ def test_the_command(tmp_path: Path, capsys: pytest.CaptureFixture[str]) -> None
 
 def test_progress(capsys: pytest.CaptureFixture[str], monkeypatch: pytest.MonkeyPatch, tmp_path: Path) -> None:
     """A line each time that so many seconds have gone by; in a terminal one line that changes."""
-    monkeypatch.setattr(command, "EVERY", 0.0)
+    monkeypatch.setattr(commands.Progress, "EVERY", 0.0)
     assert command.main(["--rate", "80000", "--seconds", "2", str(tmp_path)]) == 0
     lines = capsys.readouterr().err.splitlines()
     assert len(lines) == 3 and lines[0] == "vlbi-simulate: 0.8 of 2 seconds are made" and lines[-1] == "vlbi-simulate: 2.0 of 2 seconds are made"
     assert command.main(["--quiet", "--rate", "80000", "--seconds", "2", str(tmp_path)]) == 0
     assert capsys.readouterr().err == ""
-    shown = command.Progress(2)
+    shown = commands.Progress("vlbi-simulate", "seconds are made")
     shown.shown, shown.last = True, float("-inf")
-    shown.say(1.0)
-    shown.say(2.0)
+    shown.say(1.0, 2)
+    shown.say(2.0, 2)
     assert capsys.readouterr().err == "\rvlbi-simulate: 1.0 of 2 seconds are made\rvlbi-simulate: 2.0 of 2 seconds are made\n"
 
 

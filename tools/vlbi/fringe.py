@@ -57,7 +57,7 @@ class Fringe:
 
 
 def of(scan: Scan, product: int, baseline: int) -> Fringe:
-    """The Fringe of a product and a baseline, numbers from 0, of a Scan of a record file; all NaN where it has no integration."""
+    """The Fringe of a product and a baseline, numbers from 0, of a Scan of a record file; all NaN where it has no pair."""
     cells = scan.cells[:, product, baseline]
     sums = cells["re"] + 1j * cells["im"]
     pairs = numpy.maximum(cells["count"].sum(axis=0, dtype=numpy.float64), 1)
@@ -66,7 +66,7 @@ def of(scan: Scan, product: int, baseline: int) -> Fringe:
     heights = numpy.abs(turned) / pairs
     lags = scan.head.lag_numbers.astype(numpy.float64)
     nan = float("nan")
-    if heights.size == 0:
+    if not has_pairs(scan, product, baseline):
         return Fringe(lags, rates, heights, nan, nan, nan, nan, nan)
     k, l = divmod(int(heights.argmax()), heights.shape[1])
     lag = lags[l] + vertex(heights[k], l)
@@ -74,6 +74,11 @@ def of(scan: Scan, product: int, baseline: int) -> Fringe:
     mean = (sums[:, l] * back(scan.times, rate)).sum() / pairs[l]
     noise = numpy.median(heights) / numpy.sqrt(2 * numpy.log(2)) if sums.size >= FEW else nan
     return Fringe(lags, rates, heights, float(lag), float(rate), float(abs(mean)), float(numpy.angle(mean, deg=True)), float(noise))
+
+
+def has_pairs(scan: Scan, product: int, baseline: int) -> bool:
+    """Whether any cell of a product and a baseline has a pair."""
+    return bool(scan.cells["count"][:, product, baseline].any())
 
 
 def back(times: Reals, rate: float) -> Complexes:

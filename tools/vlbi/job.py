@@ -175,9 +175,21 @@ class Plan:
 def plan(job: bytes, schedule: bytes = b"") -> Plan:
     """The Plan of a job's text and its schedule's, empty where there is none; JobFault where they cannot be read."""
     lines = job_lines(job)
-    keys = tuple(fields[0] for fields in lines.get("station", []) if fields)
+    return plan_of(lines, schedule_ends(schedule, keys_of(lines)) if schedule else inline_ends(lines, keys_of(lines)))
+
+
+def keys_of(lines: dict[str, list[list[str]]]) -> tuple[str, ...]:
+    """The keys of the stations."""
+    return tuple(fields[0] for fields in lines.get("station", []) if fields)
+
+
+def plan_of(lines: dict[str, list[list[str]]], ends: Iterable[tuple[str, dict[str, int]]]) -> Plan:
+    """The Plan of a job's lines, as `job_lines` gives them.
+
+    ends  all scans: each one's name, and the sample before which the part of each of the job's stations in it ends
+    """
+    keys = keys_of(lines)
     taken = {fields[0] for fields in lines.get("take", []) if fields}
-    ends = schedule_ends(schedule, keys) if schedule else inline_ends(lines, keys)
     made = []
     for name, last in ends:
         standing = [number for number, key in enumerate(keys) if key in last and (not taken or name in taken)]
@@ -212,11 +224,15 @@ def only_number(lines: dict[str, list[list[str]]], word: str) -> int:
 def job_lines(text: bytes) -> dict[str, list[list[str]]]:
     """The lines of a job by their words, each as a list of the fields behind its word."""
     lines: dict[str, list[list[str]]] = {}
-    for line in text.decode("latin-1").split("\n"):
-        fields = line.split("#")[0].split()
-        if fields:
-            lines.setdefault(fields[0], []).append(fields[1:])
+    for _, fields in numbered_lines(text):
+        lines.setdefault(fields[0], []).append(fields[1:])
     return lines
+
+
+def numbered_lines(text: bytes) -> list[tuple[int, list[str]]]:
+    """The lines of a job that have a field, each with its number from 1, and its fields with its word in front."""
+    rows = ((number, line.split("#")[0].split()) for number, line in enumerate(text.decode("latin-1").split("\n"), 1))
+    return [(number, fields) for number, fields in rows if fields]
 
 
 def whole(number: str) -> int:

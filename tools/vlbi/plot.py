@@ -29,6 +29,7 @@ COLOURS = ("#1f5fa8", "#c8501e", "#2e8b57", "#8a4fa3", "#b8860b", "#00868b", "#a
 PEAK = "#e8502a"
 SMALL = 8        # points of the letters
 MINUS = "\N{MINUS SIGN}"
+NO_PAIRS = "no pairs"
 MICROSECONDS = "\N{MICRO SIGN}s"
 
 
@@ -61,17 +62,23 @@ class Pair:
         x, y = self.scan.head.products[self.product]
         return x if x == y else f"{x} \N{MULTIPLICATION SIGN} {y}"
 
+    @functools.cached_property
+    def has_pairs(self) -> bool:
+        return fringes.has_pairs(self.scan, self.product, self.baseline)
+
     @property
     def peak_words(self) -> str:
-        """The peak's lag, residual rate and signal to noise in words."""
+        """The peak's lag, residual rate and signal to noise in words, or that there is none."""
+        if not self.has_pairs:
+            return NO_PAIRS
         fringe = self.fringe
         lag = f"lag {signed(fringe.lag, 2)} samples ({signed(fringe.lag * 1e6 / self.scan.head.rate, 3)} {MICROSECONDS})"
         return ",  ".join([lag, f"rate {signed(fringe.rate, 3)} Hz", f"SNR {fringe.snr:.0f}" if numpy.isfinite(fringe.snr) else "SNR unknown"])
 
     def over_lags(self) -> NDArray[numpy.complex128]:
-        """The mean over the scan at each lag, turned back at the peak's rate: complex128 (L,)."""
+        """The mean over the scan at each lag, turned back at the peak's rate: complex128 (L,), 0 where it has no pair."""
         cells = self.scan.cells[:, self.product, self.baseline]
-        sums = (cells["re"] + 1j * cells["im"]) * fringes.back(self.scan.times, self.fringe.rate)[:, None]
+        sums = (cells["re"] + 1j * cells["im"]) * fringes.back(self.scan.times, self.fringe.rate if self.has_pairs else 0.0)[:, None]
         means: NDArray[numpy.complex128] = self.scale * sums.sum(axis=0) / numpy.maximum(cells["count"].sum(axis=0), 1)
         return means
 
@@ -162,8 +169,9 @@ def draw_map(figure: Figure, place: Place, pair: Pair) -> None:
     axes.set_ylabel("residual rate (Hz)", fontsize=SMALL, labelpad=2)
     axes.set_xlim(fringe.lags[0] - 0.5, fringe.lags[-1] + 0.5)
     microsecond_axis(axes, pair.scan.head.rate)
-    if len(fringe.rates) < 2:
-        axes.text(0.5, 0.5, "one integration has no rates", transform=axes.transAxes, ha="center", va="center", color="#777777")
+    if len(fringe.rates) < 2 or not pair.has_pairs:
+        said = "one integration has no rates" if pair.has_pairs else NO_PAIRS
+        axes.text(0.5, 0.5, said, transform=axes.transAxes, ha="center", va="center", color="#777777")
         axes.set_yticks([])
         return
     step = fringe.rates[1] - fringe.rates[0]
@@ -179,9 +187,9 @@ def draw_map(figure: Figure, place: Place, pair: Pair) -> None:
     axes.set_ylim(extent[2:])
 
 
-def shrunk(heights: NDArray[numpy.float64]) -> NDArray[numpy.float64]:
-    """A map of at most MOST_ROWS rows, each the greatest of those that it stands for, so that no peak is lost."""
-    times = -(-len(heights) // MOST_ROWS)
+def shrunk(heights: NDArray[numpy.float64], most: int = MOST_ROWS) -> NDArray[numpy.float64]:
+    """A map of at most so many rows, each the greatest of those that it stands for, so that no peak is lost."""
+    times = -(-len(heights) // most)
     padded = numpy.pad(heights, ((0, -len(heights) % times), (0, 0)))
     greatest: NDArray[numpy.float64] = padded.reshape(-1, times, heights.shape[1]).max(axis=1)
     return greatest

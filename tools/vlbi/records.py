@@ -13,8 +13,8 @@ import dataclasses
 import mmap
 import os
 import stat
-from collections.abc import Iterator
-from typing import BinaryIO, Union
+from collections.abc import Callable, Iterator
+from typing import BinaryIO, Protocol, Union
 
 import numpy
 from numpy.typing import NDArray
@@ -368,16 +368,47 @@ def journal(path: str) -> Journal:
 
 def read_journal(data: Data) -> Journal:
     """How far the journal of these bytes is."""
-    if len(data) <= 1 or data[0] != 1:
-        return Journal(blank=True)
     front = JournalFront(data)
+    found = read_identity(front)
+    if found is None:
+        return Journal(blank=True)
+    rows = ROWS[found.magic](found, front.at)
+    rows.go(front)
+    return Journal(False, rows.kept, rows.plan.epochs, rows.kept_samples, rows.plan.samples, found.job, found.schedule, found.recordings)
+
+
+@dataclasses.dataclass(frozen=True)
+class Identity:
+    """What a journal says of its job: its form's mark, the texts of job and schedule, the lengths of the recordings."""
+
+    magic: bytes
+    job: bytes
+    schedule: bytes
+    recordings: tuple[int, ...]
+
+
+def identity(path: str) -> Identity | None:
+    """The Identity of the journal at a path; None where it is blank. JournalFault where it is no journal."""
+    try:
+        with open(path, "rb") as file:
+            return read_identity(JournalFront(content(file)))
+    except Fault as fault:
+        fault.name_file(path)
+        raise
+
+
+def read_identity(front: JournalFront) -> Identity | None:
+    """The Identity with which a journal begins; None where it is blank. The first epoch is next then."""
+    if len(front.data) <= 1 or front.data[0] != 1:
+        return None
     front.at = 1
-    if front.piece(8) != JOURNAL_MAGIC:
+    magic = bytes(front.piece(8))
+    if magic not in ROWS:
         raise JournalFault("another mark", 1)
     lengths = [front.word() for _ in range(3)]
     recordings = tuple(front.word() for _ in range(lengths.pop()))
     schedule, job = (bytes(front.piece(length)) for length in lengths)
-    return walk(front, job, schedule, recordings)
+    return Identity(magic, job, schedule, recordings)
 
 
 class JournalFront(Front):
@@ -392,19 +423,85 @@ class JournalFront(Front):
         return int.from_bytes(self.piece(8), "little")
 
 
-def walk(front: JournalFront, job: bytes, schedule: bytes, recordings: tuple[int, ...]) -> Journal:
-    """The Journal whose first gate is next: the open gates in a row are counted, scan by scan."""
-    plan = jobs.plan(job, schedule)
-    kept = kept_samples = 0
-    for scan in plan.scans:
-        size = 1 + len(plan.products) * len(scan.baselines) * plan.lags * CELL.itemsize
-        opened = open_gates(front, plan.epochs_of(scan), size)
-        kept += opened
-        kept_samples += plan.samples_of(scan, opened)
-        if opened < plan.epochs_of(scan):
-            break
-    front.piece(1)
-    return Journal(False, kept, plan.epochs, kept_samples, plan.samples, job, schedule, recordings)
+class Rows(Protocol):
+    """The epochs of a journal of one form, gone over from the front.
+
+    plan          what its job comes to
+    kept          the epochs that were found to be kept
+    kept_samples  the samples in them
+    """
+
+    plan: jobs.Plan
+    kept: int
+    kept_samples: int
+
+    def go(self, front: JournalFront) -> None:
+        """Goes on over what is kept by now. JournalFault where it is no journal."""
+
+
+class EpochRows:
+    """The epochs of the first form: in the job's order, each behind its gate.
+
+    at  the place of the next epoch's gate
+    """
+
+    def __init__(self, found: Identity, at: int) -> None:
+        self.plan = jobs.plan(found.job, found.schedule)
+        self.at = at
+        self.kept = 0
+        self.kept_samples = 0
+        self.scan = 0    # the number of the next epoch's scan, and the epochs of it that are kept
+        self.in_scan = 0
+
+    def go(self, front: JournalFront) -> None:
+        front.at = self.at
+        while self.scan < len(self.plan.scans):
+            scan = self.plan.scans[self.scan]
+            size = 1 + len(self.plan.products) * len(scan.baselines) * self.plan.lags * CELL.itemsize
+            opened = open_gates(front, self.plan.epochs_of(scan) - self.in_scan, size)
+            before = self.plan.samples_of(scan, self.in_scan)
+            self.in_scan += opened
+            self.kept += opened
+            self.kept_samples += self.plan.samples_of(scan, self.in_scan) - before
+            if self.in_scan < self.plan.epochs_of(scan):
+                break
+            self.scan, self.in_scan = self.scan + 1, 0
+        self.at = front.at
+        front.piece(1)
+
+
+ROWS: dict[bytes, Callable[[Identity, int], Rows]] = {JOURNAL_MAGIC: EpochRows}  # by the mark of each form
+
+
+class Follower:
+    """Looks again and again at a journal that grows, and each time only at what is new.
+
+    path  the journal, which need not be there yet
+    """
+
+    def __init__(self, path: str) -> None:
+        self.path = path
+        self.identity: Identity | None = None
+        self.rows: Rows | None = None
+
+    def look(self) -> Rows | None:
+        """How far the journal is now; None where it is not there or blank. JournalFault where it is no journal."""
+        try:
+            with open(self.path, "rb") as file:
+                front = JournalFront(content(file))
+        except FileNotFoundError:
+            return None
+        try:
+            if self.rows is None:
+                self.identity = read_identity(front)
+                if self.identity is None:
+                    return None
+                self.rows = ROWS[self.identity.magic](self.identity, front.at)
+            self.rows.go(front)
+        except Fault as fault:
+            fault.name_file(self.path)
+            raise
+        return self.rows
 
 
 def open_gates(front: JournalFront, epochs: int, size: int) -> int:

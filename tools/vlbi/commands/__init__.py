@@ -3,7 +3,9 @@ from __future__ import annotations
 
 import argparse
 import os
+import shutil
 import sys
+import time
 from collections.abc import Callable, Sequence
 from typing import Any
 
@@ -58,3 +60,36 @@ def told(name: str, work: Callable[[], int]) -> int:
         return 130
     print(f"{name}: {words}", file=sys.stderr)
     return 1
+
+
+class Progress:
+    """Says on standard error how far a command is: in a terminal in one line that changes, else in a line each ten seconds.
+
+    name, what  the command, and what is counted
+    """
+
+    EVERY, EVERY_SHOWN = 10.0, 0.2  # seconds between two lines, and between two changes of one
+
+    def __init__(self, name: str, what: str, quiet: bool = False) -> None:
+        self.name, self.what, self.quiet = name, what, quiet
+        self.shown = sys.stderr.isatty()
+        self.last = time.monotonic()
+
+    def say(self, done: float, of: float) -> None:
+        """So many of so many are done."""
+        now, whole = time.monotonic(), done >= of
+        if self.quiet or now - self.last < (self.EVERY_SHOWN if self.shown else self.EVERY) and not (whole and self.shown):
+            return
+        self.last = now
+        words = f"{self.name}: {done:.1f} of {of} {self.what}" if isinstance(done, float) else f"{self.name}: {done} of {of} {self.what}"
+        print(f"\r{words}" if self.shown else words, end="\n" if whole or not self.shown else "", file=sys.stderr, flush=True)
+
+
+def program(asked: str | None = None) -> str | None:
+    """The path of the program `vlbi`: the one that is asked for, or that beside this command, or the first on the path; None where there is none."""
+    if asked is not None:
+        if not os.access(asked, os.X_OK) or os.path.isdir(asked):
+            raise Fault("it is no program", asked)
+        return os.path.abspath(asked)
+    beside = os.path.join(os.path.dirname(os.path.realpath(sys.argv[0])), "vlbi")
+    return beside if os.access(beside, os.X_OK) and os.path.isfile(beside) else shutil.which("vlbi")

@@ -12,16 +12,13 @@ from __future__ import annotations
 
 import argparse
 import sys
-import time
 from collections.abc import Sequence
 from typing import NamedTuple
 
-from vlbi.commands import parser_of, told
+from vlbi.commands import Progress, parser_of, told
 from vlbi.faults import Fault
 
 NAME = "vlbi-simulate"
-EVERY = 10.0         # seconds between two lines that say how far it is, where standard error is no terminal
-EVERY_SHOWN = 0.2    # and where it is one
 
 
 class Asked(NamedTuple):
@@ -97,29 +94,11 @@ def simulate(given: argparse.Namespace) -> int:
         sideband=given.sideband, common=given.common, bits=given.bits, apart=given.apart or given.channels & (given.channels - 1) != 0,
         missing=given.missing, invalid=given.invalid, seed=given.seed,
     )
-    progress = made.no_progress if given.quiet else Progress(sky.seconds).say
-    paths = made.simulate(sky, given.folder, given.lags, given.integration, given.blind_integration, given.auto, progress)
+    progress = Progress(NAME, "seconds are made", given.quiet)
+    paths = made.simulate(sky, given.folder, given.lags, given.integration, given.blind_integration, given.auto, lambda done: progress.say(done, sky.seconds))
     for path in paths:
         print(path)
     return 0
-
-
-class Progress:
-    """Says on standard error how far it is: in a terminal in one line that changes, else in a line each ten seconds."""
-
-    def __init__(self, seconds: int) -> None:
-        self.seconds = seconds
-        self.shown = sys.stderr.isatty()
-        self.last = time.monotonic()
-
-    def say(self, made: float) -> None:
-        now = time.monotonic()
-        done = made >= self.seconds
-        if now - self.last < (EVERY_SHOWN if self.shown else EVERY) and not (done and self.shown):
-            return
-        self.last = now
-        words = f"{NAME}: {made:.1f} of {self.seconds} seconds are made"
-        print(f"\r{words}" if self.shown else words, end="\n" if done or not self.shown else "", file=sys.stderr, flush=True)
 
 
 if __name__ == "__main__":

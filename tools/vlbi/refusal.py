@@ -1,0 +1,498 @@
+"""What the statuses of the program `vlbi` ask for, and what its one line has no room for.
+
+    call = refusal.Call("night.journal", ("run", "--job", "job.txt", "--vex", "sky.vex"))
+    for line in refusal.advice(call, 3, "vlbi: schedule: UnknownRef at byte 912"):
+        print(line)
+
+It looks at the files that the call names, and writes nothing.
+"""
+from __future__ import annotations
+
+import dataclasses
+import difflib
+import os
+import re
+import shutil
+import stat
+from collections.abc import Callable, Iterable, Iterator, Sequence
+
+from vlbi import job as jobs
+from vlbi import joined, recording, records, vex
+from vlbi.faults import Fault
+
+SHOWN = 100  # characters of a line that is shown
+
+JOB_OPTIONS = {"--job": True, "--vex": False}
+WORK = {"--workers": (1, 64), "--piece": (64, 4194304)}
+RANGES = {**WORK, "--seed": (0, 2 ** 64 - 1), "--seconds": (1, 60)}
+COMMANDS: dict[str, dict[str, bool]] = {  # the options of each, and whether it needs them
+    "run": {**JOB_OPTIONS, "--workers": True, "--piece": True},
+    "plain": JOB_OPTIONS,
+    "check": JOB_OPTIONS,
+    "status": JOB_OPTIONS,
+    "dump": {},
+    "gen": {"--seed": True, "--seconds": True, "--workers": True, "--piece": True},
+}
+
+# The lines of a job: how they are written, and the ranges of their fields.
+FORMS = {
+    "lags": "lags L, L even, 2 to 1024",
+    "integration": "integration SAMPLES, 1 to 2^36",
+    "epoch": "epoch SAMPLES, 1 to 4194304",
+    "knot": "knot SAMPLES, 1 to 2^24",
+    "auto": "auto, and nothing behind it",
+    "station": "station KEY ID BITS CHANS FRAME [legacy]: ID 0 to 65535; BITS 1 or 2; CHANS a power of two, 1 to 64; FRAME a multiple of 8 from 40 "
+               "(legacy 24) to 131072, whose data holds whole complete samples",
+    "file": "file KEY NAME",
+    "chan": "chan KEY CHANNEL THREAD INDEX: THREAD 0 to 1023, INDEX below the station's CHANS",
+    "clock": "clock KEY TIME C0 C1: magnitudes below 2^57 and 2^25",
+    "poly": "poly KEY TIME C0 .. C5, one to six numbers: the sum of their magnitudes below 2^58",
+    "product": "product X Y, two channels that chan lines name",
+    "take": "take SCAN",
+    "rate": "rate R, 1 to 2^32 - 1, without a schedule only",
+    "scan": "scan NAME TIME SAMPLES, 0 to 2^40 samples, without a schedule only",
+    "band": "band CHANNEL HERTZ U or L: HERTZ 0 to 2^40 - 1, without a schedule only",
+}
+WANTED = ("lags", "integration", "epoch", "station", "product")
+WANTED_INLINE = ("rate", "scan")
+TIME_WORDS = "a time is written 2010y113d20h29m00s, of a day that its year has"
+
+SCHEDULE_FAULTS = {
+    "OpenQuote": "a quoted text begins here and has no end",
+    "OpenLiteral": "a literal begins here and has no end, or its tag is none",
+    "BadByte": "a control character stands here",
+    "Revision": "the first statement has to be `VEX_rev = 1.5;`",
+    "Statement": "this statement has none of the forms, or the last one has no semicolon",
+    "OpenDef": "a def or a scan is not closed before this",
+    "Outside": "this stands outside a block, or closes what is not open",
+    "DoubleDef": "a def of this name is there already",
+    "DoubleScan": "a scan of this name is there already",
+    "NoSched": "there is no block $SCHED",
+    "MissingStatement": "of what begins here a statement is missing: `start` or `mode` of a scan, a ref to $FREQ of a mode for each station, `sample_rate`",
+    "DoubleStatement": "this is there already",
+    "UnknownRef": "the def that this names is not there",
+    "BadValue": "a value has another form, another unit or is out of its range",
+    "StationTwice": "this station is in the scan already",
+    "BadRange": "an offset is negative, or the first is behind the second",
+}
+
+RECORD_RULES = {
+    "Magic": "it is no record file: its first eight bytes are not VLBIVIS1",
+    "Short": "it is cut off: call `vlbi JOURNAL run` again, which writes it anew from the journal",
+    "Head": "a number of its head is out of its range",
+    "Order": "a record is not the one that is due",
+    "AfterEnd": "there are bytes behind its end",
+}
+
+GREATEST = {
+    "stations": (32, "take fewer stations in a job: several jobs, each with some of the baselines"),
+    "products": (256, "take fewer products in a job"),
+    "channels": (64, "take fewer products in a job"),
+    "samples": (2 ** 40, "cut the scan in the schedule"),
+    "seconds": (134217728, "cut the scan in the schedule"),
+    "cells": (4194304, "take fewer lags, products or stations"),
+    "load": (268435456, "take a shorter `epoch`: stations times channels times its samples may come to that"),
+    "epochs": (2 ** 32, "take a longer `epoch`, or some scans by `take` lines"),
+    "schedule": (8388608, "leave out of the schedule what the correlator does not read (docs/VEX.md)"),
+    "job": (4194304, "cut the job by scans, each with the `poly` lines that it needs"),
+    "records": (1073741824, "read it with the Python module vlbi.records"),
+    "slots": (recording.MOST_SLOTS, "cut the job by `take` lines, and name in each the files that its scans need: `vlbi-lint JOB` says which"),
+}
+
+
+@dataclasses.dataclass(frozen=True)
+class Call:
+    """A call of the program: its journal, and the words behind."""
+
+    journal: str
+    words: tuple[str, ...]
+
+    @property
+    def command(self) -> str:
+        return self.words[0] if self.words else ""
+
+    def values(self, option: str) -> list[str]:
+        """What stands behind each of these options; empty where nothing does."""
+        found = []
+        for place, word in enumerate(self.words):
+            if word == option:
+                found.append(self.words[place + 1] if place + 1 < len(self.words) else "")
+            elif word.startswith(option + "="):
+                found.append(word[len(option) + 1:])
+        return found
+
+    @property
+    def job(self) -> str | None:
+        return next(iter(self.values("--job")), None)
+
+    @property
+    def schedule(self) -> str | None:
+        return next(iter(self.values("--vex")), None)
+
+
+def advice(call: Call, status: int, note: str) -> list[str]:
+    """What to do after a status of a call, and its line on standard error: lines, none for the status 0."""
+    handlers: dict[int, Callable[[Call, str], Iterable[str]]] = {
+        1: memory, 2: of_words, 3: of_schedule, 4: of_job, 5: of_content, 6: of_limit, 7: of_read, 8: of_journal, 9: of_output, 10: of_other, 11: of_name,
+    }
+    if status not in handlers:
+        return []
+    try:
+        return list(handlers[status](call, note))
+    except (Fault, OSError, ValueError, LookupError) as error:  # a file that was there a moment ago
+        return [f"what is wrong cannot be looked at: {error}"]
+
+
+def memory(call: Call, note: str) -> Iterator[str]:
+    yield "A smaller `epoch` in a new job needs less memory, and so do fewer products, lags or stations."
+    yield "Else call the same command again once memory is free: what the journal keeps is not lost."
+
+
+# The words
+
+def of_words(call: Call, note: str) -> Iterator[str]:
+    """What is wrong with the words of a call."""
+    if call.command not in COMMANDS:
+        yield f"`{call.command}` is no command: {', '.join(COMMANDS)}{likely(call.command, COMMANDS)}"
+        return
+    known = COMMANDS[call.command]
+    for option, wanted in known.items():
+        given = call.values(option)
+        if wanted and not given:
+            yield f"{option} is missing"
+        if len(given) > 1:
+            yield f"{option} is given {len(given)} times"
+        yield from wrong_values(option, given)
+    yield from unknown_words(call, known)
+
+
+def wrong_values(option: str, given: Iterable[str]) -> Iterator[str]:
+    for value in given:
+        least, greatest = RANGES.get(option, (0, 0))
+        if value.startswith("-") and value != "-" or value == "" and option in RANGES:
+            yield f"{option} has no value"
+        elif option in RANGES and not (re.fullmatch(r"\d{1,20}", value, re.ASCII) and least <= int(value) <= greatest):
+            yield f"{option} {value}: it is a whole number, {least} to {greatest}"
+
+
+def unknown_words(call: Call, known: Iterable[str]) -> Iterator[str]:
+    """The words that are no options of the command and no values of them."""
+    rest = list(call.words[1:])
+    if call.command == "dump":
+        if len(rest) != 1:
+            yield "`dump` takes the name of one record file"
+        return
+    while rest:
+        word = rest.pop(0)
+        if word in known:
+            rest[:1] = []
+        elif word.split("=")[0] not in known:
+            yield f"`{word}` is no option of `{call.command}`: {', '.join(known)}{likely(word, known)}"
+
+
+def likely(word: str, known: Iterable[str]) -> str:
+    """Which of the known words is like this one."""
+    near = difflib.get_close_matches(word, list(known), 1, 0.6)
+    return f"; is `{near[0]}` meant?" if near else ""
+
+
+# Texts
+
+def of_schedule(call: Call, note: str) -> Iterator[str]:
+    found = re.search(r"(\w+) at byte (\d+)", note)
+    if not found or call.schedule is None:
+        return
+    kind, at = found.group(1), int(found.group(2))
+    with open(call.schedule, "rb") as file:
+        text = file.read()
+    yield f"{call.schedule}:{line_number(text, at)}: {SCHEDULE_FAULTS.get(kind, kind)}"
+    yield from shown(text, at)
+    yield from more_of_schedule(kind, text, at)
+
+
+def line_number(text: bytes, at: int) -> int:
+    """The number of the line, from 1, in which a byte stands."""
+    return text.count(b"\n", 0, at) + 1
+
+
+def shown(text: bytes, at: int) -> Iterator[str]:
+    """The line in which a byte stands, with a mark below it."""
+    begin = text.rfind(b"\n", 0, at) + 1
+    end = text.find(b"\n", at)
+    line = text[begin:len(text) if end < 0 else end].decode("utf-8", "replace").replace("\t", " ").rstrip("\r")
+    place = len(text[begin:at].decode("utf-8", "replace"))
+    cut = max(0, place - SHOWN // 2)
+    yield f"    {line[cut:cut + SHOWN]}"
+    yield "    " + " " * (place - cut) + "^"
+
+
+def more_of_schedule(kind: str, text: bytes, at: int) -> Iterator[str]:
+    """The names that a ref to a def which is not there may mean."""
+    if kind != "UnknownRef":
+        return
+    blocks = vex.blocks_of(text)
+    statement = re.match(rb"ref\s+(\$\w+)\s*=\s*([^:;\s]+)|mode\s*=\s*([^:;\s]+)", text[at:])
+    if statement:
+        block = (statement.group(1) or b"$MODE").decode()
+        name = (statement.group(2) or statement.group(3)).decode("utf-8", "replace")
+        there = list(blocks[block].defs) if block in blocks else []
+        yield f"the defs of {block}: {', '.join(there[:12]) or 'none'}{likely(name, there)}"
+
+
+def of_job(call: Call, note: str) -> Iterator[str]:
+    if call.job is None:
+        return
+    with open(call.job, "rb") as file:
+        text = file.read()
+    of_line = re.search(r"(\w+) in line (\d+)", note)
+    of_pair = re.search(r"job: (\w+) for (.*)", note)
+    if of_line and of_line.group(2) == "0":
+        yield from missing_lines(call, text)
+    elif of_line:
+        yield from of_one_line(call, text, of_line.group(1), int(of_line.group(2)))
+    elif of_pair:
+        yield from of_both(call, of_pair.group(1), of_pair.group(2))
+
+
+def missing_lines(call: Call, text: bytes) -> Iterator[str]:
+    lines = jobs.job_lines(text)
+    for word in (*WANTED, *(WANTED_INLINE if call.schedule is None else ())):
+        if word not in lines:
+            more = ", or --vex SCHEDULE in its place" if word in WANTED_INLINE else ""
+            yield f"{call.job}: the job lacks a line `{word}`: {FORMS[word]}{more}"
+
+
+def of_one_line(call: Call, text: bytes, kind: str, number: int) -> Iterator[str]:
+    """A line of the job, and what is wrong with it."""
+    lines = text.decode("utf-8", "replace").split("\n")
+    line = lines[number - 1].rstrip("\r") if number <= len(lines) else ""
+    fields = line.split("#")[0].split()
+    word = fields[0] if fields else ""
+    yield f"{call.job}:{number}: {line[:SHOWN]}"
+    known = [one for one in FORMS if call.schedule is None or one not in ("rate", "scan", "band")]
+    if word not in known:
+        beside = "; it stands in a job without a schedule only" if word in FORMS else likely(word, known)
+        yield f"`{word}` is no word of a job here{beside}"
+        return
+    words = {"Double": "this is said in an earlier line already", "Unknown": "a name here is not in an earlier line"}
+    yield f"{words[kind]}" if kind in words else f"write: {FORMS[word]}"
+    if kind == "Unknown":
+        yield from unknown_names(text, number, fields)
+    if kind in ("Line", "Range") and word in ("clock", "poly", "scan"):
+        yield TIME_WORDS
+
+
+def unknown_names(text: bytes, number: int, fields: Sequence[str]) -> Iterator[str]:
+    """The names of a line that no line before it has."""
+    before = [row for at, row in jobs.numbered_lines(text) if at < number]
+    behind = [row for at, row in jobs.numbered_lines(text) if at > number]
+    word, place, asked = ("chan", 2, fields[1:3]) if fields[0] == "product" else ("station", 1, fields[1:2])
+    known = {row[place] for row in before if row[0] == word and len(row) > place}
+    later = {row[place] for row in behind if row[0] == word and len(row) > place}
+    for name in asked:
+        if name not in known:
+            more = f"; its `{word}` line comes later: put it in front" if name in later else likely(name, known)
+            yield f"no `{word}` line before this one has {name}: there are {', '.join(sorted(known)) or 'none'}{more}"
+
+
+# Job and schedule
+
+def of_both(call: Call, kind: str, name: str) -> Iterator[str]:
+    """What does not go together in job and schedule."""
+    schedule = vex.read(call.schedule) if call.schedule is not None else None
+    with open(call.job or "", "rb") as file:
+        lines = jobs.job_lines(file.read())
+    keys = jobs.keys_of(lines)
+    scans = schedule.scans if schedule is not None else ()
+    if kind == "UnknownScan":
+        names = [scan.name for scan in scans]
+        yield f"`take {name}` names no scan of {call.schedule}: there are {', '.join(names[:12])}{likely(name, names)}"
+    elif kind == "UnknownStation":
+        there = list(dict.fromkeys(one.key for scan in scans for one in scan.passes))
+        yield f"no scan that is taken has the station {name}: there are {', '.join(there)}{likely(name, there)}"
+        yield f"write the schedule's key in its `station` line, or leave the lines of {name} out"
+    elif kind == "FrameRate":
+        yield from frame_rate(call, name)
+    elif kind in ("NoModel", "NoClock"):
+        yield from no_entry(call, kind, name)
+    else:
+        yield from differing(kind, name, [scan for scan in scans if scan.name == name], keys, lines)
+
+
+def frame_rate(call: Call, name: str) -> Iterator[str]:
+    asked = joined.read(call.job or "", call.schedule)
+    shape = asked.shapes[name]
+    yield f"a frame of {name} holds {shape.samples} complete samples, and {asked.rate} samples a second are no whole number of such frames"
+    yield f"`{shape.line()}`: look at bits, channels and the bytes of a frame"
+
+
+def no_entry(call: Call, kind: str, name: str) -> Iterator[str]:
+    """The scans that a station's `poly` or `clock` lines do not cover."""
+    asked = joined.read(call.job or "", call.schedule)
+    word = "poly" if kind == "NoModel" else "clock"
+    times = sorted(vex.second_of(line.fields[1]) for line in asked.of_word(word, name))
+    starts = [scan.start for scan in asked.scans if name in scan.stays]
+    yield f"the first `{word}` line of {name} is of {vex.vex_time(times[0])}, its first scan begins at {vex.vex_time(min(starts))}"
+    if kind == "NoModel":
+        knot = jobs.only_number(asked.by_word, "knot") if "knot" in asked.by_word else jobs.KNOT
+        yield f"the last one is of {vex.vex_time(times[-1])} and counts for {jobs.knot_seconds(knot, asked.rate):.0f} seconds (2^24 knots)"
+        yield "all samples of a scan need one, also those before a station that comes late: `vlbi-model` writes them"
+    else:
+        yield "a `clock` line has to be in force at the time of each `poly` line: begin no later than the first of them"
+
+
+def differing(kind: str, name: str, scans: Sequence[vex.Scan], keys: Sequence[str], lines: dict[str, list[list[str]]]) -> Iterator[str]:
+    """What the stations of a scan have that is not alike."""
+    channels = {channel for fields in lines.get("product", []) for channel in fields}
+    if kind == "ProductDiffers":
+        yield "the two channels of a product have to have one frequency, sideband and bandwidth:"
+    for scan in scans:
+        for one in scan.passes:
+            if one.key in keys:
+                rows = [f"{it.name} {it.hertz} Hz {it.side} {it.bandwidth} Hz" for it in one.setup.channels if it.name in channels]
+                yield f"scan {scan.name}, station {one.key}: " + (f"{one.setup.rate} samples a second" if kind == "RateDiffers" else ", ".join(rows))
+    yield "take stations and scans that are alike into one job (`take`), and the others into another"
+
+
+# Files
+
+def of_content(call: Call, note: str) -> Iterator[str]:
+    found = re.search(r"records: (\w+)", note)
+    if found:
+        yield RECORD_RULES.get(found.group(1), found.group(1))
+        return
+    of_station = re.fullmatch(r"vlbi: recording: (.*) (\w+)", note)
+    if not of_station:
+        return
+    asked = joined.read(call.job or "", call.schedule)
+    yield from of_recording(asked, *of_station.groups())
+
+
+def of_recording(asked: joined.Asked, key: str, field: str) -> Iterator[str]:
+    """What the first frame of a station's recording is, against its line."""
+    line = asked.line_of("station", key)
+    yield f"{asked.path}:{line.number if line else 0}: {asked.shapes[key].line()}"
+    for path, _ in asked.files[key]:
+        seen = recording.first_shape(path, key)
+        if seen is None:
+            continue
+        shape, is_complex = seen
+        yield f"the first frame of {path} differs in {field}; it is of the shape"
+        yield f"    {shape.line()}" + (", with complex samples, which are not correlated" if is_complex else "")
+        yield "correct the line, or the name in the `file` line"
+        return
+
+
+def of_limit(call: Call, note: str) -> Iterator[str]:
+    found = re.search(r"limit: (\w+) (\d+)", note)
+    if found and found.group(1) in GREATEST:
+        greatest, words = GREATEST[found.group(1)]
+        yield f"{found.group(1)} {found.group(2)}: the greatest is {greatest}"
+        yield words
+
+
+def of_read(call: Call, note: str) -> Iterator[str]:
+    wrong = [words for path in named_files(call) for words in why_not(path)]
+    yield from wrong or ["All files that the call names can be opened now: look at the disk they are on."]
+    yield "Then call the same command again: it goes on from the epochs that are kept."
+
+
+def of_name(call: Call, note: str) -> Iterator[str]:
+    name = note.removeprefix("vlbi: no file ")
+    yield from why_not(name) or [f"{name} can be opened now: call the same command again"]
+
+
+def named_files(call: Call) -> list[str]:
+    """The files that a call reads: schedule, job, and the recordings that the job names."""
+    given = [path for path in (call.schedule, call.job) if path is not None]
+    if call.command == "dump":
+        given += call.words[1:]
+    if call.job is not None and os.path.isfile(call.job) and os.access(call.job, os.R_OK):
+        with open(call.job, "rb") as file:
+            given += [os.fsdecode(fields[1].encode("latin-1")) for fields in jobs.job_lines(file.read()).get("file", []) if len(fields) == 2]
+    return list(dict.fromkeys(given))
+
+
+def why_not(path: str) -> list[str]:
+    """Why a file cannot be opened and read, in words; nothing where it can."""
+    try:
+        with open(path, "rb") as file:
+            if not stat.S_ISREG(os.fstat(file.fileno()).st_mode):
+                return [f"{path}: it is no regular file"]
+            file.read(1)
+        return []
+    except FileNotFoundError:
+        return [f"{path}: there is no such file in {os.path.abspath(os.path.dirname(path) or '.')}{neighbour(path)}"]
+    except OSError as error:
+        return [f"{path}: {error.strerror}"]
+
+
+def neighbour(path: str) -> str:
+    """The file beside it whose name is like this one's."""
+    folder = os.path.dirname(path) or "."
+    if not os.path.isdir(folder):
+        return "; nor is there that folder"
+    return likely(os.path.basename(path), os.listdir(folder))
+
+
+def of_journal(call: Call, note: str) -> Iterator[str]:
+    found = re.search(r"(\d+) epochs kept", note)
+    if found:
+        yield f"{found.group(1)} epochs are safe."
+    folder = os.path.dirname(call.journal) or "."
+    if not os.path.isdir(folder):
+        yield f"{call.journal}: there is no folder {folder}"
+        return
+    if os.path.exists(call.journal) and not os.path.isfile(call.journal):
+        yield f"{call.journal}: it is no regular file"
+    elif not os.access(call.journal if os.path.exists(call.journal) else folder, os.R_OK | os.W_OK):
+        yield f"{call.journal}: it may not be written by you"
+    yield f"the disk of {folder} has {shutil.disk_usage(folder).free} bytes left"
+    yield "Then call the same command again: it goes on from the epochs that are kept."
+
+
+def of_output(call: Call, note: str) -> Iterator[str]:
+    yield f"Standard output could not be written; the disk of this folder has {shutil.disk_usage('.').free} bytes left. What was written is not whole."
+    yield "Call the same command again: it only writes the records anew, from the journal."
+
+
+# Another job's journal
+
+def of_other(call: Call, note: str) -> Iterator[str]:
+    """In what the journal's job, schedule and recordings are others than those of the call."""
+    kept = records.identity(call.journal)
+    found = list(differences(call, kept)) if kept is not None else []
+    yield from found or [f"{call.journal} is no journal of this form, or its rest is cut off: was it written by another program?"]
+    yield "Name another journal, or remove this one to begin anew."
+
+
+def differences(call: Call, kept: records.Identity) -> Iterator[str]:
+    pairs = (("schedule", kept.schedule, call.schedule), ("job", kept.job, call.job))
+    for what, text, path in pairs:
+        ours = b""
+        if path is not None:
+            with open(path, "rb") as file:
+                ours = file.read()
+        if text != ours:
+            yield from first_difference(what, text, ours, path)
+    asked = joined.read(call.job or "", call.schedule)
+    paths = [path for files in asked.files.values() for path, _ in files]
+    if len(paths) != len(kept.recordings):
+        yield f"the journal is of {len(kept.recordings)} recordings, the job names {len(paths)}"
+        return
+    for path, size in zip(paths, kept.recordings):
+        now = os.stat(path).st_size
+        if now != size:
+            yield f"the recording {path} has {now} bytes, and had {size} when the journal was begun"
+
+
+def first_difference(what: str, kept: bytes, ours: bytes, path: str | None) -> Iterator[str]:
+    """The first line in which two texts differ."""
+    if not kept or not ours:
+        yield f"the journal was begun {'with' if kept else 'without'} a {what}, and the call is {'with' if ours else 'without'} one"
+        return
+    theirs, own = kept.split(b"\n"), ours.split(b"\n")
+    number = next((at for at, pair in enumerate(zip(theirs, own)) if pair[0] != pair[1]), min(len(theirs), len(own)))
+    yield f"the {what} differs in line {number + 1}:"
+    for front, rows in ((f"    {path}: ", own), ("    the journal's: ", theirs)):
+        yield front + (rows[number].decode("utf-8", "replace")[:SHOWN] if number < len(rows) else "(it has no such line)")

@@ -9,3 +9,13 @@ pub mod Counting
 pub mod Turns
 pub mod Passed
 pub mod Placing
+pub mod Strips
+pub mod Spaced
+pub mod Texts
+pub mod Lines
+pub mod TakenLines
+pub mod Reading
+pub mod Certified
+pub mod Named
+pub mod Putting
+pub mod Checking

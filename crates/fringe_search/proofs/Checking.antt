@@ -1,6 +1,6 @@
 -- The series whose lines are read.
 use Rattle.std.specs.Prelude.{MatchOption}
-use Rattle.std.proofs.Common.{◌≡◌, ℕ, ◌+◌, List, ◌∷◌, ◌++◌, Option, None, Some, sym, ap, subst, ◌∙◌}
+use Rattle.std.proofs.Common.{◌≡◌, ℕ, ◌+◌, List, [], ◌∷◌, ◌++◌, Option, None, Some, sym, ap, subst, ◌∙◌}
 use Rattle.corr_model.specs.Records.{Head}
 use Rattle.vis_records.specs.Content.{Content}
 use Rattle.fringe_search.specs.declared.grid.Grid.{Grid}
@@ -27,10 +27,11 @@ none_checked c g h text rest next same is first within = record {
   within = subst (λ (x : Head). MatchOption next (Unit {0}) (IsSeriesAt x)) same within;
 }
 
-pub one_checked : (c : Content) (g : Grid) (h : Head) (at : SeriesAt) (next : Option SeriesAt) (text middle rest : List ℕ) → h ≡ c.head
-    → IsChecked c g text (Some at) middle → ((left : List SeriesAt) → IsRead c (AtPeak g (at ∷ left)) middle (AtPeak g left) rest)
+pub one_checked : (c : Content) (g : Grid) (h : Head) (now : Option SeriesAt) (at : SeriesAt) (next : Option SeriesAt) (text middle rest : List ℕ)
+    → h ≡ c.head → now ≡ Some at → IsChecked c g text now middle → ((left : List SeriesAt) → IsRead c (AtPeak g (at ∷ left)) middle (AtPeak g left) rest)
     → series_from h at ≡ at ∷ series_next h next → MatchOption next (Unit {0}) (IsSeriesAt h) → IsChecked c g text next rest
-one_checked c g h at next text middle rest same k one after within =
+one_checked c g h now at next text middle rest same is checked one after within =
+    let k = subst (λ (n : Option SeriesAt). IsChecked c g text n middle) is checked in
     let left = series_next c.head next in
     let here : series_from c.head at ≡ at ∷ left = subst (λ (x : Head). series_from x at ≡ at ∷ series_next x next) same after in
     let read = subst (λ (xs : List SeriesAt). IsRead c AtGrid text (AtPeak g xs) middle) here k.read in
@@ -39,9 +40,14 @@ one_checked c g h at next text middle rest same k one after within =
       within = subst (λ (x : Head). MatchOption next (Unit {0}) (IsSeriesAt x)) same within;
     }
 
-pub one_stopped : (c : Content) (g : Grid) (at : SeriesAt) (text middle rest : List ℕ) → IsChecked c g text (Some at) middle
+pub one_stopped : (c : Content) (g : Grid) (now : Option SeriesAt) (at : SeriesAt) (text middle rest : List ℕ) → now ≡ Some at → IsChecked c g text now middle
     → ((left : List SeriesAt) → IsStopped c (AtPeak g (at ∷ left)) middle rest) → IsStopped c AtGrid text rest
-one_stopped c g at text middle rest k one =
+one_stopped c g now at text middle rest is checked one =
+    let k = subst (λ (n : Option SeriesAt). IsChecked c g text n middle) is checked in
     let behind = series_from c.head (record { scan = at.scan; product = at.product; baseline = at.baseline + 1 }) in
     let read = subst (λ (xs : List SeriesAt). IsRead c AtGrid text (AtPeak g xs) middle) (next_baseline c.head at k.within) k.read in
     stopped_then c AtGrid (AtPeak g (at ∷ behind)) text middle rest read (one behind)
+
+pub all_checked : (c : Content) (g : Grid) (now : Option SeriesAt) (text rest : List ℕ) → now ≡ None → IsChecked c g text now rest
+    → IsRead c AtGrid text (AtPeak g []) rest
+all_checked c g now text rest is checked = (subst (λ (n : Option SeriesAt). IsChecked c g text n rest) is checked).read

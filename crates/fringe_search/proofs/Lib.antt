@@ -5,6 +5,7 @@ pub mod SumBounds
 pub mod Bounds
 pub mod Order
 pub mod Steps
+pub mod Leading
 pub mod Counting
 pub mod Turns
 pub mod Passed

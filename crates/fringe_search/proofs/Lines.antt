@@ -45,7 +45,7 @@ pub read_short : (c : Content) (s e : Due) (text rest : List ℕ) → IsRead c s
 read_short c s e text rest r = omega (arith, ap length r.is, length-append (lines_text r.lines) rest)
 
 -- what is due, told apart
-pub due_number : Due → ℕ
+abbrev pub due_number : Due → ℕ
 due_number AtGrid = 0
 due_number (AtPeak g []) = 1
 due_number (AtPeak g (at ∷ left)) = 2
@@ -66,8 +66,9 @@ one_mark Gridded Gridded x y e = append_cancel_left (codes " grid\n") x y e
 one_grid : (c : Content) (g h : Grid) (n m : Due) (x y : List ℕ) → n ≡ AtPeak g (series_in c.head) → m ≡ AtPeak h (series_in c.head)
     → line_text (GridLine g) ++ x ≡ line_text (GridLine h) ++ y → IsSame n m x y
 one_grid c g h n m x y p q e =
-    let words = append_cancel_left (codes "grid ") _ _ (sym (grid_parts g x) ∙ e ∙ grid_parts h y) in
-    let rates = numbers_apart g.rates h.rates 32 _ _ (omega arith) (omega (arith, g.rates_within)) (omega (arith, h.rates_within)) words in
+    let words = append_cancel_left (codes "grid ") (decimal g.rates ++ 32 ∷ (decimal g.divide ++ 10 ∷ x)) (decimal h.rates ++ 32 ∷ (decimal h.divide ++ 10 ∷ y))
+    (sym (grid_parts g x) ∙ e ∙ grid_parts h y) in
+    let rates = numbers_apart g.rates h.rates 32 (decimal g.divide ++ 10 ∷ x) (decimal h.divide ++ 10 ∷ y) (omega arith) (omega (arith, g.rates_within)) (omega (arith, h.rates_within)) words in
     let divide = numbers_apart g.divide h.divide 10 x y (omega arith) (omega (arith, g.divide_within)) (omega (arith, h.divide_within)) rates.rest in
     record { next = p ∙ ap (λ (k : Grid). AtPeak k (series_in c.head)) (same_grid g h rates.number divide.number) ∙ sym q; rest = divide.rest }
 
@@ -83,9 +84,13 @@ one_peak : (c : Content) (g : Grid) (due : SeriesAt) (left : List SeriesAt) (at 
 one_peak c g due left at at' p q n m x y few a b e =
     let s = series_of c due in
     let places : place_text at ≡ place_text at' = ap place_text (a.at_is ∙ sym b.at_is) in
-    let words = append_cancel_left (place_text at') _ _ (ap (λ t. t ++ _) (sym places) ∙ sym (peak_parts at p x) ∙ e ∙ peak_parts at' q y) in
-    let lag = signed_apart p.lag q.lag 32 _ _ (omega arith) (lag_fits s.lags a.number p.lag few a.point.within a.point.lag) (lag_fits s.lags b.number q.lag few b.point.within b.point.lag) words in
-    let rate = signed_apart p.rate q.rate 32 _ _ (omega arith) (rate_fits g p.rate a.point.rate) (rate_fits g q.rate b.point.rate) lag.rest in
+    let left_is = signed_decimal p.rate ++ 32 ∷ (sums_text p.re p.im ++ x) in
+    let right_is = signed_decimal q.rate ++ 32 ∷ (sums_text q.re q.im ++ y) in
+    let words : signed_decimal p.lag ++ 32 ∷ left_is ≡ signed_decimal q.lag ++ 32 ∷ right_is =
+    append_cancel_left (place_text at') (signed_decimal p.lag ++ 32 ∷ left_is) (signed_decimal q.lag ++ 32 ∷ right_is)
+    (ap (λ t. t ++ (signed_decimal p.lag ++ 32 ∷ left_is)) (sym places) ∙ sym (peak_parts at p x) ∙ e ∙ peak_parts at' q y) in
+    let lag = signed_apart p.lag q.lag 32 left_is right_is (omega arith) (lag_fits s.lags a.number p.lag few a.point.within a.point.lag) (lag_fits s.lags b.number q.lag few b.point.within b.point.lag) words in
+    let rate = signed_apart p.rate q.rate 32 (sums_text p.re p.im ++ x) (sums_text q.re q.im ++ y) (omega arith) (rate_fits g p.rate a.point.rate) (rate_fits g q.rate b.point.rate) lag.rest in
     let number : a.number ≡ b.number = omega (arith, ints, a.point.lag, b.point.lag, lag.number) in
     let re : p.re ≡ q.re = a.point.re ∙ ap₂ (re_at s g.divide) number rate.number ∙ sym b.point.re in
     let im : p.im ≡ q.im = a.point.im ∙ ap₂ (im_at s g.divide) number rate.number ∙ sym b.point.im in
@@ -100,8 +105,8 @@ one_lag : (c : Content) (k : Claim) (number : ℕ) (left : List SeriesAt) (l l' 
     → line_text (LagLine l a) ++ x ≡ line_text (LagLine l' b) ++ y → IsSame n m x y
 one_lag c k number left l l' a b n m x y p q e =
     let lags : signed_decimal l ≡ signed_decimal l' = ap signed_decimal (p.lag_is ∙ sym q.lag_is) in
-    let words = append_cancel_left (codes "lag ") _ _ (sym (lag_parts l a x) ∙ e ∙ lag_parts l' b y) in
-    let marks = append_cancel_left (signed_decimal l') _ _ (ap (λ t. t ++ (mark_text a ++ x)) (sym lags) ∙ words) in
+    let words = append_cancel_left (codes "lag ") (signed_decimal l ++ (mark_text a ++ x)) (signed_decimal l' ++ (mark_text b ++ y)) (sym (lag_parts l a x) ∙ e ∙ lag_parts l' b y) in
+    let marks = append_cancel_left (signed_decimal l') (mark_text a ++ x) (mark_text b ++ y) (ap (λ t. t ++ (mark_text a ++ x)) (sym lags) ∙ words) in
     record { next = p.next_is ∙ sym q.next_is; rest = one_mark a b x y marks }
 
 -- every series of a content has this many lags
@@ -149,8 +154,8 @@ continues c s m e (w ∷ whole) (l ∷ front) x y few (mid, first, rest) (mid', 
 ends : (c : Content) (g : Grid) (next : Due) (tail : List Line) (rest : List ℕ) → AreLines c (AtPeak g []) tail next → [] ≡ lines_text tail ++ rest
     → ((h : Grid) → next ≡ AtPeak h [] → rest ≢ []) → ⊥
 unfolding AreLines
-ends c g next [] rest are is open = open g (sym are) (sym is)
-ends c g next (l ∷ tail) rest (mid, one, more) is open = absurd one
+ends c g next [] rest are is goes_on = goes_on g (sym are) (sym is)
+ends c g next (l ∷ tail) rest (mid, one, more) is goes_on = absurd one
 
 pub wrong_at : (c : Content) (text rest : List ℕ) (at : ℕ) → AreFew c → IsStopped c AtGrid text rest → at + length rest ≡ length text → IsWrongAt c text at
 wrong_at c text rest at few h place =
@@ -164,7 +169,7 @@ wrong_at c text rest at few h place =
       wrong = λ right.
           let k = continues c AtGrid (AtPeak right.grid []) h.next read.lines right.lines rest [] few read.are right.are
           (sym read.is ∙ right.is ∙ sym (append-nil (lines_text right.lines))) h.stuck in
-          ends c right.grid h.next k.tail rest k.are k.is h.open;
+          ends c right.grid h.next k.tail rest k.are k.is h.goes_on;
     }
 
 pub right_of : (c : Content) (g : Grid) (text : List ℕ) → IsRead c AtGrid text (AtPeak g []) [] → IsRight c text

@@ -42,18 +42,19 @@ record IsBeside (c : Content) (k : Claim) (h : Grid) (number : ℕ) (left : List
   pub rest : List Line
   pub is : lines ≡ own ++ rest
   pub each : (lag : ℕ) → number ≤ lag → lag < c.head.lags → IsTrueLag c k lag
-  pub none : flat_map series_named own ≡ []
+  pub unnamed : flat_map series_named own ≡ []
   pub free : All (IsOfPeak c h) own
   pub are : AreLines c (AtPeak k.grid left) rest (AtPeak h [])
 
 beside : (c : Content) (k : Claim) (h : Grid) (left : List SeriesAt) (count number : ℕ) (lines : List Line) → number + count ≡ c.head.lags
     → AreLines c (from_lag c.head.lags k number left) lines (AtPeak h []) → IsBeside c k h number left lines
+unfolding AreLines
 beside c k h left zero number lines e are = record {
   own = [];
   rest = lines;
   is = refl;
   each = λ lag low high. absurd (omega arith);
-  none = refl;
+  unnamed = refl;
   free = All-nil (IsOfPeak c h);
   are = subst (λ (d : Due). AreLines c d lines (AtPeak h [])) (peak_due c.head.lags k number left (omega arith)) are;
 }
@@ -64,7 +65,6 @@ beside c k h left (suc count) number lines e are =
     one : (lines : List Line) → AreLines c (AtLag k number left) lines (AtPeak h [])
         → ((more : List Line) → AreLines c (from_lag c.head.lags k (number + 1) left) more (AtPeak h []) → IsBeside c k h (number + 1) left more)
         → IsBeside c k h number left lines
-    unfolding AreLines
     one [] are next = let apart = ap due_number are in absurd (omega arith)
     one (GridLine g ∷ more) (mid, is, are) next = absurd is
     one (PeakLine at p ∷ more) (mid, is, are) next = absurd is
@@ -77,7 +77,7 @@ beside c k h left (suc count) number lines e are =
             | inl less ↦ b.each lag (omega arith) high
             | inr same ↦ (let e : number ≡ lag = omega arith in subst (λ n. IsTrueLag c k n) e (mark, is.mark_is))
           ];
-          none = b.none;
+          unnamed = b.unnamed;
           free = All-cons (IsOfPeak c h) (LagLine l mark) b.own tt b.free;
           are = b.are;
         }
@@ -113,15 +113,15 @@ named c g h (at ∷ left) (PeakLine at' p ∷ lines) (mid, is, are) =
           (subst (λ (ls : List Line). All (IsOfPeak c h) ls) (sym b.is) (All-append (IsOfPeak c h) b.own b.rest b.free n.peaks));
       series =
           ap (λ ls. at' ∷ flat_map series_named ls) b.is
-          ∙ ap (λ xs. at' ∷ xs) (flat_map-append series_named b.own b.rest ∙ ap₂ (λ x y. x ++ y) b.none n.series)
+          ∙ ap (λ xs. at' ∷ xs) (flat_map-append series_named b.own b.rest ∙ ap₂ (λ x y. x ++ y) b.unnamed n.series)
           ∙ ap (λ (x : SeriesAt). x ∷ left) is.at_is;
     }
 
 pub peaks_named : (c : Content) (text : List ℕ) (right : IsRight c text) → HasItsPeaks c right.grid right.lines
+unfolding AreLines
 peaks_named c text right = whole right.lines right.are
   where
     whole : (lines : List Line) → AreLines c AtGrid lines (AtPeak right.grid []) → HasItsPeaks c right.grid lines
-    unfolding AreLines
     whole [] are = let apart = ap due_number are in absurd (omega arith)
     whole (PeakLine at p ∷ lines) (mid, is, are) = absurd is
     whole (LagLine l mark ∷ lines) (mid, is, are) = absurd is

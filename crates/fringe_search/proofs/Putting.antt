@@ -1,6 +1,7 @@
 -- The lines of the certificate on their way to a sink.
 use Rattle.std.specs.Prelude.{MatchOption}
-use Rattle.std.proofs.Common.{◌≡◌, ℕ, ◌+◌, List, [], ◌∷◌, ◌++◌, map, Option, None, Some, ℤ, refl, sym, ap, ap₂, subst, ◌∙◌, arith, append_assoc, append-nil}
+use Rattle.std.proofs.Common.{◌≡◌, ℕ, ◌+◌, List, [], ◌∷◌, ◌++◌, map, codes, decimal, Option, None, Some, ℤ, refl, sym, ap, ap₂, subst, ◌∙◌, arith, append_assoc, append-nil}
+use Rattle.std.specs.Fmt.{signed_decimal}
 use Rattle.std.specs.List.{All, range_with_len}
 use Rattle.std.proofs.lemmas.Grind.{flat_map-append}
 use Rattle.std.proofs.lemmas.List.{map-append}
@@ -21,10 +22,11 @@ use Rattle.fringe_search.specs.InOrder.{series_from, series_next}
 use Rattle.fringe_search.specs.Sums.{power_of}
 use Rattle.fringe_search.specs.Peaks.{IsPeak}
 use Rattle.fringe_search.specs.Best.{IsPoint, IsBest}
-use Rattle.fringe_search.specs.Certificates.{Line, GridLine, PeakLine, LagLine, line_text, lines_text}
+use Rattle.fringe_search.specs.Certificates.{Line, GridLine, PeakLine, LagLine, line_text, lines_text, peak_text, sums_text}
 use Rattle.fringe_search.specs.Written.{due_mark, lag_line, lag_lines, series_lines, shown, Found, found_lines, PutsSeries, PutsCertificate}
 use Rattle.fringe_search.proofs.Certified.{peak_power}
 use Rattle.fringe_search.proofs.Reading.{shown_point}
+use Rattle.fringe_search.proofs.Strips.{place_flat}
 
 -- the lines of the first lags, and of one more
 pub lags_next : (s : Series) (top n : ℕ) (lag : ℤ) (mark : Mark) → lag ≡ lag_of s.lags n → mark ≡ due_mark s top n
@@ -62,10 +64,11 @@ none_put c g h next {old = old} {new = new} {t = t} {t' = t'} {f = f} {f' = f'} 
   puts = subst (λ (text : List ℕ). Puts text old new t t' f f') (sym (append-nil (line_text (GridLine g)))) puts;
 }
 
-pub one_put : (c : Content) (g : Grid) (h : Head) (at : SeriesAt) (next : Option SeriesAt) {s₀ s₁ s₂ : StretchState} {t₀ t₁ t₂ : Option (List ℕ)}
-    {f₀ f₁ f₂ : ℕ} → h ≡ c.head → IsPut c g (Some at) s₀ s₁ t₀ t₁ f₀ f₁ → PutsSeries c g at s₁ s₂ t₁ t₂ f₁ f₂
+pub one_put : (c : Content) (g : Grid) (h : Head) (now : Option SeriesAt) (at : SeriesAt) (next : Option SeriesAt) {s₀ s₁ s₂ : StretchState} {t₀ t₁ t₂ : Option (List ℕ)}
+    {f₀ f₁ f₂ : ℕ} → h ≡ c.head → now ≡ Some at → IsPut c g now s₀ s₁ t₀ t₁ f₀ f₁ → PutsSeries c g at s₁ s₂ t₁ t₂ f₁ f₂
     → series_from h at ≡ at ∷ series_next h next → MatchOption next (Unit {0}) (IsSeriesAt h) → IsPut c g next s₀ s₂ t₀ t₂ f₀ f₂
-one_put c g h at next same p one rest within =
+one_put c g h now at next {s₀ = s₀} {s₁ = s₁} {t₀ = t₀} {t₁ = t₁} {f₀ = f₀} {f₁ = f₁} same is put one rest within =
+    let p = subst (λ (n : Option SeriesAt). IsPut c g n s₀ s₁ t₀ t₁ f₀ f₁) is put in
     let f : Found = record { at = at; peak = one.peak } in
     let own = series_lines (series_of c at) at one.peak in
     let before = GridLine g ∷ found_lines c p.found in
@@ -83,10 +86,41 @@ one_put c g h at next same p one rest within =
       puts = Puts-then (ap (λ ls. lines_text (GridLine g ∷ ls)) lines ∙ flat_map-append line_text before own) p.puts one.puts;
     }
 
-pub all_put : (c : Content) (g : Grid) {old new : StretchState} {t t' : Option (List ℕ)} {f f' : ℕ} → IsPut c g None old new t t' f f'
+pub all_put : (c : Content) (g : Grid) (now : Option SeriesAt) {old new : StretchState} {t t' : Option (List ℕ)} {f f' : ℕ} → now ≡ None → IsPut c g now old new t t' f f'
     → PutsCertificate c g old new t t' f f'
-all_put c g p = record {
-  lines = GridLine g ∷ found_lines c p.found;
-  is = record { found = p.found; all = sym (append-nil (map (λ (f : Found). f.at) p.found)) ∙ p.all; peaks = p.peaks; is = refl };
-  puts = p.puts;
-}
+all_put c g now {old = old} {new = new} {t = t} {t' = t'} {f = f} {f' = f'} is put =
+    let p = subst (λ (n : Option SeriesAt). IsPut c g n old new t t' f f') is put in
+    record {
+      lines = GridLine g ∷ found_lines c p.found;
+      is = record { found = p.found; all = sym (append-nil (map (λ (f : Found). f.at) p.found)) ∙ p.all; peaks = p.peaks; is = refl };
+      puts = p.puts;
+    }
+
+-- the line of the best point and those of the lags are put
+pub series_put : (c : Content) (g : Grid) (at : SeriesAt) (s : Series) (p : Point) (lag : ℤ) {s₀ s₁ s₂ : StretchState} {t₀ t₁ t₂ : Option (List ℕ)}
+    {f₀ f₁ f₂ : ℕ} → s ≡ series_of c at → IsBest s g s.lags 0 p → lag ≡ lag_of s.lags p.lag
+    → Puts (line_text (PeakLine at (record { lag = lag; rate = p.rate; re = p.sum.re; im = p.sum.im }))) s₀ s₁ t₀ t₁ f₀ f₁
+    → Puts (lines_text (lag_lines s p.power)) s₁ s₂ t₁ t₂ f₁ f₂ → PutsSeries c g at s₀ s₂ t₀ t₂ f₀ f₂
+series_put c g at s p lag {s₀ = s₀} {s₂ = s₂} {t₀ = t₀} {t₂ = t₂} {f₀ = f₀} {f₂ = f₂} same best lag_is peak lags =
+    let line = ap (λ (z : ℤ). line_text (PeakLine at (record { lag = z; rate = p.rate; re = p.sum.re; im = p.sum.im }))) (sym lag_is) in
+    let later = ap (λ (n : ℕ). lines_text (lag_lines s n)) (sym (best_power s g p best)) in
+    let all : Puts (lines_text (series_lines s at (shown s.lags p))) s₀ s₂ t₀ t₂ f₀ f₂ = Puts-then (ap₂ (λ (x y : List ℕ). x ++ y) line later) peak lags in
+    record {
+      peak = shown s.lags p;
+      is = subst (λ (x : Series). IsPeak x g (shown s.lags p)) same (best_peak s g p best);
+      puts = subst (λ (x : Series). Puts (lines_text (series_lines x at (shown s.lags p))) s₀ s₂ t₀ t₂ f₀ f₂) same all;
+    }
+
+pub Puts-as : {a b : List ℕ} {s₀ s₁ : StretchState} {t₀ t₁ : Option (List ℕ)} {f₀ f₁ : ℕ} → a ≡ b → Puts a s₀ s₁ t₀ t₁ f₀ f₁ → Puts b s₀ s₁ t₀ t₁ f₀ f₁
+Puts-as {s₀ = s₀} {s₁ = s₁} {t₀ = t₀} {t₁ = t₁} {f₀ = f₀} {f₁ = f₁} same puts = subst (λ (x : List ℕ). Puts x s₀ s₁ t₀ t₁ f₀ f₁) same puts
+
+-- the pieces of a peak's line
+pub peak_pieces : (at : SeriesAt) (p : Peak) (scan product baseline : ℕ) (lag rate : ℤ) → scan ≡ at.scan → product ≡ at.product → baseline ≡ at.baseline
+    → lag ≡ p.lag → rate ≡ p.rate
+    → codes "peak " ++ (decimal scan ++ 32 ∷ (decimal product ++ 32 ∷ (decimal baseline ++ 32 ∷ (signed_decimal lag ++ 32 ∷ (signed_decimal rate ++ 32 ∷ sums_text p.re p.im)))))
+    ≡ line_text (PeakLine at p)
+peak_pieces at p scan product baseline lag rate e₁ e₂ e₃ e₄ e₅ =
+    let numbers = ap₂ (λ y z. signed_decimal y ++ 32 ∷ (signed_decimal z ++ 32 ∷ sums_text p.re p.im)) e₄ e₅ in
+    let later = ap₂ (λ n t. decimal n ++ 32 ∷ t) e₃ numbers in
+    let middle = ap₂ (λ n t. decimal n ++ 32 ∷ t) e₂ later in
+    ap₂ (λ n t. codes "peak " ++ (decimal n ++ 32 ∷ t)) e₁ middle ∙ sym (place_flat at (peak_text p))

@@ -50,18 +50,18 @@ read_peak c g at left s p text rest same h =
 pub no_peak : (c : Content) (g : Grid) (at : SeriesAt) (left : List SeriesAt) (s : Series) (text : List ℕ) → s ≡ series_of c at
     → ((p : Peak) (n : ℕ) (rest : List ℕ) → IsPointOf s g p n → text ≢ line_text (PeakLine at p) ++ rest)
     → IsStopped c (AtPeak g (at ∷ left)) text text
-no_peak c g at left s text same h = record { next = AtPeak g (at ∷ left); read = read_none c (AtPeak g (at ∷ left)) text; stuck = stuck; open = open }
+no_peak c g at left s text same h = record { next = AtPeak g (at ∷ left); read = read_none c (AtPeak g (at ∷ left)) text; stuck = stuck; goes_on = goes_on }
   where
-    open : (k : Grid) → AtPeak g (at ∷ left) ≡ AtPeak k [] → text ≢ []
-    open k e = let apart = ap due_number e in absurd (omega arith)
+    goes_on : (k : Grid) → AtPeak g (at ∷ left) ≡ AtPeak k [] → text ≢ []
+    goes_on k e = let apart = ap due_number e in absurd (omega arith)
 
-    none : (p : Peak) (n : ℕ) (rest : List ℕ) → IsPointOf (series_of c at) g p n → text ≢ line_text (PeakLine at p) ++ rest
-    none = subst (λ (x : Series). (p : Peak) (n : ℕ) (rest : List ℕ) → IsPointOf x g p n → text ≢ line_text (PeakLine at p) ++ rest) same h
+    no_line : (p : Peak) (n : ℕ) (rest : List ℕ) → IsPointOf (series_of c at) g p n → text ≢ line_text (PeakLine at p) ++ rest
+    no_line = subst (λ (x : Series). (p : Peak) (n : ℕ) (rest : List ℕ) → IsPointOf x g p n → text ≢ line_text (PeakLine at p) ++ rest) same h
 
     stuck : IsStuck c (AtPeak g (at ∷ left)) text
     stuck (GridLine k) next rest is e = absurd is
     stuck (LagLine l mark) next rest is e = absurd is
-    stuck (PeakLine at' p) next rest is e = none p is.number rest is.point (e ∙ ap (λ (x : SeriesAt). line_text (PeakLine x p) ++ rest) is.at_is)
+    stuck (PeakLine at' p) next rest is e = no_line p is.number rest is.point (e ∙ ap (λ (x : SeriesAt). line_text (PeakLine x p) ++ rest) is.at_is)
 
 -- the line of a lag
 pub read_lag : (c : Content) (g : Grid) (at : SeriesAt) (left : List SeriesAt) (s : Series) (p : Point) (lag : ℕ) (text rest : List ℕ)
@@ -82,36 +82,36 @@ pub no_lag : (c : Content) (g : Grid) (at : SeriesAt) (left : List SeriesAt) (s 
     → IsStopped c (AtPeak g (at ∷ left)) whole text
 no_lag c g at left s p lag whole text same within read h =
     let short : lag < c.head.lags = omega (arith, within, ap (λ (x : Series). x.lags) same, lags_of c at) in
-    record { next = AtLag (claim_of g at p) lag left; read = subst (λ (d : Due). IsRead c (AtPeak g (at ∷ left)) whole d text) (lag_due c.head.lags (claim_of g at p) lag left short) read; stuck = stuck; open = open }
+    record { next = AtLag (claim_of g at p) lag left; read = subst (λ (d : Due). IsRead c (AtPeak g (at ∷ left)) whole d text) (lag_due c.head.lags (claim_of g at p) lag left short) read; stuck = stuck; goes_on = goes_on }
   where
-    open : (k : Grid) → AtLag (claim_of g at p) lag left ≡ AtPeak k [] → text ≢ []
-    open k e = let apart = ap due_number e in absurd (omega arith)
+    goes_on : (k : Grid) → AtLag (claim_of g at p) lag left ≡ AtPeak k [] → text ≢ []
+    goes_on k e = let apart = ap due_number e in absurd (omega arith)
 
-    none : (mark : Mark) (rest : List ℕ) → IsTrueMark (series_of c at) g p.lag p.rate lag mark
+    no_line : (mark : Mark) (rest : List ℕ) → IsTrueMark (series_of c at) g p.lag p.rate lag mark
         → text ≢ line_text (LagLine (lag_of (series_of c at).lags lag) mark) ++ rest
-    none = subst (λ (x : Series). (mark : Mark) (rest : List ℕ) → IsTrueMark x g p.lag p.rate lag mark → text ≢ line_text (LagLine (lag_of x.lags lag) mark) ++ rest) same h
+    no_line = subst (λ (x : Series). (mark : Mark) (rest : List ℕ) → IsTrueMark x g p.lag p.rate lag mark → text ≢ line_text (LagLine (lag_of x.lags lag) mark) ++ rest) same h
 
     stuck : IsStuck c (AtLag (claim_of g at p) lag left) text
     stuck (GridLine k) next rest is e = absurd is
     stuck (PeakLine at' q) next rest is e = absurd is
     stuck (LagLine l mark) next rest is e =
-        none mark rest is.mark_is (e ∙ ap (λ (x : ℤ). line_text (LagLine x mark) ++ rest) (is.lag_is ∙ ap (λ n. lag_of n lag) (sym (lags_of c at))))
+        no_line mark rest is.mark_is (e ∙ ap (λ (x : ℤ). line_text (LagLine x mark) ++ rest) (is.lag_is ∙ ap (λ n. lag_of n lag) (sym (lags_of c at))))
 
 pub stopped_then : (c : Content) (s m : Due) (text middle rest : List ℕ) → IsRead c s text m middle → IsStopped c m middle rest → IsStopped c s text rest
-stopped_then c s m text middle rest a b = record { next = b.next; read = read_then c s m b.next text middle rest a b.read; stuck = b.stuck; open = b.open }
+stopped_then c s m text middle rest a b = record { next = b.next; read = read_then c s m b.next text middle rest a b.read; stuck = b.stuck; goes_on = b.goes_on }
 
 -- the line of the grid
 pub no_grid : (c : Content) (text : List ℕ) → ((g : Grid) (rest : List ℕ) → text ≢ line_text (GridLine g) ++ rest) → IsStopped c AtGrid text text
-no_grid c text none = record { next = AtGrid; read = read_none c AtGrid text; stuck = stuck; open = open }
+no_grid c text no_line = record { next = AtGrid; read = read_none c AtGrid text; stuck = stuck; goes_on = goes_on }
   where
-    open : (k : Grid) → AtGrid ≡ AtPeak k [] → text ≢ []
-    open k e = let apart = ap due_number e in absurd (omega arith)
+    goes_on : (k : Grid) → AtGrid ≡ AtPeak k [] → text ≢ []
+    goes_on k e = let apart = ap due_number e in absurd (omega arith)
 
     stuck : IsStuck c AtGrid text
-    stuck (GridLine g) next rest is e = none g rest e
+    stuck (GridLine g) next rest is e = no_line g rest e
     stuck (PeakLine at p) next rest is e = absurd is
     stuck (LagLine l mark) next rest is e = absurd is
 
 -- no line is due, and the text goes on
 pub no_end : (c : Content) (g : Grid) (text rest : List ℕ) → IsRead c AtGrid text (AtPeak g []) rest → rest ≢ [] → IsStopped c AtGrid text rest
-no_end c g text rest read more = record { next = AtPeak g []; read = read; stuck = λ line next behind is e. absurd is; open = λ h e. more }
+no_end c g text rest read more = record { next = AtPeak g []; read = read; stuck = λ line next behind is e. absurd is; goes_on = λ h e. more }

@@ -71,6 +71,7 @@ same_facts r d a a' b b' c c' =
     ap (λ x. grid_of r d x b c) (le-prop r 4096 a a') ∙ ap (λ x. grid_of r d a' x c) (lt-prop 0 d b b') ∙ ap (λ x. grid_of r d a' b' x) (le-prop d 65536 c c')
 
 pub same_grid : (g h : Grid) → g.rates ≡ h.rates → g.divide ≡ h.divide → g ≡ h
+unfolding grid_of
 same_grid g h p q =
     subst (λ (r : ℕ). (a : r ≤ 4096) → g ≡ grid_of r h.divide a h.divide_some h.divide_within) p
     (subst (λ (d : ℕ). (b : 0 < d) (c : d ≤ 65536) (a : g.rates ≤ 4096) → g ≡ grid_of g.rates d a b c) q

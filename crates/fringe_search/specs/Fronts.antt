@@ -34,4 +34,4 @@ pub record IsStopped (content : Content) (due : Due) (text rest : List ℕ) : Ty
   pub next : Due
   pub read : IsRead content due text next rest
   pub stuck : IsStuck content next rest
-  pub open : (g : Grid) → next ≡ AtPeak g [] → rest ≢ []
+  pub goes_on : (g : Grid) → next ≡ AtPeak g [] → rest ≢ []

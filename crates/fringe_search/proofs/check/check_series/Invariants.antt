@@ -7,4 +7,4 @@ use Rattle.fringe_search.proofs.check.check_series.Given as goal
 
 abbrev pub invariant-loop-lag : goal.invariant-loop-lag
 invariant-loop-lag l =
-    (left : List SeriesAt) → IsRead l.vis (AtPeak l.grid (l.at ∷ left)) l.text (from_lag l.vis.head.lags (claim_of l.grid l.at l.peak) l.lag left) l.rest
+    (left : List SeriesAt) → IsRead l.vis (AtPeak l.grid (l.fn.at ∷ left)) l.text (from_lag l.vis.head.lags (claim_of l.grid l.fn.at l.peak) l.lag left) l.rest

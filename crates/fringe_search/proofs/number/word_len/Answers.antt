@@ -2,7 +2,7 @@ use Rattle.std.proofs.Common.{rules, ◌≡◌, ◌==◌, ◌≤◌, ℕ, true, 
 use Rattle.std.proofs.lemmas.List.Sums.{position_or_len_is}
 use Rattle.fringe_search.proofs.number.word_len.Goals as goal
 
-pub returns-then-b-stop-clause-place : goal.returns-then-b-eq32-clause-place
+pub returns-then-b-stop-clause-place : goal.returns-then-b-stop-clause-place
 returns-then-b-stop-clause-place c =
     let here : (get_or c.args.text.now c.loop-i.i 0 == c.args.stop) ≡ true = search rules in
     let within : c.loop-i.i ≤ length c.args.text.now = omega arith in

@@ -6,10 +6,10 @@ use Rattle.fringe_search.proofs.Strips.{strips_more, parted}
 use Rattle.fringe_search.proofs.read.strip_sum.Goals as goal
 
 pub returns-in_err-middle : goal.returns-in_err-middle
-returns-in_err-middle c = λ rest e.
+returns-in_err-middle c = rw c.from_residual.ensures (λ rest e.
     let re_fits : FitsSigned w64 c.args.sum.re = search rules in
     (rw (to_z-of_z w64 c.args.sum.re re_fits) at c.in_err-middle.ensures) ((signed_decimal c.args.sum.im ++ 10 ∷ []) ++ rest)
-    (e ∙ parted (signed_decimal c.args.sum.re) 32 (signed_decimal c.args.sum.im ++ 10 ∷ []) rest)
+    (e ∙ parted (signed_decimal c.args.sum.re) 32 (signed_decimal c.args.sum.im ++ 10 ∷ []) rest))
 
 pub returns : goal.returns
 returns c =

@@ -7,35 +7,35 @@ use Rattle.fringe_search.proofs.TakenLines.{lag_in, rate_in, signed_rest, number
 use Rattle.fringe_search.proofs.read.take_peak.Goals as goal
 
 pub returns-in_err-words : goal.returns-in_err-words
-returns-in_err-words c = λ p n rest h e. c.in_err-words.ensures (peak_text p ++ rest) (e ∙ append_assoc (place_text c.args.at) (peak_text p) rest)
+returns-in_err-words c = rw c.from_residual.ensures (λ p n rest h e. c.in_err-words.ensures (peak_text p ++ rest) (e ∙ append_assoc (place_text c.args.at) (peak_text p) rest))
 
 pub returns-in_err-lag : goal.returns-in_err-lag
-returns-in_err-lag c = λ p n rest h e.
-    let few = c.lags.ensures.few in
-    c.in_err-lag.ensures.taken p.lag _ (lag_in c.args.series.now c.args.grid.now c.args.at p n c.args.text.now c.in_ok-words.words.now rest few h c.in_ok-words.ensures e)
+returns-in_err-lag c = rw c.from_residual-in_err-lag.ensures (λ p n rest h e.
+    let few = c.lags-lags.ensures.few in
+    c.in_err-lag.ensures.taken p.lag _ (lag_in c.args.series.now c.args.grid.now c.args.at p n c.args.text.now c.in_ok-words.words.now rest few h c.in_ok-words.ensures e))
 
 pub returns-in_err-rate : goal.returns-in_err-rate
-returns-in_err-rate c = λ p n rest h e.
-    let few = c.lags.ensures.few in
+returns-in_err-rate c = rw c.from_residual-in_err-rate.ensures (λ p n rest h e.
+    let few = c.lags-lags.ensures.few in
     let s = c.args.series.now in
     let g = c.args.grid.now in
     let text = c.args.text.now in
     let words = c.in_ok-words.words.now in
     let lag = c.in_ok-lag.ensures.one p.lag _ (lag_in s g c.args.at p n text words rest few h c.in_ok-words.ensures e) in
-    c.in_err-rate.ensures.taken p.rate _ (rate_in s g c.args.at p n c.in_ok-lag.lag text words c.in_ok-lag.later.now rest few h c.in_ok-words.ensures e c.in_ok-lag.ensures.taken lag)
+    c.in_err-rate.ensures.taken p.rate _ (rate_in s g c.args.at p n c.in_ok-lag.lag text words c.in_ok-lag.later.now rest few h c.in_ok-words.ensures e c.in_ok-lag.ensures.taken lag))
 
 pub returns-in_err-number : goal.returns-in_err-number
-returns-in_err-number c = λ p n rest h e.
-    let few = c.lags.ensures.few in
+returns-in_err-number c = rw c.from_residual-in_err-number.ensures (λ p n rest h e.
+    let few = c.lags-lags.ensures.few in
     let s = c.args.series.now in
     let lag = c.in_ok-lag.ensures.one p.lag _ (lag_in s c.args.grid.now c.args.at p n c.args.text.now c.in_ok-words.words.now rest few h c.in_ok-words.ensures e) in
     let same : to_z w32 (of_z w32 c.in_ok-lag.lag) ≡ c.in_ok-lag.lag = to_z-of_z w32 c.in_ok-lag.lag c.in_ok-lag.ensures.taken.within in
-    let lags = c.lags.ensures.value in
-    c.in_err-number.ensures n (omega (arith, h.within, lags)) (same ∙ sym lag ∙ h.lag ∙ ap (λ k. lag_of k n) (sym lags))
+    let lags = c.lags-lags.ensures.value in
+    c.in_err-number.ensures n (omega (arith, h.within, lags)) (same ∙ sym lag ∙ h.lag ∙ ap (λ k. lag_of k n) (sym lags)))
 
 pub returns-in_err-point : goal.returns-in_err-point
-returns-in_err-point c = λ p n rest h e.
-    let few = c.lags.ensures.few in
+returns-in_err-point c = rw c.from_residual-in_err-point.ensures (λ p n rest h e.
+    let few = c.lags-lags.ensures.few in
     let s = c.args.series.now in
     let g = c.args.grid.now in
     let text = c.args.text.now in
@@ -43,11 +43,11 @@ returns-in_err-point c = λ p n rest h e.
     let lag = c.in_ok-lag.ensures.one p.lag _ (lag_in s g c.args.at p n text words rest few h c.in_ok-words.ensures e) in
     let rate = c.in_ok-rate.ensures.one p.rate _ (rate_in s g c.args.at p n c.in_ok-lag.lag text words c.in_ok-lag.later.now rest few h c.in_ok-words.ensures e c.in_ok-lag.ensures.taken lag) in
     let same : to_z w32 (of_z w32 c.in_ok-rate.rate) ≡ c.in_ok-rate.rate = to_z-of_z w32 c.in_ok-rate.rate c.in_ok-rate.ensures.taken.within in
-    c.in_err-point.ensures (subst (λ (z : ℤ). IsRate g.rates z) (rate ∙ sym same) h.rate)
+    c.in_err-point.ensures (subst (λ (z : ℤ). IsRate g.rates z) (rate ∙ sym same) h.rate))
 
 pub returns-in_err-rest : goal.returns-in_err-rest
-returns-in_err-rest c = λ p n rest h e.
-    let few = c.lags.ensures.few in
+returns-in_err-rest c = rw c.from_residual-in_err-rest.ensures (λ p n rest h e.
+    let few = c.lags-lags.ensures.few in
     let s = c.args.series.now in
     let g = c.args.grid.now in
     let text = c.args.text.now in
@@ -60,10 +60,10 @@ returns-in_err-rest c = λ p n rest h e.
     let rate_same : to_z w32 (of_z w32 c.in_ok-rate.rate) ≡ c.in_ok-rate.rate = to_z-of_z w32 c.in_ok-rate.rate c.in_ok-rate.ensures.taken.within in
     let at = c.in_ok-point.ensures in
     let number : n ≡ c.in_ok-number.number = number_one s.lags n c.in_ok-number.number p.lag c.in_ok-lag.lag h.lag
-    (sym lag_same ∙ c.in_ok-number.ensures.1 ∙ ap (λ k. lag_of k c.in_ok-number.number) c.lags.ensures.value) lag in
+    (sym lag_same ∙ c.in_ok-number.ensures.1 ∙ ap (λ k. lag_of k c.in_ok-number.number) c.lags-lags.ensures.value) lag in
     let sums = sums_one s g p n q h at.point (number ∙ sym at.lag_is) (rate ∙ sym (at.rate_is ∙ rate_same)) in
     let behind = signed_rest c.in_ok-rate.rate p.rate 32 c.in_ok-lag.later.now c.in_ok-rate.sums.now (sums_text p.re p.im ++ rest) c.in_ok-rate.ensures.taken r rate in
-    c.in_err-rest.ensures rest (behind ∙ ap (λ t. t ++ rest) sums)
+    c.in_err-rest.ensures rest (behind ∙ ap (λ t. t ++ rest) sums))
 
 pub returns : goal.returns
 returns c =
@@ -72,7 +72,7 @@ returns c =
     let rate_same : to_z w32 (of_z w32 c.in_ok-rate.rate) ≡ c.in_ok-rate.rate = to_z-of_z w32 c.in_ok-rate.rate c.in_ok-rate.ensures.taken.within in
     let at = c.in_ok-point.ensures in
     let lag : c.in_ok-lag.lag ≡ lag_of s.lags c.in_ok-point.point.lag =
-    sym lag_same ∙ c.in_ok-number.ensures.1 ∙ ap₂ lag_of c.lags.ensures.value (sym at.lag_is) in
+    sym lag_same ∙ c.in_ok-number.ensures.1 ∙ ap₂ lag_of c.lags-lags.ensures.value (sym at.lag_is) in
     peak_made s c.args.grid.now c.args.at c.in_ok-point.point c.in_ok-lag.lag c.in_ok-rate.rate c.args.text.now c.in_ok-words.words.now c.in_ok-lag.later.now c.in_ok-rate.sums.now c.in_ok-rest.rest.now
     c.in_ok-words.ensures
     c.in_ok-lag.ensures.taken

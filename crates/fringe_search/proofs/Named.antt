@@ -89,7 +89,7 @@ record IsNamed (c : Content) (g h : Grid) (left : List SeriesAt) (lines : List L
   pub series : flat_map series_named lines ≡ left
 
 named : (c : Content) (g h : Grid) (left : List SeriesAt) (lines : List Line) → AreLines c (AtPeak g left) lines (AtPeak h []) → IsNamed c g h left lines
-unfolding AreLines
+unfolding AreLines grid_in
 named c g h [] [] are = record { grid = ap (grid_in g) are; peaks = All-nil (IsOfPeak c h); series = refl }
 named c g h [] (line ∷ lines) (mid, is, are) = absurd is
 named c g h (at ∷ left) [] are = let apart = ap due_number are in absurd (omega arith)

@@ -25,19 +25,19 @@ loop-next-init c =
 
 pub wrong_at-requires : goal.wrong_at-requires
 wrong_at-requires c =
-    let h = one_stopped c.args.vis.now c.in-Some.grid c.loop-next.next c.in-Some-next.at c.args.text.now c.loop-next.rest.now c.in-Err.wrong.now c.in-Some-next.is c.loop-next.invariant c.in-Err.ensures in
+    let h = one_stopped c.args.vis.now c.in-Some.grid c.loop-next.next c.in-Some-next.at c.args.text.now c.loop-next.rest.now c.in-Err.wrong.now c.in-Some-next.is c.loop-next.invariant c.in-Err.ensures.stopped in
     read_short c.args.vis.now AtGrid h.next c.args.text.now c.in-Err.wrong.now h.read
 
 pub returns-in-Err-clause-wrong : goal.returns-in-Err-clause-wrong
 returns-in-Err-clause-wrong c =
     let few = few_lags c.args.vis.now (omega (arith, c.head-head.ensures.vis.head_is.lags)) in
-    let h = one_stopped c.args.vis.now c.in-Some.grid c.loop-next.next c.in-Some-next.at c.args.text.now c.loop-next.rest.now c.in-Err.wrong.now c.in-Some-next.is c.loop-next.invariant c.in-Err.ensures in
+    let h = one_stopped c.args.vis.now c.in-Some.grid c.loop-next.next c.in-Some-next.at c.args.text.now c.loop-next.rest.now c.in-Err.wrong.now c.in-Some-next.is c.loop-next.invariant c.in-Err.ensures.stopped in
     wrong_at c.args.vis.now c.args.text.now c.in-Err.wrong.now c.wrong_at.result.at few h c.wrong_at.ensures
 
 pub returns-in-Err-clause-right : goal.returns-in-Err-clause-right
 returns-in-Err-clause-right c =
     let few = few_lags c.args.vis.now (omega (arith, c.head-head.ensures.vis.head_is.lags)) in
-    let h = one_stopped c.args.vis.now c.in-Some.grid c.loop-next.next c.in-Some-next.at c.args.text.now c.loop-next.rest.now c.in-Err.wrong.now c.in-Some-next.is c.loop-next.invariant c.in-Err.ensures in
+    let h = one_stopped c.args.vis.now c.in-Some.grid c.loop-next.next c.in-Some-next.at c.args.text.now c.loop-next.rest.now c.in-Err.wrong.now c.in-Some-next.is c.loop-next.invariant c.in-Err.ensures.stopped in
     let wrong = wrong_at c.args.vis.now c.args.text.now c.in-Err.wrong.now c.wrong_at.result.at few h c.wrong_at.ensures in
     (λ e. absurd (false≢true e), λ right. absurd (wrong.wrong right))
 
@@ -46,7 +46,7 @@ loop-next-preserved c =
     one_checked c.args.vis.now c.in-Some.grid c.head-head.result.now c.loop-next.next c.in-Some-next.at c.after-next.result c.args.text.now c.loop-next.rest.now c.in-Ok.behind.now c.head-head.ensures.head
     c.in-Some-next.is
     c.loop-next.invariant
-    c.in-Ok.ensures
+    c.in-Ok.ensures.read
     c.after-next.ensures.rest
     c.after-next.ensures.within
 

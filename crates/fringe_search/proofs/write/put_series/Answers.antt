@@ -8,7 +8,7 @@ use Rattle.fringe_search.proofs.Putting.{best_peak, best_power, series_put}
 use Rattle.fringe_search.proofs.write.put_series.Goals as goal
 
 pub best_of-peak-requires : goal.best_of-peak-requires
-best_of-peak-requires g c = subst (λ (s : Series). IsSmall s) (sym c.of-series.ensures) (c.requires.small c.args.at c.requires.at)
+best_of-peak-requires g c = record { small = subst (λ (s : Series). IsSmall s) (sym c.of-series.ensures) (c.requires.small c.args.at c.requires.at) }
 
 pub put_lags-requires : goal.put_lags-requires
 put_lags-requires g c = subst (λ (s : Series). IsSmall s) (sym c.of-series.ensures) (c.requires.small c.args.at c.requires.at)

@@ -1,6 +1,5 @@
 -- The certificate that is written is right.
-use Rattle.std.proofs.Common.{◌≡◌, ℕ, zero, suc, ◌+◌, ◌<◌, ◌≤◌, List, [], ◌∷◌, ◌++◌, map, ℤ, refl, sym, ap, ap₂, subst, ◌∙◌, arith, ltb, inl, inr}
-use Rattle.std.specs.Prelude.{flat_map}
+use Rattle.std.proofs.Common.{◌≡◌, ℕ, zero, suc, ◌+◌, ◌<◌, List, [], ◌∷◌, map, refl, sym, ap, ap₂, subst, arith, ltb, inl, inr}
 use Rattle.std.specs.List.{All, range_with_len}
 use Rattle.std.proofs.lemmas.Bool.{cases_lt, cond-true, cond-false, lt-ltb, le-ltb}
 use Rattle.std.proofs.lemmas.List.Elements.{All-tail}
@@ -14,8 +13,8 @@ use Rattle.fringe_search.specs.declared.places.SeriesAt.{SeriesAt}
 use Rattle.fringe_search.specs.Layout.{Series, series_of, series_in}
 use Rattle.fringe_search.specs.Sums.{power_of, power_at, bound_at}
 use Rattle.fringe_search.specs.Peaks.{IsPeak, IsPointOf}
-use Rattle.fringe_search.specs.Certificates.{Line, GridLine, PeakLine, LagLine, lines_text, IsTrueMark, Claim, Due, AtGrid, AtPeak, AtLag, from_lag, IsLine, AreLines, IsRight}
-use Rattle.fringe_search.specs.Written.{due_mark, lag_line, lag_lines, series_lines, Found, found_lines, IsCertificate}
+use Rattle.fringe_search.specs.Certificates.{Line, GridLine, lines_text, IsTrueMark, Claim, Due, AtGrid, AtPeak, from_lag, AreLines, IsRight}
+use Rattle.fringe_search.specs.Written.{due_mark, lag_line, series_lines, Found, found_lines, IsCertificate}
 use Rattle.fringe_search.proofs.Lines.{AreLines-append}
 use Rattle.fringe_search.proofs.Reading.{lags_of, lag_due, peak_due}
 

@@ -1,14 +1,14 @@
 -- The series whose lines are read.
 use Rattle.std.specs.Prelude.{MatchOption}
-use Rattle.std.proofs.Common.{◌≡◌, ℕ, ◌+◌, List, [], ◌∷◌, ◌++◌, Option, None, Some, sym, ap, subst, ◌∙◌}
+use Rattle.std.proofs.Common.{◌≡◌, ℕ, ◌+◌, List, [], ◌∷◌, ◌++◌, Option, None, Some, sym, ap, subst}
 use Rattle.corr_model.specs.Records.{Head}
 use Rattle.vis_records.specs.Content.{Content}
 use Rattle.fringe_search.specs.declared.grid.Grid.{Grid}
 use Rattle.fringe_search.specs.declared.places.SeriesAt.{SeriesAt}
 use Rattle.fringe_search.specs.Layout.{IsSeriesAt, series_in}
 use Rattle.fringe_search.specs.InOrder.{series_from, series_next}
-use Rattle.fringe_search.specs.Certificates.{GridLine, line_text, Due, AtGrid, AtPeak}
-use Rattle.fringe_search.specs.Fronts.{IsRead, IsStuck, IsStopped}
+use Rattle.fringe_search.specs.Certificates.{GridLine, line_text, AtGrid, AtPeak}
+use Rattle.fringe_search.specs.Fronts.{IsRead, IsStopped}
 use Rattle.fringe_search.proofs.Lines.{read_line, read_then}
 use Rattle.fringe_search.proofs.Reading.{stopped_then}
 use Rattle.fringe_search.proofs.Turns.{next_baseline}

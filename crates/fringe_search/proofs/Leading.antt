@@ -1,5 +1,5 @@
 -- A point that leads another.
-use Rattle.std.proofs.Common.{◌≡◌, ℕ, ◌≤◌, ℤ, sym, ap₂, subst, ◌∙◌}
+use Rattle.std.proofs.Common.{◌≡◌, ℕ, ℤ, sym, ap₂, subst, ◌∙◌}
 use Rattle.fringe_search.specs.Peaks.{IsAhead, Leads}
 
 -- with the powers at hand

@@ -1,5 +1,5 @@
 -- Lines one behind another.
-use Rattle.std.proofs.Common.{◌≡◌, ◌≢◌, ℕ, ◌+◌, ◌<◌, ◌≤◌, ◌^◌, List, [], ◌∷◌, ◌++◌, length, ℤ, FitsSigned, codes, decimal, get_or, refl, sym, ap, ap₂, subst, ◌∙◌, arith, append_assoc, append-nil, length-append}
+use Rattle.std.proofs.Common.{◌≡◌, ◌≢◌, ℕ, ◌+◌, ◌<◌, ◌≤◌, List, [], ◌∷◌, ◌++◌, length, ℤ, FitsSigned, codes, decimal, get_or, refl, sym, ap, ap₂, subst, ◌∙◌, arith, append_assoc, append-nil, length-append}
 use Rattle.std.specs.Fmt.{signed_decimal}
 use Rattle.std.specs.Int.{w32}
 use Rattle.std.proofs.lemmas.Grind.{flat_map-append}
@@ -12,11 +12,11 @@ use Rattle.fringe_search.specs.declared.grid.Peak.{Peak}
 use Rattle.fringe_search.specs.declared.claim.Mark.{Mark}
 use Rattle.fringe_search.specs.declared.claim.Mark.TheVariants.{Bound, Grid as Gridded}
 use Rattle.fringe_search.specs.declared.places.SeriesAt.{SeriesAt}
-use Rattle.fringe_search.specs.Layout.{Series, series_of, series_in}
+use Rattle.fringe_search.specs.Layout.{series_of, series_in}
 use Rattle.fringe_search.specs.Sums.{re_at, im_at}
-use Rattle.fringe_search.specs.Peaks.{IsRate, IsPointOf}
+use Rattle.fringe_search.specs.Peaks.{IsRate}
 use Rattle.fringe_search.specs.Certificates.{Line, GridLine, PeakLine, LagLine, line_text, lines_text, mark_text, place_text, sums_text, Claim, Due, AtGrid, AtPeak, AtLag, from_lag, IsPeakLine, IsLagLine, IsLine, AreLines, IsRight}
-use Rattle.fringe_search.specs.Fronts.{IsRead, IsStuck, IsFront, IsWrongAt, IsStopped}
+use Rattle.fringe_search.specs.Fronts.{IsRead, IsStuck, IsWrongAt, IsStopped}
 use Rattle.fringe_search.proofs.Texts.{grid_parts, peak_parts, lag_parts, numbers_apart, signed_apart, same_grid}
 
 pub AreLines-append : (c : Content) (s m e : Due) (a b : List Line) → AreLines c s a m → AreLines c m b e → AreLines c s (a ++ b) e

@@ -1,5 +1,5 @@
 -- What a right certificate says: each peak's line names the peak.
-use Rattle.std.proofs.Common.{◌≡◌, ℕ, zero, suc, ◌+◌, ◌<◌, ◌≤◌, List, [], ◌∷◌, ◌++◌, length, ℤ, refl, sym, ap, ap₂, subst, ◌∙◌, arith, inl, inr}
+use Rattle.std.proofs.Common.{◌≡◌, ℕ, zero, suc, ◌+◌, ◌<◌, ◌≤◌, List, [], ◌∷◌, ◌++◌, ℤ, refl, sym, ap, ap₂, subst, ◌∙◌, arith, inl, inr}
 use Rattle.std.specs.Prelude.{flat_map}
 use Rattle.std.specs.List.{All}
 use Rattle.std.proofs.lemmas.Bool.{cases_lt}
@@ -7,7 +7,6 @@ use Rattle.std.proofs.lemmas.Grind.{flat_map-append}
 use Rattle.std.proofs.lemmas.List.Elements.{All-nil, All-cons, All-append}
 use Rattle.vis_records.specs.Content.{Content}
 use Rattle.fringe_search.specs.declared.grid.Grid.{Grid}
-use Rattle.fringe_search.specs.declared.grid.Peak.{Peak}
 use Rattle.fringe_search.specs.declared.claim.Mark.{Mark}
 use Rattle.fringe_search.specs.declared.claim.Mark.TheVariants.{Bound, Grid as Gridded}
 use Rattle.fringe_search.specs.declared.places.SeriesAt.{SeriesAt}
@@ -15,7 +14,7 @@ use Rattle.fringe_search.specs.Layout.{Series, series_of, series_in}
 use Rattle.fringe_search.specs.Sums.{power_at}
 use Rattle.fringe_search.specs.Peaks.{IsRate, Leads, IsPeak}
 use Rattle.fringe_search.specs.Laws.{IsOfPeak, series_named, HasItsPeaks}
-use Rattle.fringe_search.specs.Certificates.{Line, GridLine, PeakLine, LagLine, IsTrueMark, Claim, Due, AtGrid, AtPeak, AtLag, from_lag, IsLagLine, IsLine, AreLines, IsRight}
+use Rattle.fringe_search.specs.Certificates.{Line, GridLine, PeakLine, LagLine, IsTrueMark, Claim, Due, AtGrid, AtPeak, AtLag, from_lag, AreLines, IsRight}
 use Rattle.fringe_search.proofs.Bounds.{power_at-within}
 use Rattle.fringe_search.proofs.Lines.{due_number}
 use Rattle.fringe_search.proofs.Reading.{lags_of, lag_due, peak_due}

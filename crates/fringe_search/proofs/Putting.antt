@@ -1,7 +1,6 @@
 -- The lines of the certificate on their way to a sink.
 use Rattle.std.specs.Prelude.{MatchOption}
-use Rattle.std.proofs.Common.{◌≡◌, ℕ, ◌+◌, List, [], ◌∷◌, ◌++◌, map, codes, decimal, Option, None, Some, ℤ, refl, sym, ap, ap₂, subst, ◌∙◌, arith, append_assoc, append-nil}
-use Rattle.std.specs.Fmt.{signed_decimal}
+use Rattle.std.proofs.Common.{◌≡◌, ℕ, ◌+◌, List, [], ◌∷◌, ◌++◌, map, Option, None, Some, ℤ, refl, sym, ap, ap₂, subst, ◌∙◌, arith, append_assoc, append-nil}
 use Rattle.std.specs.List.{All, range_with_len}
 use Rattle.std.proofs.lemmas.Grind.{flat_map-append}
 use Rattle.std.proofs.lemmas.List.{map-append}
@@ -13,7 +12,6 @@ use Rattle.sink_text.specs.Written.{StretchState, Puts}
 use Rattle.sink_text.proofs.WrittenText.{Puts-then}
 use Rattle.vis_records.specs.Content.{Content}
 use Rattle.fringe_search.specs.declared.grid.Grid.{Grid}
-use Rattle.fringe_search.specs.declared.grid.Peak.{Peak}
 use Rattle.fringe_search.specs.declared.claim.Mark.{Mark}
 use Rattle.fringe_search.specs.declared.peak.Point.{Point}
 use Rattle.fringe_search.specs.declared.places.SeriesAt.{SeriesAt}
@@ -21,12 +19,11 @@ use Rattle.fringe_search.specs.Layout.{Series, IsSeriesAt, series_of, series_in}
 use Rattle.fringe_search.specs.InOrder.{series_from, series_next}
 use Rattle.fringe_search.specs.Sums.{power_of}
 use Rattle.fringe_search.specs.Peaks.{IsPeak}
-use Rattle.fringe_search.specs.Best.{IsPoint, IsBest}
-use Rattle.fringe_search.specs.Certificates.{Line, GridLine, PeakLine, LagLine, line_text, lines_text, peak_text, sums_text}
+use Rattle.fringe_search.specs.Best.{IsBest}
+use Rattle.fringe_search.specs.Certificates.{GridLine, PeakLine, LagLine, line_text, lines_text}
 use Rattle.fringe_search.specs.Written.{due_mark, lag_line, lag_lines, series_lines, shown, Found, found_lines, PutsSeries, PutsCertificate}
 use Rattle.fringe_search.proofs.Certified.{peak_power}
 use Rattle.fringe_search.proofs.Reading.{shown_point}
-use Rattle.fringe_search.proofs.Strips.{place_flat}
 
 -- the lines of the first lags, and of one more
 pub lags_next : (s : Series) (top n : ℕ) (lag : ℤ) (mark : Mark) → lag ≡ lag_of s.lags n → mark ≡ due_mark s top n
@@ -110,17 +107,3 @@ series_put c g at s p lag {s₀ = s₀} {s₂ = s₂} {t₀ = t₀} {t₂ = t₂
       is = subst (λ (x : Series). IsPeak x g (shown s.lags p)) same (best_peak s g p best);
       puts = subst (λ (x : Series). Puts (lines_text (series_lines x at (shown s.lags p))) s₀ s₂ t₀ t₂ f₀ f₂) same all;
     }
-
-pub Puts-as : {a b : List ℕ} {s₀ s₁ : StretchState} {t₀ t₁ : Option (List ℕ)} {f₀ f₁ : ℕ} → a ≡ b → Puts a s₀ s₁ t₀ t₁ f₀ f₁ → Puts b s₀ s₁ t₀ t₁ f₀ f₁
-Puts-as {s₀ = s₀} {s₁ = s₁} {t₀ = t₀} {t₁ = t₁} {f₀ = f₀} {f₁ = f₁} same puts = subst (λ (x : List ℕ). Puts x s₀ s₁ t₀ t₁ f₀ f₁) same puts
-
--- the pieces of a peak's line
-pub peak_pieces : (at : SeriesAt) (p : Peak) (scan product baseline : ℕ) (lag rate : ℤ) → scan ≡ at.scan → product ≡ at.product → baseline ≡ at.baseline
-    → lag ≡ p.lag → rate ≡ p.rate
-    → codes "peak " ++ (decimal scan ++ 32 ∷ (decimal product ++ 32 ∷ (decimal baseline ++ 32 ∷ (signed_decimal lag ++ 32 ∷ (signed_decimal rate ++ 32 ∷ sums_text p.re p.im)))))
-    ≡ line_text (PeakLine at p)
-peak_pieces at p scan product baseline lag rate e₁ e₂ e₃ e₄ e₅ =
-    let numbers = ap₂ (λ y z. signed_decimal y ++ 32 ∷ (signed_decimal z ++ 32 ∷ sums_text p.re p.im)) e₄ e₅ in
-    let later = ap₂ (λ n t. decimal n ++ 32 ∷ t) e₃ numbers in
-    let middle = ap₂ (λ n t. decimal n ++ 32 ∷ t) e₂ later in
-    ap₂ (λ n t. codes "peak " ++ (decimal n ++ 32 ∷ t)) e₁ middle ∙ sym (place_flat at (peak_text p))

@@ -1,6 +1,5 @@
 -- The lines of a series, read one after another.
-use Rattle.std.proofs.Common.{◌≡◌, ◌≢◌, ℕ, ◌+◌, ◌<◌, ◌≤◌, List, [], ◌∷◌, ◌++◌, length, ℤ, refl, sym, ap, ap₂, subst, ◌∙◌, arith, ltb}
-use Rattle.std.specs.Prelude.{nat_lt}
+use Rattle.std.proofs.Common.{◌≡◌, ◌≢◌, ℕ, ◌+◌, ◌<◌, ◌≤◌, List, [], ◌∷◌, ◌++◌, ℤ, refl, sym, ap, subst, ◌∙◌, arith, ltb}
 use Rattle.std.proofs.lemmas.Bool.{cond-true, cond-false, lt-ltb, le-ltb}
 use Rattle.corr_model.specs.Lags.{lag_of}
 use Rattle.vis_records.specs.Content.{Content}
@@ -9,12 +8,12 @@ use Rattle.fringe_search.specs.declared.grid.Peak.{Peak}
 use Rattle.fringe_search.specs.declared.claim.Mark.{Mark}
 use Rattle.fringe_search.specs.declared.peak.Point.{Point}
 use Rattle.fringe_search.specs.declared.places.SeriesAt.{SeriesAt}
-use Rattle.fringe_search.specs.Layout.{Series, series_of, series_in}
+use Rattle.fringe_search.specs.Layout.{Series, series_of}
 use Rattle.fringe_search.specs.Peaks.{IsPointOf}
 use Rattle.fringe_search.specs.Best.{IsPoint}
 use Rattle.fringe_search.specs.Written.{shown}
 use Rattle.fringe_search.specs.Taken.{HasPeakLine, HasLagLine}
-use Rattle.fringe_search.specs.Certificates.{Line, GridLine, PeakLine, LagLine, line_text, IsTrueMark, Claim, Due, AtGrid, AtPeak, AtLag, from_lag, IsPeakLine, IsLagLine, IsLine}
+use Rattle.fringe_search.specs.Certificates.{GridLine, PeakLine, LagLine, line_text, IsTrueMark, Claim, Due, AtGrid, AtPeak, AtLag, from_lag}
 use Rattle.fringe_search.specs.Fronts.{IsRead, IsStuck, IsStopped}
 use Rattle.fringe_search.proofs.Lines.{AreFew, due_number, read_none, read_line, read_then}
 

@@ -11,7 +11,6 @@ use Rattle.std.proofs.lemmas.List.{get_or_append_left}
 use Rattle.std.proofs.lemmas.List.Sums.{position_or_len_is}
 use Rattle.std.proofs.lemmas.Str.Parse.{numerals_by_value, tells_digits, IsNumeralModel, not_in_digits}
 use Rattle.std.proofs.lemmas.Fmt.{digits_decimal, parse-decimal, parse-signed_decimal}
-use Rattle.fringe_search.specs.Numbers.{IsNumberThen, IsSignedThen}
 
 own : IsNumeralModel (AllDigits 10) (digits_value 10)
 own = numerals_by_value (AllDigits 10) tells_digits

@@ -28,14 +28,6 @@ place_parts at rest =
     (parted (decimal at.scan) 32 (decimal at.product ++ 32 ∷ word at.baseline) rest
     ∙ ap (λ t. word at.scan ++ t) (parted (decimal at.product) 32 (word at.baseline) rest))
 
-pub place_flat : (at : SeriesAt) (rest : List ℕ)
-    → place_text at ++ rest ≡ codes "peak " ++ (decimal at.scan ++ 32 ∷ (decimal at.product ++ 32 ∷ (decimal at.baseline ++ 32 ∷ rest)))
-place_flat at rest =
-    ap (λ t. codes "peak " ++ t)
-    (append_assoc (decimal at.scan) (32 ∷ (decimal at.product ++ 32 ∷ word at.baseline)) rest
-    ∙ ap (λ t. decimal at.scan ++ 32 ∷ t)
-    (append_assoc (decimal at.product) (32 ∷ word at.baseline) rest ∙ ap (λ t. decimal at.product ++ 32 ∷ t) (append_assoc (decimal at.baseline) (32 ∷ []) rest)))
-
 -- what stands behind a front is behind it wherever the text has that front
 pub behind_front : (text front middle other : List ℕ) → text ≡ front ++ middle → text ≡ front ++ other → middle ≡ other
 behind_front text front middle other is e = append_cancel_left front middle other (sym is ∙ e)

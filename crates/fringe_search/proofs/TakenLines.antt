@@ -1,5 +1,5 @@
 -- Lines at the front of a text, part by part.
-use Rattle.std.proofs.Common.{◌≡◌, ℕ, ◌<◌, ◌≤◌, List, [], ◌∷◌, ◌++◌, ℤ, codes, decimal, sym, ap, ap₂, ◌∙◌, arith, append_assoc}
+use Rattle.std.proofs.Common.{◌≡◌, ℕ, ◌≤◌, List, [], ◌∷◌, ◌++◌, ℤ, codes, decimal, sym, ap, ap₂, ◌∙◌, arith}
 use Rattle.std.specs.Fmt.{signed_decimal}
 use Rattle.std.proofs.lemmas.Int.{ints}
 use Rattle.std.proofs.lemmas.List.{append_cancel_left}
@@ -10,12 +10,12 @@ use Rattle.fringe_search.specs.declared.peak.Point.{Point}
 use Rattle.fringe_search.specs.declared.places.SeriesAt.{SeriesAt}
 use Rattle.fringe_search.specs.Layout.{Series}
 use Rattle.fringe_search.specs.Sums.{re_at, im_at}
-use Rattle.fringe_search.specs.Peaks.{IsRate, IsPointOf}
+use Rattle.fringe_search.specs.Peaks.{IsPointOf}
 use Rattle.fringe_search.specs.Best.{IsPoint}
 use Rattle.fringe_search.specs.Numbers.{IsNumberThen, IsSignedThen}
 use Rattle.fringe_search.specs.Certificates.{GridLine, PeakLine, line_text, place_text, sums_text}
 use Rattle.fringe_search.specs.Written.{shown}
-use Rattle.fringe_search.specs.Taken.{IsGridOf, IsPointAt, HasPeakLine}
+use Rattle.fringe_search.specs.Taken.{IsGridOf, HasPeakLine}
 use Rattle.fringe_search.proofs.Strips.{behind_front}
 use Rattle.fringe_search.proofs.Texts.{grid_parts, peak_parts}
 use Rattle.fringe_search.proofs.Lines.{lag_fits, rate_fits}

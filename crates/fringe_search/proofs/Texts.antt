@@ -1,6 +1,5 @@
 -- The texts of lines, part by part, and numbers that end in one way.
 use Rattle.std.proofs.Common.{◌≡◌, ℕ, ◌<◌, ◌≤◌, ◌^◌, List, [], ◌∷◌, ◌++◌, ℤ, FitsSigned, codes, decimal, refl, sym, ap, subst, ◌∙◌, arith, append_assoc}
-use Rattle.std.specs.Prelude.{flat_map}
 use Rattle.std.specs.Fmt.{signed_decimal}
 use Rattle.std.specs.Int.{w32}
 use Rattle.std.proofs.lemmas.Fmt.{decimal_injective, signed_decimal_injective}

@@ -1,4 +1,4 @@
-use Rattle.std.proofs.Common.{◌≡◌, ℕ, ◌∙◌, ℤ, pos, ◌+ℤ◌, ◌-ℤ◌, unsigned_abs, w32, to_z, of_z, subst, refl, below_more, arith}
+use Rattle.std.proofs.Common.{◌≡◌, ◌∙◌, ℤ, pos, ◌+ℤ◌, ◌-ℤ◌, unsigned_abs, w32, to_z, of_z, subst, refl, below_more, arith}
 use Rattle.std.proofs.lemmas.Bool.{false≢true}
 use Rattle.std.proofs.lemmas.Int.{ints}
 use Rattle.fringe_search.specs.Sums.{power_at}
@@ -23,8 +23,7 @@ returns-then-not-leads c =
     let peak = c.args.peak.now in
     let other = c.point_at.result in
     let same : to_z w32 (of_z w32 c.rate_at.result) ≡ c.rate_at.result = omega (arith, ints, c.rate_at.ensures.rate.least, c.rate_at.ensures.rate.most) in
-    let at_rate = c.point_at.ensures.rate ∙ same in
-    (
+    let at_rate = c.point_at.ensures.rate ∙ same in (
       λ e. absurd (false≢true e),
       λ all. absurd (false≢true (c.if-not-leads.ensures.1
           (of_leads power peak.power other.power peak.lag c.args.lag other.lag peak.rate other.rate c.rate_at.result c.requires.peak.power c.point_at.ensures.point.power c.point_at.ensures.lag at_rate
@@ -33,8 +32,7 @@ returns-then-not-leads c =
 
 pub returns : goal.returns
 returns c =
-    let rates = c.args.grid.now.rates in
-    (
+    let rates = c.args.grid.now.rates in (
       λ _ rate q.
           let k = unsigned_abs (rate +ℤ pos rates) in
           let is : pos k -ℤ pos rates ≡ rate = omega (arith, ints, q.least, q.most) in

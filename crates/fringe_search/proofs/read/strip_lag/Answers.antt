@@ -1,6 +1,6 @@
-use Rattle.std.proofs.Common.{◌≡◌, ◌++◌, ◌∙◌, codes, w32, w64, to_z, of_z, arith}
+use Rattle.std.proofs.Common.{◌≡◌, ◌++◌, codes, w64, to_z, of_z, arith}
 use Rattle.std.specs.Fmt.{signed_decimal}
-use Rattle.std.proofs.lemmas.Int.{ints, to_z-of_z}
+use Rattle.std.proofs.lemmas.Int.{ints}
 use Rattle.fringe_search.specs.Certificates.{mark_text}
 use Rattle.fringe_search.proofs.Strips.{strips_more}
 use Rattle.fringe_search.proofs.read.strip_lag.Goals as goal

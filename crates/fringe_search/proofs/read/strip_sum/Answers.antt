@@ -1,5 +1,5 @@
 use Rattle.std.specs.Prelude.{MatchOption}
-use Rattle.std.proofs.Common.{◌≡◌, ◌≢◌, [], ◌∷◌, ◌++◌, ℕ, ℤ, List, ◌∙◌, FitsSigned, w64, to_z, of_z, subst, sym, append_assoc, rules}
+use Rattle.std.proofs.Common.{◌≡◌, ◌≢◌, [], ◌∷◌, ◌++◌, ℕ, List, ◌∙◌, FitsSigned, w64, subst, append_assoc, rules}
 use Rattle.std.specs.Fmt.{signed_decimal}
 use Rattle.std.proofs.lemmas.Int.{to_z-of_z}
 use Rattle.fringe_search.proofs.Strips.{strips_more, parted}

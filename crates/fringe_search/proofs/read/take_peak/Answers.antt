@@ -1,5 +1,5 @@
-use Rattle.std.proofs.Common.{◌≡◌, ◌≢◌, ◌≤◌, ◌++◌, ℕ, List, ℤ, ◌∙◌, FitsSigned, w32, w64, to_z, of_z, ap, ap₂, sym, subst, arith, append_assoc}
-use Rattle.std.proofs.lemmas.Int.{ints, to_z-of_z}
+use Rattle.std.proofs.Common.{◌≡◌, ◌++◌, ℤ, ◌∙◌, w32, to_z, of_z, ap, ap₂, sym, subst, arith, append_assoc}
+use Rattle.std.proofs.lemmas.Int.{to_z-of_z}
 use Rattle.corr_model.specs.Lags.{lag_of}
 use Rattle.fringe_search.specs.Peaks.{IsRate}
 use Rattle.fringe_search.specs.Certificates.{place_text, peak_text, sums_text}

@@ -1,11 +1,7 @@
-use Rattle.std.proofs.Common.{◌≡◌, ◌∙◌, ap, subst, ℕ, w32, to_z, of_z, arith}
+use Rattle.std.proofs.Common.{◌≡◌, ◌∙◌, ap, w32, to_z, of_z, arith}
 use Rattle.std.proofs.lemmas.Int.{ints}
 use Rattle.corr_model.specs.Lags.{lag_of}
-use Rattle.sink_text.specs.Written.{Puts}
 use Rattle.sink_text.proofs.WrittenText.{Puts-then, Puts-nothing}
-use Rattle.std.specs.List.{range_with_len}
-use Rattle.fringe_search.specs.Certificates.{lines_text}
-use Rattle.fringe_search.specs.Written.{lag_line}
 use Rattle.fringe_search.proofs.Putting.{lags_next}
 use Rattle.fringe_search.proofs.write.put_lags.Goals as goal
 

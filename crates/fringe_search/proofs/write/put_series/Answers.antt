@@ -1,10 +1,9 @@
-use Rattle.std.proofs.Common.{◌≡◌, ◌∙◌, ap, ap₂, sym, subst, refl, w32, to_z, of_z, arith}
+use Rattle.std.proofs.Common.{◌≡◌, ◌∙◌, ap, sym, subst, w32, to_z, of_z, arith}
 use Rattle.std.proofs.lemmas.Int.{ints}
 use Rattle.corr_model.specs.Lags.{lag_of}
-use Rattle.sink_text.proofs.WrittenText.{Puts-then}
 use Rattle.fringe_search.specs.Layout.{Series}
 use Rattle.fringe_search.specs.Peaks.{IsSmall}
-use Rattle.fringe_search.proofs.Putting.{best_peak, best_power, series_put}
+use Rattle.fringe_search.proofs.Putting.{series_put}
 use Rattle.fringe_search.proofs.write.put_series.Goals as goal
 
 pub best_of-peak-requires : goal.best_of-peak-requires

@@ -3,8 +3,6 @@ use Rattle.std.proofs.Common.{◌≡◌, ◌∙◌, ℕ, List, Ok, Err, sym, ap,
 use Rattle.corr_model.specs.Files.{Files}
 use Rattle.vis_records.specs.Content.{Content}
 use Rattle.fringe_search.specs.declared.grid.Grid.{Grid}
-use Rattle.fringe_search.specs.Taken.{IsGridOf}
-use Rattle.fringe_search.specs.Certificates.{Line}
 use Rattle.fringe_search.specs.Written.{IsCertificate}
 use Rattle.fringe_search.proofs.OneLemmas.{large-one, small-not_large, grid-same, certificate-one, wrong-one}
 use Rattle.run_notes.specs.declared.measure.Measure.TheVariants.{Certificate, Amplitude}

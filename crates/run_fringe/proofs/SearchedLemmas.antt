@@ -4,20 +4,19 @@ use Rattle.corr_model.specs.Files.{Files}
 use Rattle.dev_traits.specs.Told.{WhereTold}
 use Rattle.vis_records.specs.Content.{Content}
 use Rattle.fringe_search.specs.declared.grid.Grid.{Grid}
-use Rattle.fringe_search.specs.Taken.{IsGridOf}
 use Rattle.fringe_search.specs.Peaks.{AreSmall}
 use Rattle.fringe_search.specs.Certificates.{Line}
 use Rattle.fringe_search.specs.Written.{IsCertificate}
 use Rattle.run_notes.specs.declared.measure.Measure.TheVariants.{Certificate}
 use Rattle.run_notes.specs.declared.refusal.Refusal.{Refusal}
 use Rattle.run_notes.specs.declared.refusal.Refusal.TheVariants.{Memory, Words, Due as DueRefusal, Other, Read, Journal, Write}
-use Rattle.run_notes.specs.Refusals.{Outcomes, IsCause, MatchRead}
+use Rattle.run_notes.specs.Refusals.{IsCause, MatchRead}
 use Rattle.run_ready.specs.Steps.{Is, Then}
 use Rattle.run_ready.specs.Stage.{IsOfFiles}
 use Rattle.run_ready.specs.Outcome.{text_under}
 use Rattle.run_ready.proofs.StepLemmas.{Told-first, Told-next, Told-done}
 use Rattle.run_dump.specs.Shown.{RecordsOf}
-use Rattle.run_fringe.specs.Searched.{SmallOf, CertificateOf, FringeOf, CheckOf, VerifyOf, IsVerdict}
+use Rattle.run_fringe.specs.Searched.{SmallOf, FringeOf, CheckOf, VerifyOf, IsVerdict}
 
 -- a verdict speaks of files, and of no count of faults
 pub IsOfFiles-verdict : (r : Refusal) → IsVerdict r → IsOfFiles r

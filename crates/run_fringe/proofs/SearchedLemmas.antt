@@ -1,12 +1,13 @@
 -- What a search and a check of its certificate come to, by their steps.
-use Rattle.std.proofs.Common.{◌≡◌, ℕ, List, Option, Some, None, Ok, refl, inl, inr}
+use Rattle.std.proofs.Common.{◌≡◌, ℕ, List, Option, Some, None, Result, Ok, refl, inl, inr}
+use Rattle.std.specs.Result.{is_err}
 use Rattle.corr_model.specs.Files.{Files}
 use Rattle.dev_traits.specs.Told.{WhereTold}
 use Rattle.vis_records.specs.Content.{Content}
 use Rattle.fringe_search.specs.declared.grid.Grid.{Grid}
 use Rattle.fringe_search.specs.Peaks.{AreSmall}
 use Rattle.fringe_search.specs.Certificates.{Line}
-use Rattle.fringe_search.specs.Written.{IsCertificate}
+use Rattle.fringe_search.specs.Written.{IsCertificate, AppendsCertificate}
 use Rattle.run_notes.specs.declared.measure.Measure.TheVariants.{Certificate}
 use Rattle.run_notes.specs.declared.refusal.Refusal.{Refusal}
 use Rattle.run_notes.specs.declared.refusal.Refusal.TheVariants.{Memory, Words, Due as DueRefusal, Other, Read, Journal, Write}
@@ -16,6 +17,7 @@ use Rattle.run_ready.specs.Stage.{IsOfFiles}
 use Rattle.run_ready.specs.Outcome.{text_under}
 use Rattle.run_ready.proofs.StepLemmas.{Told-first, Told-next, Told-done}
 use Rattle.run_dump.specs.Shown.{RecordsOf}
+use Rattle.run_dump.proofs.ShownLemmas.{Appends-alike}
 use Rattle.run_fringe.specs.Searched.{SmallOf, FringeOf, CheckOf, VerifyOf, IsVerdict}
 
 -- a verdict speaks of files, and of no count of faults
@@ -62,6 +64,19 @@ pub done-fringe : (told : Option Files) (name : List ℕ) (g : Grid) (content : 
 done-fringe None name g content lines is small certificate = tt
 done-fringe (Some files) name g content lines is small certificate =
     (content, is, content, (refl, small), g, record { rates_is = refl; divide_is = refl }, certificate)
+
+-- an answer of another kind that is a fault where the first is one
+pub AppendsCertificate-alike : {T E F : Type 0} {content : Content} {g : Grid} {old new : Option (List ℕ)} {before now : ℕ} (r : Result T E)
+    (r' : Result T F)
+    → is_err r' ≡ is_err r
+    → AppendsCertificate content g old new before now r
+    → AppendsCertificate content g old new before now r'
+AppendsCertificate-alike r r' same a = record {
+  lines = a.lines;
+  is = a.is;
+  right = a.right;
+  appends = Appends-alike r r' same a.appends;
+}
 
 -- ---- a check
 

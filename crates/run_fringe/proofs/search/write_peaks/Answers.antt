@@ -1,9 +1,6 @@
-use Rattle.std.proofs.Common.{◌≡◌, refl}
-use Rattle.std.specs.Prelude.{⊤}
 use Rattle.std.proofs.lemmas.Result.{err_from_is_err_and}
-use Rattle.dev_traits.specs.Fault.{HasRisen}
 use Rattle.fringe_search.specs.Certificates.{lines_text}
-use Rattle.run_dump.proofs.ShownLemmas.{MatchWrite-files, IsOfFiles-output, Shows-refused, Shows-shown, nothing-shown, stage-shown, reads-shown, writes-shown}
+use Rattle.run_dump.proofs.ShownLemmas.{Shows-refused, Shows-shown}
 use Rattle.run_fringe.specs.Searched.{FringeOf}
 use Rattle.run_fringe.proofs.SearchedLemmas.{told-fringe, done-fringe}
 use Rattle.run_fringe.proofs.search.write_peaks.Goals as goal
@@ -17,29 +14,6 @@ returns-in_err-vis-clause-shows g c =
     c.in_err-vis.field-0.0 c.in_err-vis.ensures.stage
     (told-fringe told c.args.file.now c.args.rates c.args.divide c.in_err-vis.field-0.0 c.in_err-vis.ensures.stage c.in_err-vis.ensures.cause))
 
-pub returns-in_err-vis-clause-nothing : goal.returns-in_err-vis-clause-nothing
-returns-in_err-vis-clause-nothing g c =
-    let p = err_from_is_err_and c.from_residual.result c.from_residual.ensures.1 in
-    let told = g.S.Sink.told c.args.out.now in
-    rw (p.1, p.2) (MatchWrite-files c.in_err-vis.field-0.0 ⊤ (told ≡ told) c.in_err-vis.ensures.stage refl)
-
-pub returns-in_err-vis-clause-stage : goal.returns-in_err-vis-clause-stage
-returns-in_err-vis-clause-stage g c =
-    let p = err_from_is_err_and c.from_residual.result c.from_residual.ensures.1 in
-    rw (p.1, p.2) (IsOfFiles-output c.in_err-vis.field-0.0 c.in_err-vis.ensures.stage)
-
-pub returns-in_err-vis-clause-reads : goal.returns-in_err-vis-clause-reads
-returns-in_err-vis-clause-reads g c =
-    let p = err_from_is_err_and c.from_residual.result c.from_residual.ensures.1 in
-    rw (p.1, p.2) c.in_err-vis.ensures.counts
-
-pub returns-in_err-vis-clause-writes : goal.returns-in_err-vis-clause-writes
-returns-in_err-vis-clause-writes g c =
-    let p = err_from_is_err_and c.from_residual.result c.from_residual.ensures.1 in
-    let faults = g.S.Sink.faults c.args.out.now in
-    rw (p.1, p.2)
-    (MatchWrite-files c.in_err-vis.field-0.0 (HasRisen faults faults) (faults ≡ faults) c.in_err-vis.ensures.stage refl)
-
 pub returns-clause-shows : goal.returns-clause-shows
 returns-clause-shows g c =
     let told = g.F.Shelf.told c.args.shelf.now in
@@ -48,17 +22,3 @@ returns-clause-shows g c =
     (g.S.Sink.told c.args.out.now) (g.S.Sink.told c.certify.new.out) (g.S.Sink.faults c.args.out.now) (g.S.Sink.faults c.certify.new.out) c.certify.result
     (done-fringe told c.args.file.now c.grid.grid c.in_ok-vis.vis a.lines c.in_ok-vis.ensures.content c.in_ok-vis.ensures.small a.is)
     a.appends c.certify.ensures.fault
-
-pub returns-clause-nothing : goal.returns-clause-nothing
-returns-clause-nothing g c = nothing-shown c.certify.result (g.S.Sink.told c.certify.new.out ≡ g.S.Sink.told c.args.out.now) c.certify.ensures.fault
-
-pub returns-clause-stage : goal.returns-clause-stage
-returns-clause-stage g c = stage-shown c.certify.result c.certify.ensures.fault
-
-pub returns-clause-reads : goal.returns-clause-reads
-returns-clause-reads g c =
-    reads-shown (g.F.Shelf.faults c.args.shelf.now) (g.F.Shelf.faults c.load_small.new.shelf) c.certify.result c.in_ok-vis.ensures.counts c.certify.ensures.fault
-
-pub returns-clause-writes : goal.returns-clause-writes
-returns-clause-writes g c =
-    writes-shown (g.S.Sink.faults c.args.out.now) (g.S.Sink.faults c.certify.new.out) c.certify.result c.certify.ensures.appends.appends.counts c.certify.ensures.fault

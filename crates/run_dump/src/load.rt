@@ -27,13 +27,8 @@ pub fn load_records<F: Shelf>(alloc: Global, shelf: &mut F, name: &Name) -> Resu
     ensures stage { IfErr result IsOfFiles }
     ensures counts { CountsReads (F.faults shelf.old) (F.faults shelf.new) result }
 {
-    let text = load_text(
-        alloc,
-        shelf,
-        name,
-        Measure::Job(Quantity::Records),
-        MOST_RECORD_BYTES,
-    )?;
+    let records = Measure::Job(Quantity::Records);
+    let text = load_text(alloc, shelf, name, records, MOST_RECORD_BYTES)?;
     let vis = content_of(alloc, &text)?;
     Ok(vis)
 }

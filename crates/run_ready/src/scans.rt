@@ -92,13 +92,8 @@ pub fn load_schedule<F: Shelf>(
     ensures stage { IfErr result IsOfFiles }
     ensures counts { CountsReads (F.faults shelf.old) (F.faults shelf.new) result }
 {
-    let text = load_text(
-        alloc,
-        shelf,
-        name,
-        Measure::Job(Quantity::Schedule),
-        MOST_SCHEDULE_BYTES,
-    )?;
+    let measure = Measure::Job(Quantity::Schedule);
+    let text = load_text(alloc, shelf, name, measure, MOST_SCHEDULE_BYTES)?;
     let list = scans_of(alloc, &text)?;
     Ok(ScheduleRead { text, list })
 }
@@ -122,13 +117,8 @@ pub fn load_job<F: Shelf>(
     ensures stage { IfErr result IsOfFiles }
     ensures counts { CountsReads (F.faults shelf.old) (F.faults shelf.new) result }
 {
-    let text = load_text(
-        alloc,
-        shelf,
-        name,
-        Measure::Job(Quantity::Job),
-        MOST_JOB_BYTES,
-    )?;
+    let measure = Measure::Job(Quantity::Job);
+    let text = load_text(alloc, shelf, name, measure, MOST_JOB_BYTES)?;
     let job = job_of(alloc, &text, inline)?;
     Ok(JobRead { text, job })
 }

@@ -1,6 +1,7 @@
 use Rattle.std.specs.Prelude.{option_copied}
 use Rattle.std.proofs.Common.{◌≡◌, Ok, sym, subst, refl, true, false}
 use Rattle.dev_traits.specs.Told.{WhereTold}
+use Rattle.corr_model.specs.Files.{Files}
 use Rattle.job_plan.specs.declared.plan.Plan.{Plan}
 use Rattle.job_plan.specs.Output.{output}
 use Rattle.vis_records.specs.Dumped.{dump_text}
@@ -50,21 +51,21 @@ pub returns-in-Check-clause-does : goal.returns-in-Check-clause-does
 returns-in-Check-clause-does g c =
     let same : c.args.order.now ≡ Check c.in-Check.job.now (option_copied c.as_ref-in-Check.result) = cc in
     does-text g.D.Disk.seen g.D.Disk.moment g.D.Disk.may_leave (g.F.Shelf.told c.args.shelf.now) c.args.order.now _
-    (λ files. PlanOf files c.in-Check.job.now (option_copied c.as_ref-in-Check.result)) (λ files (plan : Plan). check_text plan files) same (λ files o p. p)
+    (λ (files : Files). PlanOf files c.in-Check.job.now (option_copied c.as_ref-in-Check.result)) (λ (files : Files) (plan : Plan). check_text plan files) same (λ files o p. p)
     c.args.journal.now (g.S.Sink.told c.args.out.now) (g.S.Sink.told c.check_job.new.out) c.check_job.result c.check_job.ensures.stage c.check_job.ensures.tells
 
 pub returns-in-Plain-clause-does : goal.returns-in-Plain-clause-does
 returns-in-Plain-clause-does g c =
     let same : c.args.order.now ≡ Plain c.in-Plain.job.now (option_copied c.as_ref-in-Plain.result) = cc in
     does-text g.D.Disk.seen g.D.Disk.moment g.D.Disk.may_leave (g.F.Shelf.told c.args.shelf.now) c.args.order.now _
-    (λ files. PlanOf files c.in-Plain.job.now (option_copied c.as_ref-in-Plain.result)) (λ files (plan : Plan). output plan files) same (λ files o p. p)
+    (λ (files : Files). PlanOf files c.in-Plain.job.now (option_copied c.as_ref-in-Plain.result)) (λ (files : Files) (plan : Plan). output plan files) same (λ files o p. p)
     c.args.journal.now (g.S.Sink.told c.args.out.now) (g.S.Sink.told c.plain_job.new.out) c.plain_job.result c.plain_job.ensures.stage c.plain_job.ensures.tells
 
 pub returns-in-Dump-clause-does : goal.returns-in-Dump-clause-does
 returns-in-Dump-clause-does g c =
     let told = g.F.Shelf.told c.args.shelf.now in
-    let outcomes = λ files. RecordsOf files c.in-Dump.file.now in
-    does-text g.D.Disk.seen g.D.Disk.moment g.D.Disk.may_leave told c.args.order.now _ outcomes (λ files. dump_text) c.in-Dump.is (λ files o p. p)
+    let outcomes = λ (files : Files). RecordsOf files c.in-Dump.file.now in
+    does-text g.D.Disk.seen g.D.Disk.moment g.D.Disk.may_leave told c.args.order.now _ outcomes (λ (files : Files). dump_text) c.in-Dump.is (λ files o p. p)
     c.args.journal.now (g.S.Sink.told c.args.out.now) (g.S.Sink.told c.show_records.new.out) c.show_records.result c.show_records.ensures.stage
     (where_then told _ _
     (λ files shows. shows-tells (outcomes files) dump_text (g.S.Sink.told c.args.out.now) (g.S.Sink.told c.show_records.new.out) c.show_records.result c.show_records.ensures.stage shows)
@@ -73,8 +74,8 @@ returns-in-Dump-clause-does g c =
 pub returns-in-Fringe-clause-does : goal.returns-in-Fringe-clause-does
 returns-in-Fringe-clause-does g c =
     let told = g.F.Shelf.told c.args.shelf.now in
-    let outcomes = λ files. FringeOf files c.in-Fringe.file.now c.in-Fringe.rates.now c.in-Fringe.divide.now in
-    does-text g.D.Disk.seen g.D.Disk.moment g.D.Disk.may_leave told c.args.order.now _ outcomes (λ files. lines_text) c.in-Fringe.is (λ files o p. p)
+    let outcomes = λ (files : Files). FringeOf files c.in-Fringe.file.now c.in-Fringe.rates.now c.in-Fringe.divide.now in
+    does-text g.D.Disk.seen g.D.Disk.moment g.D.Disk.may_leave told c.args.order.now _ outcomes (λ (files : Files). lines_text) c.in-Fringe.is (λ files o p. p)
     c.args.journal.now (g.S.Sink.told c.args.out.now) (g.S.Sink.told c.write_peaks.new.out) c.write_peaks.result c.write_peaks.ensures.stage
     (where_then told _ _
     (λ files shows. shows-tells (outcomes files) lines_text (g.S.Sink.told c.args.out.now) (g.S.Sink.told c.write_peaks.new.out) c.write_peaks.result c.write_peaks.ensures.stage shows)
@@ -83,8 +84,8 @@ returns-in-Fringe-clause-does g c =
 pub returns-in-Verify-clause-does : goal.returns-in-Verify-clause-does
 returns-in-Verify-clause-does g c =
     let told = g.F.Shelf.told c.args.shelf.now in
-    let outcomes = λ files. VerifyOf files c.in-Verify.file.now c.in-Verify.certificate.now in
-    does-text g.D.Disk.seen g.D.Disk.moment g.D.Disk.may_leave told c.args.order.now _ outcomes (λ files. right_text) c.in-Verify.is (λ files o p. p)
+    let outcomes = λ (files : Files). VerifyOf files c.in-Verify.file.now c.in-Verify.certificate.now in
+    does-text g.D.Disk.seen g.D.Disk.moment g.D.Disk.may_leave told c.args.order.now _ outcomes (λ (files : Files). right_text) c.in-Verify.is (λ files o p. p)
     c.args.journal.now (g.S.Sink.told c.args.out.now) (g.S.Sink.told c.verify_peaks.new.out) c.verify_peaks.result c.verify_peaks.ensures.stage
     (where_then told _ _
     (λ files shows. shows-tells (outcomes files) right_text (g.S.Sink.told c.args.out.now) (g.S.Sink.told c.verify_peaks.new.out) c.verify_peaks.result c.verify_peaks.ensures.stage shows)
@@ -93,7 +94,7 @@ returns-in-Verify-clause-does g c =
 pub returns-in-Gen-clause-does : goal.returns-in-Gen-clause-does
 returns-in-Gen-clause-does g c =
     does-text g.D.Disk.seen g.D.Disk.moment g.D.Disk.may_leave (g.F.Shelf.told c.args.shelf.now) c.args.order.now _
-    (λ files. SampleOf c.in-Gen.seed.now c.in-Gen.seconds.now) (λ files. sample_text c.in-Gen.seed.now c.in-Gen.seconds.now) c.in-Gen.is (λ files o p. p)
+    (λ (files : Files). SampleOf c.in-Gen.seed.now c.in-Gen.seconds.now) (λ (files : Files). sample_text c.in-Gen.seed.now c.in-Gen.seconds.now) c.in-Gen.is (λ files o p. p)
     c.args.journal.now (g.S.Sink.told c.args.out.now) (g.S.Sink.told c.total_sample.new.out) c.total_sample.result (of-files c.total_sample.result c.total_sample.ensures.stage)
     (where_always (g.F.Shelf.told c.args.shelf.now) _ (λ files. c.total_sample.ensures.tells))
 

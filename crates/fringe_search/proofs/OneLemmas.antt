@@ -1,6 +1,6 @@
 -- What there is one of: the first large amplitude of a record file, the peak of a series, the certificate of a grid, and a wrong
 -- text's first wrong line.
-use Rattle.std.proofs.Common.{◌≡◌, ◌∙◌, ℕ, ◌+◌, ◌^◌, ◌<◌, ◌≤◌, ℤ, ◌≤ℤ◌, List, [], ◌∷◌, ◌++◌, map, length, get_or, refl, sym, ap, ap₂, subst, inl, inr, arith}
+use Rattle.std.proofs.Common.{◌≡◌, ◌∙◌, ℕ, ◌<◌, ◌≤◌, List, [], ◌∷◌, ◌++◌, map, length, get_or, refl, sym, ap, ap₂, subst, inl, inr, arith}
 use Rattle.std.specs.Prelude.{flat_map}
 use Rattle.std.specs.List.{All, range_with_len}
 use Rattle.std.proofs.lemmas.Bool.{cases_lt}
@@ -39,16 +39,16 @@ large_of-one s a b p q = elim (cases_lt p.lag q.lag) [
 -- where a list is split at its first element that is no P, this is one
 split-one : {X : Type 0} (P : X → Type 0) (b c : List X) (x y : X) (d e : List X) → b ++ x ∷ d ≡ c ++ y ∷ e → All P b → All P c
     → ¬ P x → ¬ P y → x ≡ y
-split-one P [] [] x y d e is front back no other = cc
-split-one P [] (z ∷ c) x y d e is front back no other =
+split-one P [] [] x y d e is front back one other = cc
+split-one P [] (z ∷ c) x y d e is front back one other =
     let same : z ≡ x = cc in
-    absurd (no (subst P same (All-head P z c back)))
-split-one P (z ∷ b) [] x y d e is front back no other =
+    absurd (one (subst P same (All-head P z c back)))
+split-one P (z ∷ b) [] x y d e is front back one other =
     let same : z ≡ y = cc in
     absurd (other (subst P same (All-head P z b front)))
-split-one P (z ∷ b) (w ∷ c) x y d e is front back no other =
+split-one P (z ∷ b) (w ∷ c) x y d e is front back one other =
     let rest : b ++ x ∷ d ≡ c ++ y ∷ e = cc in
-    split-one P b c x y d e rest (All-tail P z b front) (All-tail P w c back) no other
+    split-one P b c x y d e rest (All-tail P z b front) (All-tail P w c back) one other
 
 pub large-one : (c : Content) (a b : ℕ) → IsFirstLarge c a → IsFirstLarge c b → a ≡ b
 large-one c a b p q =

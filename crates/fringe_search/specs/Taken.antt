@@ -1,6 +1,5 @@
 -- Lines that are taken from the front of a text.
-use Rattle.std.specs.Prelude.{◌≡◌, ℕ, ℤ, List, [], ◌∷◌, ◌++◌}
-use Rattle.std.specs.Fmt.{signed_decimal}
+use Rattle.std.specs.Prelude.{◌≡◌, ℕ, ℤ, List, ◌++◌}
 use Rattle.corr_model.specs.Lags.{lag_of}
 use Rattle.fringe_search.specs.declared.grid.Grid.{Grid}
 use Rattle.fringe_search.specs.declared.claim.Mark.{Mark}
@@ -16,15 +15,11 @@ pub record IsGridOf (rates divide : ℕ) (g : Grid) : Type 0 where
   pub rates_is : g.rates ≡ rates
   pub divide_is : g.divide ≡ divide
 
--- a point of the grid, at this lag and this rate
-pub record IsPointAt (s : Series) (g : Grid) (lag rate : ℤ) (p : Point) : Type 0 where
+-- a point of the grid, at this lag, by its number, and this rate
+pub record IsPointAt (s : Series) (g : Grid) (lag : ℕ) (rate : ℤ) (p : Point) : Type 0 where
   pub point : IsPoint s g p
-  pub lag_is : lag_of s.lags p.lag ≡ lag
+  pub lag_is : p.lag ≡ lag
   pub rate_is : p.rate ≡ rate
-
--- the numbers of a sum, at the end of a line
-abbrev pub sums_text : ℤ → ℤ → List ℕ
-sums_text re im = (signed_decimal re ++ 32 ∷ []) ++ (signed_decimal im ++ 10 ∷ [])
 
 -- a text begins with the true line of a peak, whose point this is, and goes on with `rest`
 pub record HasPeakLine (s : Series) (g : Grid) (at : SeriesAt) (text : List ℕ) (p : Point) (rest : List ℕ) : Type 0 where

@@ -1,5 +1,5 @@
 -- The certificate that is written.
-use Rattle.std.specs.Prelude.{◌≡◌, ℕ, ℤ, List, ◌∷◌, map, flat_map, Option, Result, nat_lt, if◌then◌else◌}
+use Rattle.std.specs.Prelude.{◌≡◌, ℕ, List, ◌∷◌, map, flat_map, Option, Result, nat_lt, if◌then◌else◌}
 use Rattle.std.specs.List.{All, range_with_len}
 use Rattle.corr_model.specs.Lags.{lag_of}
 use Rattle.vis_records.specs.Content.{Content}

@@ -1,12 +1,10 @@
 //! The lines of a certificate at the front of a text.
-ghost use Rattle.std.specs.Prelude.{◌≡◌, ◌≢◌, ◌++◌, ◌≤◌, ◌<◌, ◌∷◌, [], ℕ, ℤ, List, MatchOption};
-ghost use Rattle.std.specs.Fmt.{signed_decimal};
+ghost use Rattle.std.specs.Prelude.{◌≡◌, ◌≢◌, ◌++◌, ◌≤◌, ◌<◌, ℕ, List, MatchOption};
 ghost use Rattle.corr_model.specs.Lags.{lag_of};
 ghost use Rattle.fringe_search.specs.Peaks.{IsPointOf, IsRate, IsSmall};
 ghost use Rattle.fringe_search.specs.Best.{IsPoint};
-ghost use Rattle.fringe_search.specs.Certificates.{GridLine, PeakLine, LagLine, line_text, mark_text, IsTrueMark};
-ghost use Rattle.fringe_search.specs.Written.{shown};
-ghost use Rattle.fringe_search.specs.Taken.{IsGridOf, IsPointAt, HasPeakLine, HasLagLine, sums_text};
+ghost use Rattle.fringe_search.specs.Certificates.{GridLine, PeakLine, LagLine, line_text, sums_text, IsTrueMark};
+ghost use Rattle.fringe_search.specs.Taken.{IsGridOf, IsPointAt, HasPeakLine, HasLagLine};
 
 use crate::claim::{Mark, is_true_mark};
 use crate::grid::{Grid, Peak};
@@ -52,14 +50,14 @@ fn number_of(lags: u32, lag: i32) -> Option<u32>
     }
 }
 
-// The point of the grid at a lag and a rate.
-fn point_of(series: &CellSeries, grid: &Grid, lag: i32, rate: i32) -> Option<Point>
-    requires { IsSmall series.now }
-    ensures { MatchOption result ((p : Peak) (n : ℕ) → IsPointOf series.now grid.now p n → p.lag ≡ lag → p.rate ≢ rate) (IsPointAt series.now grid.now lag rate) }
+// The point at a lag, by its number, and a rate, where that is of the grid.
+fn point_of(series: &CellSeries, grid: &Grid, lag: u32, rate: i32) -> Option<Point>
+    requires lag { lag < series.now.lags }
+    requires small { IsSmall series.now }
+    ensures { MatchOption result (¬ IsRate grid.now.rates rate) (IsPointAt series.now grid.now lag rate) }
 {
-    let number = number_of(series.lags(), lag)?;
     if rate.unsigned_abs() <= grid.rates {
-        Some(point_at(series, grid, number, rate))
+        Some(point_at(series, grid, lag, rate))
     } else {
         None
     }
@@ -83,10 +81,12 @@ pub(crate) fn take_peak<'a>(
     requires { IsSmall series.now }
     ensures { MatchOption result ((p : Peak) (n : ℕ) (rest : List ℕ) → IsPointOf series.now grid.now p n → text.now ≢ line_text (PeakLine at p) ++ rest) (λ taken. HasPeakLine series.now grid.now at text.now taken.0 taken.1.now) }
 {
+    let lags = series.lags();
     let words = strip_place(text, at)?;
     let (lag, later) = take_signed(words, b' ')?;
     let (rate, sums) = take_signed(later, b' ')?;
-    let point = point_of(series, grid, lag, rate)?;
+    let number = number_of(lags, lag)?;
+    let point = point_of(series, grid, number, rate)?;
     let rest = strip_sum(sums, point.sum)?;
     Some((point, rest))
 }

@@ -3,7 +3,7 @@ ghost use Rattle.std.specs.Prelude.{◌≡◌, ◌<◌};
 ghost use Rattle.sink_text.specs.Written.{Puts};
 ghost use Rattle.fringe_search.specs.Layout.{IsSeriesAt};
 ghost use Rattle.fringe_search.specs.Peaks.{AreSmall, IsSmall};
-ghost use Rattle.fringe_search.specs.Certificates.{GridLine, PeakLine, LagLine, line_text, lines_text};
+ghost use Rattle.fringe_search.specs.Certificates.{GridLine, PeakLine, LagLine, line_text, lines_text, peak_text, place_text};
 ghost use Rattle.fringe_search.specs.Written.{due_mark, lag_lines, PutsSeries, PutsCertificate, AppendsCertificate};
 
 use crate::claim::Mark;
@@ -37,6 +37,14 @@ fn put_grid<S: Sink>(grid: &Grid, lines: &mut Stretch, out: &mut S)
 fn put_peak<S: Sink>(at: SeriesAt, lag: i32, peak: &Point, lines: &mut Stretch, out: &mut S)
     ensures { Puts (line_text (PeakLine at (record { lag = lag; rate = peak.now.rate; re = peak.now.sum.re; im = peak.now.sum.im }))) lines.old lines.new (S.told out.old) (S.told out.new) (S.faults out.old) (S.faults out.new) }
 {
+    put_place(at, lines, out);
+    put_point(lag, peak, lines, out);
+}
+
+// Puts the front of it: where the peak is looked for.
+fn put_place<S: Sink>(at: SeriesAt, lines: &mut Stretch, out: &mut S)
+    ensures { Puts (place_text at) lines.old lines.new (S.told out.old) (S.told out.new) (S.faults out.old) (S.faults out.new) }
+{
     lines.put_pieces(
         &[
             Piece::Text("peak "),
@@ -46,6 +54,17 @@ fn put_peak<S: Sink>(at: SeriesAt, lag: i32, peak: &Point, lines: &mut Stretch, 
             Piece::Text(" "),
             Piece::Number(u64::from(at.baseline)),
             Piece::Text(" "),
+        ],
+        out,
+    );
+}
+
+// Puts its end: the lag, the rate and the sum.
+fn put_point<S: Sink>(lag: i32, peak: &Point, lines: &mut Stretch, out: &mut S)
+    ensures { Puts (peak_text (record { lag = lag; rate = peak.now.rate; re = peak.now.sum.re; im = peak.now.sum.im })) lines.old lines.new (S.told out.old) (S.told out.new) (S.faults out.old) (S.faults out.new) }
+{
+    lines.put_pieces(
+        &[
             Piece::Signed(i64::from(lag)),
             Piece::Text(" "),
             Piece::Signed(i64::from(peak.rate)),
@@ -98,13 +117,7 @@ fn put_lags<S: Sink>(series: &CellSeries, top: u128, lines: &mut Stretch, out: &
 }
 
 // Searches for the peak of a scan, a product and a baseline, and puts its lines.
-fn put_series<S: Sink>(
-    vis: &Vis,
-    grid: &Grid,
-    at: SeriesAt,
-    lines: &mut Stretch,
-    out: &mut S,
-)
+fn put_series<S: Sink>(vis: &Vis, grid: &Grid, at: SeriesAt, lines: &mut Stretch, out: &mut S)
     requires at { IsSeriesAt vis.now.head at }
     requires small { AreSmall vis.now }
     ensures { PutsSeries vis.now grid.now at lines.old lines.new (S.told out.old) (S.told out.new) (S.faults out.old) (S.faults out.new) }

@@ -1,0 +1,2 @@
+pub mod SearchedLemmas
+pub mod LawLemmas

@@ -1,5 +1,5 @@
 -- What a search for fringes in the record file under a name comes to, and what the check of a certificate of it comes to.
-use Rattle.std.specs.Prelude.{◌≡◌, ⊤, ℕ, List, codes, Result, Ok, Err}
+use Rattle.std.specs.Prelude.{◌≡◌, ⊤, ℕ, List, codes, Ok, Err}
 use Rattle.corr_model.specs.Files.{Files}
 use Rattle.vis_records.specs.Content.{Content}
 use Rattle.fringe_search.specs.declared.grid.Grid.{Grid}

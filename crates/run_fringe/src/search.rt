@@ -44,7 +44,8 @@ pub fn write_peaks<F: Shelf, S: Sink>(
     ensures writes { CountsWrites (S.faults out.old) (S.faults out.new) result }
 {
     let vis = load_small(alloc, file, shelf)?;
-    certify(&vis, &Grid { rates, divide }, out)
+    let grid = Grid { rates, divide };
+    certify(&vis, &grid, out)
 }
 
 // The content of the record file under a name, where its amplitudes are within what is searched.

@@ -103,10 +103,10 @@ pub fn survey<F: Shelf>(
     requires job_text { IsUtf8 job.now }
     requires vex_text { IfSome vex (λ name. IsUtf8 name.now) }
     ensures same { F.told shelf.new ≡ F.told shelf.old }
-    ensures plan { IfOk result (λ s. WhereTold (F.told shelf.old) (λ files. SurveyOf files job.now (option_copied vex) (Ok s.plan))) }
+    ensures plan { IfOk result (λ s. WhereTold (F.told shelf.old) (λ files. SurveyOf files job.now (option_copied vex.entry) (Ok s.plan))) }
     ensures shelved { IfOk result (λ s. WhereTold (F.told shelf.old) (AreShelved s.files.items)) }
-    ensures identity { IfOk result (λ s. WhereTold (F.told shelf.old) (λ files. s.identity ≡ identity_under files job.now (option_copied vex) s.plan)) }
-    ensures cause { IfErr result (λ r. WhereTold (F.told shelf.old) (λ files. IsCause r (SurveyOf files job.now (option_copied vex)))) }
+    ensures identity { IfOk result (λ s. WhereTold (F.told shelf.old) (λ files. s.identity ≡ identity_under files job.now (option_copied vex.entry) s.plan)) }
+    ensures cause { IfErr result (λ r. WhereTold (F.told shelf.old) (λ files. IsCause r (SurveyOf files job.now (option_copied vex.entry)))) }
     ensures stage { IfErr result IsOfFiles }
     ensures counts { CountsReads (F.faults shelf.old) (F.faults shelf.new) result }
 {

@@ -58,10 +58,10 @@ pub fn prepare<F: Shelf>(
     requires job_text { IsUtf8 job.now }
     requires vex_text { IfSome vex (λ name. IsUtf8 name.now) }
     ensures same { F.told shelf.new ≡ F.told shelf.old }
-    ensures plan { IfOk result (λ ready. WhereTold (F.told shelf.old) (λ files. PlanOf files job.now (option_copied vex) (Ok ready.plan))) }
+    ensures plan { IfOk result (λ ready. WhereTold (F.told shelf.old) (λ files. PlanOf files job.now (option_copied vex.entry) (Ok ready.plan))) }
     ensures recorded { IfOk result (λ ready. WhereTold (F.told shelf.old) (λ files. AreRecorded files ready.plan.stations ready.recordings.items)) }
-    ensures identity { IfOk result (λ ready. WhereTold (F.told shelf.old) (λ files. ready.identity ≡ identity_under files job.now (option_copied vex) ready.plan)) }
-    ensures cause { IfErr result (λ r. WhereTold (F.told shelf.old) (λ files. IsCause r (PlanOf files job.now (option_copied vex)))) }
+    ensures identity { IfOk result (λ ready. WhereTold (F.told shelf.old) (λ files. ready.identity ≡ identity_under files job.now (option_copied vex.entry) ready.plan)) }
+    ensures cause { IfErr result (λ r. WhereTold (F.told shelf.old) (λ files. IsCause r (PlanOf files job.now (option_copied vex.entry)))) }
     ensures stage { IfErr result IsOfFiles }
     ensures counts { CountsReads (F.faults shelf.old) (F.faults shelf.new) result }
 {

@@ -35,9 +35,9 @@ pub fn correlate_job<R: Threads + Sync, F: Shelf + Send, D: Disk + Send, S: Sink
     requires vex_text { IfSome vex (λ name. IsUtf8 name.now) }
     requires work { IsWork workers piece }
     ensures same { F.told shelf.new ≡ F.told shelf.old }
-    ensures does { WhereTold (F.told shelf.old) (λ files. Does (Ok (Run job.now (option_copied vex) workers piece)) files D.seen D.moment D.may_leave journal.old journal.new (S.told out.old) (S.told out.new) result) }
-    ensures planned { OnOk result (WhereTold (F.told shelf.old) (λ files. IsPlanned (PlanOf files job.now (option_copied vex)))) }
-    ensures leaves { Leaves (Ok (Run job.now (option_copied vex) workers piece)) D.seen D.moment D.may_leave journal.old journal.new (S.told out.old) (S.told out.new) result }
+    ensures does { WhereTold (F.told shelf.old) (λ files. Does (Ok (Run job.now (option_copied vex.entry) workers piece)) files D.seen D.moment D.may_leave journal.old journal.new (S.told out.old) (S.told out.new) result) }
+    ensures planned { OnOk result (WhereTold (F.told shelf.old) (λ files. IsPlanned (PlanOf files job.now (option_copied vex.entry)))) }
+    ensures leaves { Leaves (Ok (Run job.now (option_copied vex.entry) workers piece)) D.seen D.moment D.may_leave journal.old journal.new (S.told out.old) (S.told out.new) result }
     ensures stage { IfErr result IsBehindWords }
     ensures reads { CountsReadsBeside (F.faults shelf.old) (F.faults shelf.new) result }
     ensures journal { CountsJournal (D.faults journal.old) (D.faults journal.new) result }

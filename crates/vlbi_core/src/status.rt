@@ -31,8 +31,8 @@ pub fn journal_status<F: Shelf, D: Disk, S: Sink>(
     requires job_text { IsUtf8 job.now }
     requires vex_text { IfSome vex (λ name. IsUtf8 name.now) }
     ensures same { F.told shelf.new ≡ F.told shelf.old }
-    ensures does { WhereTold (F.told shelf.old) (λ files. Does (Ok (Status job.now (option_copied vex))) files D.seen D.moment D.may_leave journal.old journal.new (S.told out.old) (S.told out.new) result) }
-    ensures leaves { Leaves (Ok (Status job.now (option_copied vex))) D.seen D.moment D.may_leave journal.old journal.new (S.told out.old) (S.told out.new) result }
+    ensures does { WhereTold (F.told shelf.old) (λ files. Does (Ok (Status job.now (option_copied vex.entry))) files D.seen D.moment D.may_leave journal.old journal.new (S.told out.old) (S.told out.new) result) }
+    ensures leaves { Leaves (Ok (Status job.now (option_copied vex.entry))) D.seen D.moment D.may_leave journal.old journal.new (S.told out.old) (S.told out.new) result }
     ensures stage { IfErr result IsBehindWords }
     ensures unnumbered { IfErr result IsUnnumbered }
     ensures reads { CountsReads (F.faults shelf.old) (F.faults shelf.new) result }

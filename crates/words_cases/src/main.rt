@@ -64,7 +64,10 @@ fn print_order(rt: &impl Print, order: &Order) -> Result<()> {
             file,
             rates,
             divide,
-        } => println!(rt; "fringe file \"{}\" rates {rates} divide {divide}", text_of(file)?)?,
+        } => println!(rt;
+            "fringe file \"{}\" rates {rates} divide {divide}",
+            text_of(file)?
+        )?,
         Order::Verify { file, certificate } => {
             let (file, certificate) = (text_of(file)?, text_of(certificate)?);
             println!(rt; "verify file \"{file}\" certificate \"{certificate}\"")?;

@@ -6,8 +6,7 @@ ghost use Rattle.std.specs.Int.{w32};
 ghost use Rattle.fringe_search.specs.Numbers.{IsNumberThen, IsSignedThen};
 
 use crate::strip::{strip_number, strip_signed};
-use std::slice;
-use std::str;
+use std::{slice, str};
 
 // The place of the first byte that ends a word, or the text's length.
 fn word_len(text: &[u8], stop: u8) -> usize

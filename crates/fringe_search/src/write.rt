@@ -98,13 +98,7 @@ fn put_lags<S: Sink>(series: &CellSeries, top: u128, lines: &mut Stretch, out: &
 }
 
 // Searches for the peak of a scan, a product and a baseline, and puts its lines.
-fn put_series<S: Sink>(
-    vis: &Vis,
-    grid: &Grid,
-    at: SeriesAt,
-    lines: &mut Stretch,
-    out: &mut S,
-)
+fn put_series<S: Sink>(vis: &Vis, grid: &Grid, at: SeriesAt, lines: &mut Stretch, out: &mut S)
     requires at { IsSeriesAt vis.now.head at }
     requires small { AreSmall vis.now }
     ensures { PutsSeries vis.now grid.now at lines.old lines.new (S.told out.old) (S.told out.new) (S.faults out.old) (S.faults out.new) }

@@ -63,7 +63,13 @@ fn load_certified<F: Shelf>(
     ensures counts { CountsReads (F.faults shelf.old) (F.faults shelf.new) result }
 {
     let vis = load_records(alloc, shelf, file)?;
-    let text = load_text(alloc, shelf, certificate, Measure::Certificate, MOST_CERTIFICATE_BYTES)?;
+    let text = load_text(
+        alloc,
+        shelf,
+        certificate,
+        Measure::Certificate,
+        MOST_CERTIFICATE_BYTES,
+    )?;
     check(&vis, &text)?;
     Ok(vis)
 }

@@ -1,10 +1,8 @@
 -- The series that are passed, and those that are left.
 use Rattle.std.specs.Prelude.{MatchOption}
-use Rattle.std.proofs.Common.{◌≡◌, ℕ, ◌+◌, List, [], ◌∷◌, ◌++◌, Option, None, Some, length, get_or, sym, ap, subst, ◌∙◌, arith, append_assoc, append-nil, length-append, inl, inr}
+use Rattle.std.proofs.Common.{◌≡◌, ℕ, ◌+◌, List, [], ◌∷◌, ◌++◌, Option, None, Some, sym, ap, subst, ◌∙◌, append_assoc, append-nil}
 use Rattle.std.specs.List.{All}
-use Rattle.std.proofs.Math.Seq.{get_or-append_seam}
-use Rattle.std.proofs.lemmas.Bool.{cases_lt}
-use Rattle.std.proofs.lemmas.List.{get_or_append_left}
+use Rattle.std.proofs.lemmas.List.Elements.{All-push}
 use Rattle.corr_model.specs.Records.{Head}
 use Rattle.vis_records.specs.Content.{Content}
 use Rattle.fringe_search.specs.declared.places.SeriesAt.{SeriesAt}
@@ -20,15 +18,6 @@ pub record IsPassed (c : Content) (next : Option SeriesAt) : Type 0 where
   pub within : MatchOption next (Unit {0}) (IsSeriesAt c.head)
   pub small : All (λ (at : SeriesAt). IsSmall (series_of c at)) before
 
-All-one_more : {X : Type 0} (P : X → Type 0) (xs : List X) (x : X) → All P xs → P x → All P (xs ++ x ∷ [])
-All-one_more P xs x all one = λ k d h.
-    elim (cases_lt k (length xs)) [
-      | inl less ↦ subst P (sym (get_or_append_left xs (x ∷ []) d k less)) (all k d less)
-      | inr past ↦
-          (let last : k ≡ length xs = omega (arith, h, past, length-append xs (x ∷ [])) in
-          subst (λ (n : ℕ). P (get_or (xs ++ x ∷ []) n d)) (sym last) (subst P (sym (get_or-append_seam xs x [] d)) one))
-    ]
-
 pub one_passed : (c : Content) (h : Head) (at : SeriesAt) (next : Option SeriesAt) (s : Series) → h ≡ c.head → IsPassed c (Some at)
     → s ≡ series_of c at → IsSmall s → series_from h at ≡ at ∷ series_next h next → MatchOption next (Unit {0}) (IsSeriesAt h) → IsPassed c next
 one_passed c h at next s same p is small rest within = record {
@@ -37,7 +26,7 @@ one_passed c h at next s same p is small rest within = record {
       p.is ∙ ap (λ t. p.before ++ t) (subst (λ (x : Head). series_from x at ≡ at ∷ series_next x next) same rest)
       ∙ sym (append_assoc p.before (at ∷ []) (series_next c.head next));
   within = subst (λ (x : Head). MatchOption next (Unit {0}) (IsSeriesAt x)) same within;
-  small = All-one_more (λ (at : SeriesAt). IsSmall (series_of c at)) p.before at p.small (subst (λ (x : Series). IsSmall x) is small);
+  small = All-push (λ (at : SeriesAt). IsSmall (series_of c at)) p.before at p.small (subst (λ (x : Series). IsSmall x) is small);
 }
 
 pub all_passed : (c : Content) → IsPassed c None → AreSmall c

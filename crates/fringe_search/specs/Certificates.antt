@@ -27,8 +27,12 @@ mark_text Gridded = codes " grid\n"
 abbrev pub place_text : SeriesAt → List ℕ
 place_text at = codes "peak " ++ (decimal at.scan ++ 32 ∷ (decimal at.product ++ 32 ∷ (decimal at.baseline ++ 32 ∷ [])))
 
+-- its end: the sum
+abbrev pub sums_text : ℤ → ℤ → List ℕ
+sums_text re im = signed_decimal re ++ 32 ∷ (signed_decimal im ++ 10 ∷ [])
+
 abbrev pub peak_text : Peak → List ℕ
-peak_text p = signed_decimal p.lag ++ 32 ∷ (signed_decimal p.rate ++ 32 ∷ (signed_decimal p.re ++ 32 ∷ (signed_decimal p.im ++ 10 ∷ [])))
+peak_text p = signed_decimal p.lag ++ 32 ∷ (signed_decimal p.rate ++ 32 ∷ sums_text p.re p.im)
 
 abbrev pub line_text : Line → List ℕ
 line_text (GridLine g) = codes "grid " ++ (decimal g.rates ++ 32 ∷ (decimal g.divide ++ 10 ∷ []))

@@ -1,7 +1,8 @@
 -- The first wrong line of a text.
-use Rattle.std.specs.Prelude.{◌≡◌, ◌≢◌, ℕ, ◌≤◌, List, ◌++◌, length}
+use Rattle.std.specs.Prelude.{◌≡◌, ◌≢◌, ℕ, ◌≤◌, List, [], ◌++◌, length}
 use Rattle.vis_records.specs.Content.{Content}
-use Rattle.fringe_search.specs.Certificates.{Line, Due, AtGrid, line_text, lines_text, IsLine, AreLines, IsRight}
+use Rattle.fringe_search.specs.declared.grid.Grid.{Grid}
+use Rattle.fringe_search.specs.Certificates.{Line, Due, AtGrid, AtPeak, line_text, lines_text, IsLine, AreLines, IsRight}
 
 -- a text begins with lines that are the due ones and true, and goes on with `rest`, where `next` is due
 pub record IsRead (content : Content) (due : Due) (text : List ℕ) (next : Due) (rest : List ℕ) : Type 0 where
@@ -27,8 +28,10 @@ pub record IsWrongAt (content : Content) (text : List ℕ) (at : ℕ) : Type 0 w
   pub longest : (more : ℕ) → IsFront content text more → more ≤ at
   pub wrong : ¬ IsRight content text
 
--- a text begins with such lines, and goes on with `rest`, which begins with no line that is the due one and true
+-- a text begins with such lines, and goes on with `rest`, which begins with no line that is the due one and true; where none is due,
+-- it is not empty
 pub record IsStopped (content : Content) (due : Due) (text rest : List ℕ) : Type 0 where
   pub next : Due
   pub read : IsRead content due text next rest
   pub stuck : IsStuck content next rest
+  pub goes_on : (g : Grid) → next ≡ AtPeak g [] → rest ≢ []

@@ -53,10 +53,10 @@ pub fn check_certificate(vis: &Vis, text: &[u8]) -> Result<(), Wrong>
     ensures right { IsOk result ↔ IsRight vis.now text.now }
     ensures wrong { IfErr result (λ w. IsWrongAt vis.now text.now w.at) }
 {
+    let head = vis.head();
     let Some((grid, behind)) = take_grid(text) else {
         return Err(Wrong { at: 0 });
     };
-    let head = vis.head();
     let mut rest = behind;
     let mut next = first(head);
     while let Some(at) = next {

@@ -77,13 +77,7 @@ fn read_grid(words: &str) -> Result<Grid> {
 }
 
 // What the check answers to a text.
-fn print_check(
-    rt: &impl Print,
-    alloc: Global,
-    line: &str,
-    file: &[u8],
-    text: &[u8],
-) -> Result<()> {
+fn print_check(rt: &impl Print, alloc: Global, line: &str, file: &[u8], text: &[u8]) -> Result<()> {
     let vis = read_all(alloc, file)?;
     let None = amplitude(&vis) else {
         bail!("an amplitude is too large");

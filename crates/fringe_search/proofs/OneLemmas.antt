@@ -31,9 +31,9 @@ large_of-one : (s : Series) (a b : ℕ) → IsFirstLargeOf s a → IsFirstLargeO
 large_of-one s a b p q = elim (cases_lt p.lag q.lag) [
   | inl less ↦ absurd (omega (arith, p.is, p.large, q.before p.lag less))
   | inr past ↦ elim (cases_lt q.lag p.lag) [
-      | inl less ↦ absurd (omega (arith, q.is, q.large, p.before q.lag less))
-      | inr back ↦ (let same : p.lag ≡ q.lag = omega arith in p.is ∙ ap (λ l. amplitude_at s l) same ∙ sym q.is)
-    ]
+    | inl less ↦ absurd (omega (arith, q.is, q.large, p.before q.lag less))
+    | inr back ↦ (let same : p.lag ≡ q.lag = omega arith in p.is ∙ ap (λ l. amplitude_at s l) same ∙ sym q.is)
+  ]
 ]
 
 -- where a list is split at its first element that is no P, this is one

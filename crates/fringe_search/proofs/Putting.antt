@@ -35,11 +35,11 @@ lags_next s top n lag mark l m =
     ∙ ap (λ t. lines_text before ++ t) (append-nil (line_text (lag_line s top n)) ∙ sym (ap₂ (λ (x : ℤ) (y : Mark). line_text (LagLine x y)) l m))
 
 -- the best point is the peak
-pub best_peak : (s : Series) (g : Grid) (p : Point) → IsBest s g s.lags 0 p → IsPeak s g (shown s.lags p)
+pub best_peak : (s : Series) (g : Grid) (p : Point) → IsBest s g s.lags 0 p → IsPeak s g (shown (lag_of s.lags p.lag) p)
 best_peak s g p b = record { number = p.lag; point = shown_point s g p b.point; leads = λ lag rate within q. b.ahead.earlier lag rate within q }
 
-pub best_power : (s : Series) (g : Grid) (p : Point) → IsBest s g s.lags 0 p → p.power ≡ power_of (shown s.lags p).re (shown s.lags p).im
-best_power s g p b = b.point.power ∙ sym (peak_power s g (shown s.lags p) p.lag (shown_point s g p b.point))
+pub best_power : (s : Series) (g : Grid) (p : Point) → IsBest s g s.lags 0 p → p.power ≡ power_of (shown (lag_of s.lags p.lag) p).re (shown (lag_of s.lags p.lag) p).im
+best_power s g p b = b.point.power ∙ sym (peak_power s g (shown (lag_of s.lags p.lag) p) p.lag (shown_point s g p b.point))
 
 -- The grid's line and the lines of the series before the next one are put.
 pub record IsPut (c : Content) (g : Grid) (next : Option SeriesAt) (old new : StretchState) (told_old told_new : Option (List ℕ))
@@ -101,9 +101,9 @@ pub series_put : (c : Content) (g : Grid) (at : SeriesAt) (s : Series) (p : Poin
 series_put c g at s p lag {s₀ = s₀} {s₂ = s₂} {t₀ = t₀} {t₂ = t₂} {f₀ = f₀} {f₂ = f₂} same best lag_is peak lags =
     let line = ap (λ (z : ℤ). line_text (PeakLine at (record { lag = z; rate = p.rate; re = p.sum.re; im = p.sum.im }))) (sym lag_is) in
     let later = ap (λ (n : ℕ). lines_text (lag_lines s n)) (sym (best_power s g p best)) in
-    let all : Puts (lines_text (series_lines s at (shown s.lags p))) s₀ s₂ t₀ t₂ f₀ f₂ = Puts-then (ap₂ (λ (x y : List ℕ). x ++ y) line later) peak lags in
+    let all : Puts (lines_text (series_lines s at (shown (lag_of s.lags p.lag) p))) s₀ s₂ t₀ t₂ f₀ f₂ = Puts-then (ap₂ (λ (x y : List ℕ). x ++ y) line later) peak lags in
     record {
-      peak = shown s.lags p;
-      is = subst (λ (x : Series). IsPeak x g (shown s.lags p)) same (best_peak s g p best);
-      puts = subst (λ (x : Series). Puts (lines_text (series_lines x at (shown s.lags p))) s₀ s₂ t₀ t₂ f₀ f₂) same all;
+      peak = shown (lag_of s.lags p.lag) p;
+      is = subst (λ (x : Series). IsPeak x g (shown (lag_of s.lags p.lag) p)) same (best_peak s g p best);
+      puts = subst (λ (x : Series). Puts (lines_text (series_lines x at (shown (lag_of s.lags p.lag) p))) s₀ s₂ t₀ t₂ f₀ f₂) same all;
     }

@@ -32,7 +32,7 @@ pub peak_due : (lags : ℕ) (k : Claim) (lag : ℕ) (left : List SeriesAt) → l
 peak_due lags k lag left h = cond-false (ltb lag lags) (AtLag k lag left) (AtPeak k.grid left) (le-ltb lag lags h)
 
 -- a point as its line shows it
-pub shown_point : (s : Series) (g : Grid) (p : Point) → IsPoint s g p → IsPointOf s g (shown s.lags p) p.lag
+pub shown_point : (s : Series) (g : Grid) (p : Point) → IsPoint s g p → IsPointOf s g (shown (lag_of s.lags p.lag) p) p.lag
 shown_point s g p h = record { within = h.lag; lag = refl; rate = h.rate; re = h.re; im = h.im }
 
 abbrev pub claim_of : Grid → SeriesAt → Point → Claim
@@ -43,7 +43,7 @@ pub read_peak : (c : Content) (g : Grid) (at : SeriesAt) (left : List SeriesAt) 
     → HasPeakLine s g at text p rest → IsRead c (AtPeak g (at ∷ left)) text (from_lag c.head.lags (claim_of g at p) 0 left) rest
 read_peak c g at left s p text rest same h =
     let here = subst (λ (x : Series). HasPeakLine x g at text p rest) same h in
-    read_line c (AtPeak g (at ∷ left)) (from_lag c.head.lags (claim_of g at p) 0 left) (PeakLine at (shown (series_of c at).lags p)) text rest
+    read_line c (AtPeak g (at ∷ left)) (from_lag c.head.lags (claim_of g at p) 0 left) (PeakLine at (shown (lag_of (series_of c at).lags p.lag) p)) text rest
     (record { at_is = refl; number = p.lag; point = shown_point (series_of c at) g p here.point; next_is = refl }) here.is
 
 pub no_peak : (c : Content) (g : Grid) (at : SeriesAt) (left : List SeriesAt) (s : Series) (text : List ℕ) → s ≡ series_of c at

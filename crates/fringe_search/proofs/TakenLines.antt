@@ -82,7 +82,7 @@ pub peak_made : (s : Series) (g : Grid) (at : SeriesAt) (q : Point) (y z : ℤ) 
     → IsSignedThen y 32 words later → IsSignedThen z 32 later sums → IsPoint s g q → y ≡ lag_of s.lags q.lag → q.rate ≡ z
     → sums ≡ sums_text q.sum.re q.sum.im ++ rest → HasPeakLine s g at text q rest
 peak_made s g at q y z text words later sums rest is a b point l r e =
-    let p = shown s.lags q in
+    let p = shown (lag_of s.lags q.lag) q in
     let inner : later ≡ signed_decimal q.rate ++ 32 ∷ (sums_text q.sum.re q.sum.im ++ rest) = b.is ∙ ap₂ (λ k t. signed_decimal k ++ 32 ∷ t) (sym r) e in
     let outer : words ≡ signed_decimal p.lag ++ 32 ∷ (signed_decimal p.rate ++ 32 ∷ (sums_text p.re p.im ++ rest)) =
     a.is ∙ ap₂ (λ k t. signed_decimal k ++ 32 ∷ t) l inner in

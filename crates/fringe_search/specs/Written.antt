@@ -1,5 +1,5 @@
 -- The certificate that is written.
-use Rattle.std.specs.Prelude.{◌≡◌, ℕ, List, ◌∷◌, map, flat_map, Option, Result, nat_lt, if◌then◌else◌}
+use Rattle.std.specs.Prelude.{◌≡◌, ℕ, ℤ, List, ◌∷◌, map, flat_map, Option, Result, nat_lt, if◌then◌else◌}
 use Rattle.std.specs.List.{All, range_with_len}
 use Rattle.corr_model.specs.Lags.{lag_of}
 use Rattle.vis_records.specs.Content.{Content}
@@ -46,9 +46,9 @@ pub record IsCertificate (content : Content) (g : Grid) (lines : List Line) : Ty
   pub peaks : All (λ (f : Found). IsPeak (series_of content f.at) g f.peak) found
   pub is : lines ≡ GridLine g ∷ found_lines content found
 
--- a point of a series as a peak's line shows it
-abbrev pub shown : ℕ → Point → Peak
-shown lags p = record { lag = lag_of lags p.lag; rate = p.rate; re = p.sum.re; im = p.sum.im }
+-- a point at a lag as a peak's line shows it
+abbrev pub shown : ℤ → Point → Peak
+shown lag p = record { lag = lag; rate = p.rate; re = p.sum.re; im = p.sum.im }
 
 -- the lines of a scan, a product and a baseline are put
 pub record PutsSeries (content : Content) (g : Grid) (at : SeriesAt) (old new : StretchState) (told_old told_new : Option (List ℕ))

@@ -1,10 +1,11 @@
 //! The search for a fringe in a record file: the lag and the rate of a grid at which the cells of a scan, a product and a
-//! baseline add up to the greatest power; and the certificate of all peaks, which shows of each lag why it has no better point.
-//! It stands on `vis_records` for the cells, on `sink_text` for lines on their way to a sink, and on `itoa` for decimal digits.
+//! baseline add up to the greatest power; and certificates of all peaks, which say of each lag why it has no better point. It
+//! stands on `vis_records` for the cells, on `sink_text` for lines on their way to a sink, and on `itoa` for decimal digits.
 //!
 //! A rate turns the cells of a lag back by sixteenths of a turn, integration by integration, before they are added
 //! (`specs/Sums.antt`); the peak is the point of greatest power, among equals that at the least lag, then at the least
-//! rate (`specs/Peaks.antt`). A right certificate names the peaks (`specs/Certificates.antt`, `laws`). Which cells these are, `specs/Layout.antt` says and a law ties to the records. No call takes memory.
+//! rate (`specs/Peaks.antt`). A right certificate names the peaks (`specs/Certificates.antt`, `laws`). Which cells these are,
+//! `specs/Layout.antt` says and a law ties to the records. No call takes memory.
 #![tactic(auto)]
 
 mod check;

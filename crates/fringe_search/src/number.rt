@@ -3,7 +3,7 @@ ghost use Rattle.std.specs.Prelude.{◌≡◌, ◌≤◌, ◌<◌, ◌^◌, ◌=
 ghost use Rattle.std.specs.List.{position_or_len, before_first};
 ghost use Rattle.std.specs.Fmt.{signed_decimal};
 ghost use Rattle.std.specs.Int.{w32};
-ghost use Rattle.fringe_search.specs.Numbers.{IsNumberThen, IsSignedThen};
+ghost use Rattle.fringe_search.specs.Numbers.{IsNumberThen, IsSignedThen, HasNoNumber, HasNoSigned};
 
 use crate::strip::{strip_number, strip_signed};
 use std::{slice, str};
@@ -58,7 +58,7 @@ fn number_of(text: &[u8], stop: u8) -> u32
 // A number of the text, without a leading zero, and the text behind the byte that ends it.
 pub(crate) fn take_number<'a>(text: &'a [u8], stop: u8) -> Option<(u32, &'a [u8])>
     requires { stop < 48 }
-    ensures taken { MatchOption result ((n : ℕ) (behind : List ℕ) → ¬ IsNumberThen n stop text.now behind) (λ taken. IsNumberThen taken.0 stop text.now taken.1.now) }
+    ensures taken { MatchOption result (HasNoNumber stop text.now) (λ taken. IsNumberThen taken.0 stop text.now taken.1.now) }
     ensures one { MatchOption result (Unit {0}) (λ taken. (n : ℕ) (behind : List ℕ) → IsNumberThen n stop text.now behind → n ≡ taken.0) }
 {
     let n = number_of(text, stop);
@@ -98,7 +98,7 @@ fn signed_of(text: &[u8], stop: u8) -> i32
 // The same as `take_number`, of a number that may be below zero.
 pub(crate) fn take_signed<'a>(text: &'a [u8], stop: u8) -> Option<(i32, &'a [u8])>
     requires { stop < 45 }
-    ensures taken { MatchOption result ((z : ℤ) (behind : List ℕ) → ¬ IsSignedThen z stop text.now behind) (λ taken. IsSignedThen taken.0 stop text.now taken.1.now) }
+    ensures taken { MatchOption result (HasNoSigned stop text.now) (λ taken. IsSignedThen taken.0 stop text.now taken.1.now) }
     ensures one { MatchOption result (Unit {0}) (λ taken. (z : ℤ) (behind : List ℕ) → IsSignedThen z stop text.now behind → z ≡ taken.0) }
 {
     let z = signed_of(text, stop);

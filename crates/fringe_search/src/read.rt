@@ -1,13 +1,13 @@
 //! The lines of a certificate at the front of a text.
-ghost use Rattle.std.specs.Prelude.{◌≡◌, ◌≢◌, ◌++◌, ◌≤◌, ◌<◌, ℕ, List, MatchOption};
+ghost use Rattle.std.specs.Prelude.{◌≡◌, ◌≢◌, ◌++◌, ◌≤◌, ◌<◌, ℕ, MatchOption};
 ghost use Rattle.corr_model.specs.Lags.{lag_of};
-ghost use Rattle.fringe_search.specs.Peaks.{IsPointOf, IsRate, IsSmall};
+ghost use Rattle.fringe_search.specs.Peaks.{IsRate, IsSmall};
 ghost use Rattle.fringe_search.specs.Best.{IsPoint};
-ghost use Rattle.fringe_search.specs.Certificates.{GridLine, PeakLine, LagLine, line_text, sums_text, IsTrueMark};
-ghost use Rattle.fringe_search.specs.Taken.{IsGridOf, IsPointAt, HasPeakLine, HasLagLine};
+ghost use Rattle.fringe_search.specs.Certificates.{GridLine, LagLine, line_text, sums_text};
+ghost use Rattle.fringe_search.specs.Taken.{IsGridOf, IsPointAt, HasPeakLine, HasNoPeakLine, HasLagLine, HasNoMark, HasNoLagLine, Lacks};
 
 use crate::claim::{Mark, is_true_mark};
-use crate::grid::{Grid, Peak};
+use crate::grid::Grid;
 use crate::number::{take_number, take_signed};
 use crate::peak::{Point, lag_at, point_at};
 use crate::places::SeriesAt;
@@ -28,7 +28,7 @@ fn grid_of(rates: u32, divide: u32) -> Option<Grid>
 
 // The grid of the text's first line, and the text behind that.
 pub(crate) fn take_grid<'a>(text: &'a [u8]) -> Option<(Grid, &'a [u8])>
-    ensures { MatchOption result ((g : Grid) (rest : List ℕ) → text.now ≢ line_text (GridLine g) ++ rest) (λ taken. text.now ≡ line_text (GridLine taken.0) ++ taken.1.now) }
+    ensures { MatchOption result ((g : Grid) → Lacks text.now (line_text (GridLine g))) (λ taken. text.now ≡ line_text (GridLine taken.0) ++ taken.1.now) }
 {
     let words = strip(text, b"grid ")?;
     let (rates, later) = take_number(words, b' ')?;
@@ -65,7 +65,7 @@ fn point_of(series: &CellSeries, grid: &Grid, lag: u32, rate: i32) -> Option<Poi
 
 // The text behind the two numbers of a sum, and the end of their line.
 fn strip_sum<'a>(text: &'a [u8], sum: Sum) -> Option<&'a [u8]>
-    ensures { MatchOption result ((rest : List ℕ) → text.now ≢ sums_text sum.re sum.im ++ rest) (λ rest. text.now ≡ sums_text sum.re sum.im ++ rest.now) }
+    ensures { MatchOption result (Lacks text.now (sums_text sum.re sum.im)) (λ rest. text.now ≡ sums_text sum.re sum.im ++ rest.now) }
 {
     let middle = strip_signed(text, sum.re, b" ")?;
     strip_signed(middle, sum.im, b"\n")
@@ -79,7 +79,7 @@ pub(crate) fn take_peak<'a>(
     text: &'a [u8],
 ) -> Option<(Point, &'a [u8])>
     requires { IsSmall series.now }
-    ensures { MatchOption result ((p : Peak) (n : ℕ) (rest : List ℕ) → IsPointOf series.now grid.now p n → text.now ≢ line_text (PeakLine at p) ++ rest) (λ taken. HasPeakLine series.now grid.now at text.now taken.0 taken.1.now) }
+    ensures { MatchOption result (HasNoPeakLine series.now grid.now at text.now) (λ taken. HasPeakLine series.now grid.now at text.now taken.0 taken.1.now) }
 {
     let lags = series.lags();
     let words = strip_place(text, at)?;
@@ -93,7 +93,7 @@ pub(crate) fn take_peak<'a>(
 
 // The text behind a lag's line.
 fn strip_lag<'a>(text: &'a [u8], lag: i32, mark: Mark) -> Option<&'a [u8]>
-    ensures { MatchOption result ((rest : List ℕ) → text.now ≢ line_text (LagLine lag mark) ++ rest) (λ rest. text.now ≡ line_text (LagLine lag mark) ++ rest.now) }
+    ensures { MatchOption result (Lacks text.now (line_text (LagLine lag mark))) (λ rest. text.now ≡ line_text (LagLine lag mark) ++ rest.now) }
 {
     let number = strip(text, b"lag ")?;
     strip_signed(number, i64::from(lag), word_of(mark))
@@ -111,7 +111,7 @@ fn take_mark<'a>(
     requires lag { lag < series.now.lags }
     requires small { IsSmall series.now }
     requires peak { IsPoint series.now grid.now peak.now }
-    ensures { MatchOption result ((rest : List ℕ) → IsTrueMark series.now grid.now peak.now.lag peak.now.rate lag mark → text.now ≢ line_text (LagLine (lag_of series.now.lags lag) mark) ++ rest) (λ rest. HasLagLine series.now grid.now peak.now lag text.now rest.now) }
+    ensures { MatchOption result (HasNoMark series.now grid.now peak.now lag text.now mark) (λ rest. HasLagLine series.now grid.now peak.now lag text.now rest.now) }
 {
     let rest = strip_lag(text, lag_at(series.lags(), lag), mark)?;
     if is_true_mark(series, grid, peak, lag, mark) {
@@ -132,7 +132,7 @@ pub(crate) fn take_lag<'a>(
     requires lag { lag < series.now.lags }
     requires small { IsSmall series.now }
     requires peak { IsPoint series.now grid.now peak.now }
-    ensures { MatchOption result ((mark : Mark) (rest : List ℕ) → IsTrueMark series.now grid.now peak.now.lag peak.now.rate lag mark → text.now ≢ line_text (LagLine (lag_of series.now.lags lag) mark) ++ rest) (λ rest. HasLagLine series.now grid.now peak.now lag text.now rest.now) }
+    ensures { MatchOption result (HasNoLagLine series.now grid.now peak.now lag text.now) (λ rest. HasLagLine series.now grid.now peak.now lag text.now rest.now) }
 {
     match take_mark(series, grid, peak, lag, Mark::Bound, text) {
         Some(rest) => Some(rest),

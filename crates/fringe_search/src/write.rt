@@ -4,7 +4,7 @@ ghost use Rattle.sink_text.specs.Written.{Puts};
 ghost use Rattle.fringe_search.specs.Layout.{IsSeriesAt};
 ghost use Rattle.fringe_search.specs.Peaks.{AreSmall, IsSmall};
 ghost use Rattle.fringe_search.specs.Certificates.{GridLine, PeakLine, LagLine, line_text, lines_text, peak_text, place_text};
-ghost use Rattle.fringe_search.specs.Written.{due_mark, lag_lines, PutsSeries, PutsCertificate, AppendsCertificate};
+ghost use Rattle.fringe_search.specs.Written.{due_mark, lag_lines, shown, PutsSeries, PutsCertificate, AppendsCertificate};
 
 use crate::claim::Mark;
 use crate::grid::Grid;
@@ -35,7 +35,7 @@ fn put_grid<S: Sink>(grid: &Grid, lines: &mut Stretch, out: &mut S)
 
 // Puts the line of a peak.
 fn put_peak<S: Sink>(at: SeriesAt, lag: i32, peak: &Point, lines: &mut Stretch, out: &mut S)
-    ensures { Puts (line_text (PeakLine at (record { lag = lag; rate = peak.now.rate; re = peak.now.sum.re; im = peak.now.sum.im }))) lines.old lines.new (S.told out.old) (S.told out.new) (S.faults out.old) (S.faults out.new) }
+    ensures { Puts (line_text (PeakLine at (shown lag peak.now))) lines.old lines.new (S.told out.old) (S.told out.new) (S.faults out.old) (S.faults out.new) }
 {
     put_place(at, lines, out);
     put_point(lag, peak, lines, out);
@@ -61,7 +61,7 @@ fn put_place<S: Sink>(at: SeriesAt, lines: &mut Stretch, out: &mut S)
 
 // Puts its end: the lag, the rate and the sum.
 fn put_point<S: Sink>(lag: i32, peak: &Point, lines: &mut Stretch, out: &mut S)
-    ensures { Puts (peak_text (record { lag = lag; rate = peak.now.rate; re = peak.now.sum.re; im = peak.now.sum.im })) lines.old lines.new (S.told out.old) (S.told out.new) (S.faults out.old) (S.faults out.new) }
+    ensures { Puts (peak_text (shown lag peak.now)) lines.old lines.new (S.told out.old) (S.told out.new) (S.faults out.old) (S.faults out.new) }
 {
     lines.put_pieces(
         &[

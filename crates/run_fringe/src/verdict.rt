@@ -23,7 +23,7 @@ use std::alloc::Global;
 use vis_records::Vis;
 
 // The greatest length of a certificate that is read, in bytes.
-const MOST_CERTIFICATE_BYTES: u64 = 1_073_741_824;
+const MOST_BYTES: u64 = 1_073_741_824;
 
 /// Checks the certificate under a name against the record file under another, and appends the line `right` where it is right.
 /// First the record file is read whole and judged, and then the certificate, its size before its bytes; nothing is searched for.
@@ -63,7 +63,7 @@ fn load_certified<F: Shelf>(
     ensures counts { CountsReads (F.faults shelf.old) (F.faults shelf.new) result }
 {
     let vis = load_records(alloc, shelf, file)?;
-    let text = load_text(alloc, shelf, certificate, Measure::Certificate, MOST_CERTIFICATE_BYTES)?;
+    let text = load_text(alloc, shelf, certificate, Measure::Certificate, MOST_BYTES)?;
     check(&vis, &text)?;
     Ok(vis)
 }

@@ -20,5 +20,5 @@ returns-clause-shows g c =
     let a = c.certify.ensures.appends in
     Shows-shown told (λ files. FringeOf files c.args.file.now c.args.rates c.args.divide) lines_text a.lines
     (g.S.Sink.told c.args.out.now) (g.S.Sink.told c.certify.new.out) (g.S.Sink.faults c.args.out.now) (g.S.Sink.faults c.certify.new.out) c.certify.result
-    (done-fringe told c.args.file.now c.grid.grid c.in_ok-vis.vis a.lines c.in_ok-vis.ensures.content c.in_ok-vis.ensures.small a.is)
+    (done-fringe told c.args.file.now _ c.in_ok-vis.vis a.lines c.in_ok-vis.ensures.content c.in_ok-vis.ensures.small a.is)
     a.appends c.certify.ensures.fault

@@ -1,5 +1,5 @@
 use Rattle.std.proofs.lemmas.Result.{err_from_is_err_and}
-use Rattle.std.proofs.Common.{ℕ, List, sym, subst}
+use Rattle.std.proofs.Common.{ℕ, List, subst}
 use Rattle.run_notes.specs.Refusals.{IsCause}
 use Rattle.run_fringe.specs.Searched.{CheckOf}
 use Rattle.run_fringe.proofs.SearchedLemmas.{IsOfFiles-verdict, told-check}

@@ -1,0 +1,4 @@
+pub mod Tables
+pub mod Lanes
+pub mod Bytes
+pub mod Cuts

@@ -201,14 +201,17 @@ def test_the_page_stands_for_itself(folder: Path, capsys: pytest.CaptureFixture[
     assert capsys.readouterr().out.splitlines()[-1] == "page.html"
     page = (folder / "page.html").read_text()
     tags = Tags(page)
+    rows = [Tags(rows) for rows in re.findall('<script type="text/html">(.*?)</script>', page, re.DOTALL)]
     assert "<title>a &lt;night&gt;</title>" in page and page.count("<td class=\"empty\">no pairs</td>") == 2 * 2 * 3
-    assert [link for link in tags.links if link != "#"] == ["#s0", "#s1"] and {"s0", "s1"} <= set(tags.ids)
+    assert tags.links == ["#s0", "#s1"] and {"s0", "s1"} <= set(tags.ids) and tags.loaded == []
     # six baselines of two products in two scans, half of them without pairs
-    assert len(tags.loaded) == 12 and all(one.startswith("data:image/png;base64,") for one in tags.loaded)
+    loaded = [one for table in rows for one in table.loaded]
+    assert len(loaded) == 12 and all(one.startswith("data:image/png;base64,") for one in loaded)
     assert not re.findall(r"(?:src|href)=.?(?:https?:)?//", page) and "@import" not in page
 
 
 PROBE = """<script>addEventListener('load', () => setTimeout(() => {
+  sections.forEach(fill);
   const cell = () => document.querySelector('#s1 tbody td:nth-child(5)').textContent, head = [...document.querySelectorAll('#s1 table.rows th')].find(one => one.textContent === 'SNR');
   const said = { rows: document.querySelectorAll('table.rows tbody tr').length, links: [...document.querySelectorAll('a[href^="#s"]')].filter(one => document.querySelector(one.getAttribute('href'))).length };
   head.click(); said.low = +cell(); head.click(); said.high = +cell();

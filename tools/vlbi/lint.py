@@ -481,7 +481,7 @@ def record_bytes(asked: Asked) -> int:
 def journal_bytes(asked: Asked) -> int:
     """The bytes of the journal's epochs."""
     plan = asked.plan
-    return sum(plan.epochs_of(scan) * (1 + len(plan.products) * len(scan.baselines) * plan.lags * CELL.itemsize) for scan in plan.scans)
+    return sum(plan.epochs_of(scan) * (1 + plan.cells_of(scan) * CELL.itemsize) for scan in plan.scans)
 
 
 def disk(asked: Asked, machine: Machine) -> Iterator[Finding]:

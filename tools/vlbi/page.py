@@ -56,7 +56,8 @@ a.p img { width: 64px; height: 28px; } }
   div.wide { overflow: visible; } * { print-color-adjust: exact; -webkit-print-color-adjust: exact; } }
 """
 
-# What the page does by itself: it draws the large picture of a fringe, and sorts the rows of a table by a column.
+# What the page does by itself: it fills the tables, those that are looked at first, so that many do not keep it from opening; draws the large
+# picture of a fringe; and sorts the rows of a table by a column.
 SCRIPT = r"""
 const W = 640, box = document.getElementById('large'), inside = box.querySelector('div');
 const text = (x, y, words, more = '') => `<text x="${x}" y="${y}" font-size="11" ${more}>${words}</text>`;
@@ -96,6 +97,16 @@ function sort(th) {
   body.append(...[...body.rows].sort((a, b) => (down ? -1 : 1) * order(value(a), value(b))));
   th.dataset.down = down ? '0' : '1';
 }
+function fill(section) {
+  const rows = section && section.querySelector('script[type="text/html"]');
+  if (rows) { section.querySelector('tbody').innerHTML = rows.textContent; rows.remove(); }
+}
+const sections = [...document.querySelectorAll('section')], near = new IntersectionObserver(seen => seen.forEach(one => { if (one.isIntersecting) fill(one.target); }), { rootMargin: '1500px' });
+sections.forEach(section => near.observe(section));
+const idle = window.requestIdleCallback || (work => setTimeout(work, 50)), later = [...sections];
+const go = () => { fill(later.shift()); if (later.length) idle(go); };
+addEventListener('load', () => idle(go));
+addEventListener('beforeprint', () => sections.forEach(fill));
 document.addEventListener('click', event => {
   const link = event.target.closest('a.p'), head = event.target.closest('table.rows th');
   if (link) { event.preventDefault(); show(link); }
@@ -120,6 +131,7 @@ def parts(night: Night, title: str) -> Iterator[str]:
     yield f"<p class=\"of\">From {moment(begins)} UTC on; made by vlbi-report {vlbi.__version__}. A click on a picture draws it large, one on a column's head sorts.</p>\n"
     yield from summary(night)
     yield from overview(night)
+    yield "<noscript>The tables of the scans are shown where scripts may run.</noscript>\n"
     for number, scan in enumerate(night.scans):
         yield from section(number, scan)
     yield f"<div id=\"large\"><div></div></div>\n<script>{SCRIPT}</script>\n</body></html>\n"
@@ -164,9 +176,10 @@ def section(number: int, scan: Seen) -> Iterator[str]:
     heads = [scan.rows[0].unit if head == "amplitude" and scan.rows else head for head in HEADS]
     yield f"<section id=\"s{number}\" data-reach=\"{scan.reach:.6g}\" data-seconds=\"{scan.seconds:.6g}\">\n"
     yield f"<h2>{html.escape(scan.path)} {html.escape(scan.name)}, {moment(scan.start)}, {scan.seconds:g} s</h2>\n"
-    yield "<div class=\"wide\"><table class=\"rows\"><thead><tr>" + "".join(f"<th>{head}</th>" for head in heads) + "</tr></thead>\n<tbody>\n"
+    yield "<div class=\"wide\"><table class=\"rows\"><thead><tr>" + "".join(f"<th>{head}</th>" for head in heads) + "</tr></thead>\n<tbody></tbody></table></div>\n"
+    yield "<script type=\"text/html\">\n"
     yield from map(table_row, scan.rows)
-    yield "</tbody></table></div>\n"
+    yield "</script>\n"
     if scan.samplers:
         yield "<h2>Stations with themselves</h2>\n<div class=\"spectra\">" + "".join(map(spectrum_of, scan.samplers)) + "</div>\n"
     yield "</section>\n"

@@ -19,20 +19,9 @@ from collections.abc import Callable, Iterable, Iterator, Sequence
 from vlbi import job as jobs
 from vlbi import joined, recording, records, vex
 from vlbi.faults import Fault
+from vlbi.words import COMMANDS, RANGES
 
 SHOWN = 100  # characters of a line that is shown
-
-JOB_OPTIONS = {"--job": True, "--vex": False}
-WORK = {"--workers": (1, 64), "--piece": (64, 4194304)}
-RANGES = {**WORK, "--seed": (0, 2 ** 64 - 1), "--seconds": (1, 60)}
-COMMANDS: dict[str, dict[str, bool]] = {  # the options of each, and whether it needs them
-    "run": {**JOB_OPTIONS, "--workers": True, "--piece": True},
-    "plain": JOB_OPTIONS,
-    "check": JOB_OPTIONS,
-    "status": JOB_OPTIONS,
-    "dump": {},
-    "gen": {"--seed": True, "--seconds": True, "--workers": True, "--piece": True},
-}
 
 # The lines of a job: how they are written, and the ranges of their fields.
 FORMS = {

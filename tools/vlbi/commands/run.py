@@ -12,11 +12,15 @@ import sys
 import threading
 import time
 from collections.abc import Iterator, Sequence
-from typing import IO
+from typing import IO, TYPE_CHECKING
 
-from vlbi import commands, progress, refusal
+from vlbi import commands
 from vlbi.commands import parser_of, told
 from vlbi.faults import Fault
+
+if TYPE_CHECKING:
+    from vlbi import progress
+    from vlbi.refusal import Call
 
 NAME = "vlbi-run"
 LOOK = 1.0  # seconds between two looks at the journal
@@ -44,6 +48,8 @@ def parser() -> argparse.ArgumentParser:
 
 def run(given: argparse.Namespace, rest: Sequence[str]) -> int:
     """Runs the program; its exit status, or its end by a signal."""
+    from vlbi import progress
+
 
     program = commands.program(given.program)
     if program is None:
@@ -64,15 +70,15 @@ def run(given: argparse.Namespace, rest: Sequence[str]) -> int:
     return ended(call, process.returncode, said)
 
 
-def call_of(given: argparse.Namespace, rest: Sequence[str]) -> refusal.Call:
+def call_of(given: argparse.Namespace, rest: Sequence[str]) -> Call:
     """The call of the program: the words that were given, and workers and piece where they were not."""
+    from vlbi import refusal, work
+
     words = ["run"]
     for option in OPTIONS:
         for value in getattr(given, option):
             words += [f"--{option}", value]
     words += [word for number, word in enumerate(rest) if (number, word) != (0, "run")]
-    from vlbi import work
-
     workers = int(given.workers[0]) if given.workers and given.workers[0].isdecimal() else work.workers()
     if not given.workers:
         words += ["--workers", str(workers)]
@@ -155,8 +161,10 @@ def follow(process: subprocess.Popen[bytes], watch: progress.Watch, show: progre
             return state
 
 
-def ended(call: refusal.Call, status: int, said: str) -> int:
+def ended(call: Call, status: int, said: str) -> int:
     """Says what to do after a status; after a signal this process ends by it too."""
+    from vlbi import refusal
+
     sys.stderr.write(said.encode("utf-8", "surrogateescape").decode("utf-8", "replace"))
     for line in refusal.advice(call, status, said.strip()):
         print(f"{NAME}: {line}", file=sys.stderr)

@@ -112,6 +112,14 @@ def test_a_clock_line_that_is_there_is_mended(folder: Path) -> None:
     assert line[:3] == ["clock", "Wb", "2009y365d23h59m00s"] and line[4] == "5" and int(line[3]) == pytest.approx(-2 ** 32, abs=0.02 * 2 ** 32)
 
 
+def test_what_whole_delays_leave_is_no_clock(folder: Path) -> None:
+    """Wb's delay of 1.4 samples is taken out by one; the rest is its lag."""
+    job = JOB.replace("product", f"poly Wb 2010y001d00h00m00s {round(1.4 * 2 ** 32)}\nproduct")
+    night, _ = seen(folder, night_file(late({1: 0.4})), job)
+    assert night.clocks == () and night.scans[0].rows[0].rest == pytest.approx(0.4, abs=1e-6)
+    assert seen(folder, night_file(late({1: 0.4})))[0].clocks == ()
+
+
 def test_of_two_stations_the_first_is_right(folder: Path) -> None:
     night, _ = seen(folder, night_file(late({0: 2.0}), keys=KEYS[:2]))
     assert [(clock.key, round(clock.ahead)) for clock in night.clocks] == [("Wb", -2)]

@@ -9,6 +9,7 @@ from __future__ import annotations
 import collections
 import dataclasses
 import math
+import os
 import sys
 import time
 from typing import Any, Protocol
@@ -184,7 +185,8 @@ class Bar:
         if state is None:
             return
         if self.bar is None:
-            self.bar = self.make(total=state.epochs, initial=state.kept, file=sys.stderr, dynamic_ncols=True, mininterval=0.5,
+            told = os.get_terminal_size(sys.stderr.fileno()).columns > 0  # else 80 columns
+            self.bar = self.make(total=state.epochs, initial=state.kept, file=sys.stderr, dynamic_ncols=told, ncols=None if told else 80, mininterval=0.5,
                                  bar_format="{percentage:3.0f} %|{bar:12}| {n_fmt} of {total_fmt} epochs{postfix}")
         self.bar.n = state.kept
         self.bar.set_postfix_str(state.speed)

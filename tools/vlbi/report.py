@@ -28,13 +28,15 @@ Complexes = NDArray[numpy.complex128]
 
 SURE = 1e-4      # the chance that noise alone is taken for a fringe
 PERHAPS = 0.05   # and for what may be one
-OFF = 0.25       # samples from which on a clock looks off
+OFF = 0.25       # samples from which on a clock looks off,
+OFF_BLIND = 1.0  # and where nobody says what whole delays leave
 SPREAD = 1.0     # samples by which lags may differ from what clocks make of them
 THERE = 0.99     # the part of the samples below which some are said to be missing
 WEAK, STRONG = 0.20, 0.45  # parts of two bits' samples at the outer levels that are too few and too many
 BEST = 0.32      # the best part of them
 POINTS = 64      # places of a picture to a side
 SHADES = 16
+RESTS = 257      # moments of a scan at which the rest of a whole delay is taken
 PIECES = 16      # stretches of an integration in which a rotation is taken
 
 FRINGE, MAYBE, NONE, UNKNOWN, NO_PAIRS = "fringe", "perhaps", "none", "unknown", plot.NO_PAIRS
@@ -48,6 +50,7 @@ class Row:
     lag, rate  of the peak in microseconds and hertz; NaN where there are no pairs
     amplitude  of the peak, in `unit`
     share      the part of the scan's samples that were there, 0 to 1
+    rest       the part of the lag in microseconds that the job's whole delays leave; None where nobody says the job
     hertz      the sky frequency of the band's middle, negative in the lower sideband; None where nobody says it
     turned     whether the job turns it, so that its rate has a sign
     lags, times  means over lag and over time, of at most POINTS places
@@ -63,6 +66,7 @@ class Row:
     amplitude: float
     unit: str
     share: float
+    rest: float | None
     hertz: float | None
     turned: bool
     lags: Complexes = dataclasses.field(repr=False)
@@ -214,7 +218,7 @@ def row_of(pair: plot.Pair, asked: joined.Asked | None) -> Row:
     edges = (float(fringe.rates[0]), float(fringe.rates[-1])) if len(fringe.rates) else (0.0, 0.0)
     return Row(
         keys, product, state_of(fringe, pair.has_pairs), fringe.snr, fringe.lag * 1e6 / scan.head.rate, fringe.rate, fringe.amplitude * pair.scale, pair.unit,
-        float(best / max(scan.samples, 1)), middle(scan, keys[0], product[0], asked), bool(cells["im"].any()),
+        float(best / max(scan.samples, 1)), rest_between(scan, keys, asked), middle(scan, keys[0], product[0], asked), bool(cells["im"].any()),
         fewer(pair.over_lags()), fewer(pair.over_time() if pair.has_pairs else numpy.zeros(len(cells), numpy.complex128)), shaded(fringe.map), edges,
     )
 
@@ -250,6 +254,17 @@ def state_of(fringe: Fringe, has_pairs: bool) -> str:
 def needed(places: int, chance: float) -> float:
     """The signal to noise that the highest of so many places of noise exceeds with this chance."""
     return math.sqrt(2 * math.log(places / chance))
+
+
+def rest_between(scan: Scan, keys: tuple[str, str], asked: joined.Asked | None) -> float | None:
+    """What whole delays leave of the second station's delay less the first's, in microseconds, in the mean over a scan."""
+    if asked is None:
+        return None
+    delays = rotation.Delays(asked.by_word, scan.head.rate)
+    seconds = numpy.linspace(0, scan.samples / scan.head.rate, RESTS)
+    late = [delays.samples(key, scan.start, numpy.stack([seconds, seconds], axis=1))[:, 0] for key in keys]
+    first, second = (float((one - numpy.floor(one + 0.5)).mean()) for one in late)
+    return (second - first) * 1e6 / scan.head.rate
 
 
 def middle(scan: Scan, key: str, channel: str, asked: joined.Asked | None) -> float | None:
@@ -306,11 +321,11 @@ def clocks_of(scans: Sequence[Seen], asked: joined.Asked | None, rates: Sequence
     if not rows:
         return (), 0.0
     keys = list(dict.fromkeys(key for _, row in rows for key in row.keys))
-    ahead = solved(keys, [(row.keys, row.lag, row.snr) for _, row in rows])
+    ahead = solved(keys, [(row.keys, row.lag - (row.rest or 0.0), row.snr) for _, row in rows])
     rated = [(row.keys, row.rate / row.hertz, row.snr * abs(row.hertz)) for _, row in rows if row.hertz and row.turned]
     drifts = solved(keys, rated) if rated else {}
     sample = max(scan.sample for scan in scans)
-    spread = max(abs(row.lag - (ahead[row.keys[1]] - ahead[row.keys[0]])) / scan.sample for scan, row in rows)
+    spread = max(abs(row.lag - (row.rest or 0.0) - (ahead[row.keys[1]] - ahead[row.keys[0]])) / scan.sample for scan, row in rows)
     at = sum(scan.start + scan.seconds / 2 for scan, _ in rows) / len(rows)
     longest = max(scan.seconds for scan, _ in rows)
     found = []
@@ -318,7 +333,7 @@ def clocks_of(scans: Sequence[Seen], asked: joined.Asked | None, rates: Sequence
         seen = [row for _, row in rows if key in row.keys]
         hertz = max((abs(row.hertz) for row in seen if row.hertz), default=0.0)
         drift = drifts.get(key, 0.0) if abs(drifts.get(key, 0.0)) * hertz * longest > 0.5 else None
-        if abs(ahead[key]) > OFF * sample:
+        if abs(ahead[key]) > (OFF if asked else OFF_BLIND) * sample:
             lines = mending(key, ahead[key], at, drift or 0.0, asked, max(rates), int(min(scan.start for scan in scans)))
             found.append(Clock(key, ahead[key], at, drift, tuple(lines), len(seen)))
     return tuple(found), spread
@@ -409,7 +424,7 @@ def clock_words(clock: Clock, has_job: bool) -> str:
     off = f"{abs(clock.ahead):.3f} {plot.MICROSECONDS} {'further' if clock.ahead > 0 else 'less'} ahead than the job says"
     gains = f", and gains {plot.signed(clock.drift * 1e12, 2)}e-12 seconds more in each" if clock.drift else ""
     mend = "to mend it" if has_job else "to mend it, where the job has no `clock` line of it (--job adds it to those that there are)"
-    return f"The clock of {clock.key}, or its delay, is {off}{gains}, by {clock.rows} fringes; {mend}:"
+    return f"The clock of {clock.key}, or its delay, is {off}{gains}, by {clock.rows} fringe{'s' * (clock.rows != 1)}; {mend}:"
 
 
 def missing(night: Night) -> Iterator[tuple[str, str, tuple[str, ...]]]:

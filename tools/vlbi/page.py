@@ -44,14 +44,14 @@ td.empty { background: repeating-linear-gradient(45deg, #f8cfc8 0 6px, #fff 6px 
 tr.bad td { color: #8a9097; } tr.bad td:first-child, tr.bad td.bad { color: #1b1f24; }
 a.p img { display: block; width: 96px; height: 40px; image-rendering: pixelated; background: #440154; }
 section { content-visibility: auto; contain-intrinsic-size: auto 60rem; }
-div.spectra { display: flex; flex-wrap: wrap; gap: .6rem; } figure { margin: 0; } figcaption { font-size: 12px; } figure.bad figcaption { color: #c0392b; }
+div.spectra { display: flex; flex-wrap: wrap; gap: .6rem; } figure { margin: 0; width: 180px; } figcaption { font-size: 12px; } figure.bad figcaption { color: #c0392b; }
 figure svg { width: 180px; height: 60px; background: #f7f8f9; }
 #large { position: fixed; inset: 0; background: rgba(20, 24, 28, .75); display: none; overflow: auto; z-index: 9; }
 #large.on { display: block; } #large > div { background: #fff; max-width: 60rem; margin: 2vh auto; padding: .8rem 1rem; }
 #large svg { width: 100%; height: auto; } #large button { float: right; font-size: 1rem; }
 @media (max-width: 40rem) { body { font-size: 13px; } th, td { padding: .15rem .35rem; } tr.bad td { color: #8a9097; } tr.bad td:first-child, tr.bad td.bad { color: #1b1f24; }
 a.p img { width: 64px; height: 28px; } }
-@media print { body { max-width: none; font-size: 10px; } section { content-visibility: visible; } #large, nav { display: none; }
+@media print { body { max-width: none; font-size: 10px; } section { content-visibility: visible; } #large, p.of span { display: none; }
   th:first-child, td:first-child { position: static; } tr, figure, li { break-inside: avoid; } thead { display: table-header-group; }
   div.wide { overflow: visible; } * { print-color-adjust: exact; -webkit-print-color-adjust: exact; } }
 """
@@ -128,7 +128,7 @@ def parts(night: Night, title: str) -> Iterator[str]:
     begins = min((scan.start for scan in night.scans), default=0)
     yield "<!DOCTYPE html>\n<html lang=\"en\"><head><meta charset=\"utf-8\"><meta name=\"viewport\" content=\"width=device-width, initial-scale=1\">"
     yield f"<title>{html.escape(title)}</title><style>{STYLE}</style></head>\n<body>\n<h1>{html.escape(title)}</h1>\n"
-    yield f"<p class=\"of\">From {moment(begins)} UTC on; made by vlbi-report {vlbi.__version__}. A click on a picture draws it large, one on a column's head sorts.</p>\n"
+    yield f"<p class=\"of\">From {moment(begins)} UTC on; made by vlbi-report {vlbi.__version__}. <span>A click on a picture draws it large, one on a column's head sorts.</span></p>\n"
     yield from summary(night)
     yield from overview(night)
     yield "<noscript>The tables of the scans are shown where scripts may run.</noscript>\n"

@@ -27,7 +27,7 @@ Reals = NDArray[numpy.float64]
 Complexes = NDArray[numpy.complex128]
 
 SURE = 1e-4      # the chance that noise alone is taken for a fringe
-PERHAPS = 0.05   # and for what may be one
+PERHAPS = 0.01   # and for what may be one
 OFF = 0.25       # samples from which on a clock looks off,
 OFF_BLIND = 1.0  # and where nobody says what whole delays leave
 SPREAD = 1.0     # samples by which lags may differ from what clocks make of them

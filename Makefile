@@ -61,7 +61,7 @@ fringe: bin/vlbi
 install: $(BUILT)
 	@install -d $(TO)/bin $(TO)/$(LIB)/vlbi/commands $(TO)/share/man/man1 $(TO)/share/doc/vlbi/docs/pictures $(TO)/share/doc/vlbi/demo
 	@install -m 755 $(BUILT) $(TO)/bin/vlbi
-	@install -m 644 tools/vlbi/*.py tools/vlbi/py.typed $(TO)/$(LIB)/vlbi
+	@install -m 644 tools/vlbi/*.py tools/vlbi/*.css tools/vlbi/*.js tools/vlbi/py.typed $(TO)/$(LIB)/vlbi
 	@install -m 644 tools/vlbi/commands/*.py $(TO)/$(LIB)/vlbi/commands
 	@sed -i 's/^__version__ = .*/__version__ = "$(VERSION)"/' $(TO)/$(LIB)/vlbi/__init__.py
 	@for name in $(COMMANDS); do rm -f $(TO)/bin/vlbi-$$name; \

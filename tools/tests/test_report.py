@@ -173,7 +173,8 @@ def test_records_of_another_job(folder: Path, capsys: pytest.CaptureFixture[str]
     (folder / "sky.vis").write_bytes(night_file(late({})))
     (folder / "job.txt").write_text(JOB.replace(f"lags {LAGS}", "lags 64"))
     assert command.main(["sky.vis", "--job", "job.txt", "-o", "page.html"]) == 1
-    assert capsys.readouterr().err == "vlbi-report: sky.vis: the records are of another job than job.txt: its lags, integration, rate, stations or products are others\n"
+    assert capsys.readouterr().err == (
+        "vlbi-report: sky.vis: the records are of another job than job.txt: its lags, integration, rate, stations or products are others\n")
     assert not os.path.exists("page.html")
 
 
@@ -220,12 +221,13 @@ def test_the_page_stands_for_itself(folder: Path, capsys: pytest.CaptureFixture[
 
 PROBE = """<script>addEventListener('load', () => setTimeout(() => {
   sections.forEach(fill);
-  const cell = () => document.querySelector('#s1 tbody td:nth-child(5)').textContent, head = [...document.querySelectorAll('#s1 table.rows th')].find(one => one.textContent === 'SNR');
-  const said = { rows: document.querySelectorAll('table.rows tbody tr').length, links: [...document.querySelectorAll('a[href^="#s"]')].filter(one => document.querySelector(one.getAttribute('href'))).length };
+  const all = which => [...document.querySelectorAll(which)], cell = () => document.querySelector('#s1 tbody td:nth-child(5)').textContent;
+  const head = all('#s1 table.rows th').find(one => one.textContent === 'SNR');
+  const said = { rows: all('table.rows tbody tr').length, links: all('a[href^="#s"]').filter(one => all(one.getAttribute('href')).length === 1).length };
   head.click(); said.low = +cell(); head.click(); said.high = +cell();
   const box = document.getElementById('large'), look = () => getComputedStyle(box).display;
   said.before = look(); document.querySelector('#s1 tbody a.p').click(); said.large = look();
-  said.curves = box.querySelectorAll('polyline').length; said.points = box.querySelectorAll('circle').length; said.words = box.querySelector('h2').textContent;
+  said.curves = all('#large polyline').length; said.points = all('#large circle').length; said.words = box.querySelector('h2').textContent;
   box.querySelector('button').click(); said.closed = look();
   document.title = JSON.stringify(said);
 }, 0));</script></body>"""

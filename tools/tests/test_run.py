@@ -212,9 +212,11 @@ def told(status: int, note: str, *words: str, journal: str = "j") -> list[str]:
 WORDS = [
     (("run", "--job", "job.txt", "--piece", "64"), ["--workers is missing"]),
     (("run", "--job", "a", "--workers", "65", "--piece", "64"), ["--workers 65: it is a whole number, 1 to 64"]),
-    (("run", "--job", "a", "--workers", "x", "--piece", "63"), ["--workers x: it is a whole number, 1 to 64", "--piece 63: it is a whole number, 64 to 4194304"]),
+    (("run", "--job", "a", "--workers", "x", "--piece", "63"), [
+        "--workers x: it is a whole number, 1 to 64", "--piece 63: it is a whole number, 64 to 4194304"]),
     (("plain", "--job", "a", "--job", "b"), ["--job is given 2 times"]),
-    (("plain", "--jbo", "a"), ["--job is missing", "`--jbo` is no option of `plain`: --job, --vex; is `--job` meant?", "`a` is no option of `plain`: --job, --vex"]),
+    (("plain", "--jbo", "a"), [
+        "--job is missing", "`--jbo` is no option of `plain`: --job, --vex; is `--job` meant?", "`a` is no option of `plain`: --job, --vex"]),
     (("rnu", "--job", "a"), ["`rnu` is no command: run, plain, check, status, dump, gen; is `run` meant?"]),
     (("gen", "--seed=7", "--seconds", "61", "--workers", "1", "--piece", "64"), ["--seconds 61: it is a whole number, 1 to 60"]),
     (("dump",), ["`dump` takes the name of one record file"]),
@@ -242,7 +244,8 @@ JOBS = [
         "job.txt: the job lacks a line `epoch`: epoch SAMPLES, 1 to 4194304",
         "job.txt: the job lacks a line `rate`: rate R, 1 to 2^32 - 1, without a schedule only, or --vex SCHEDULE in its place"]),
     ("job: Range in line 1", JOB.replace(b"lags 4", b"lags 3"), ["job.txt:1: lags 3", "write: lags L, L even, 2 to 1024"]),
-    ("job: Unknown in line 2", JOB.replace(b"integration", b"integration:"), ["job.txt:2: integration: 1000", "`integration:` is no word of a job here; is `integration` meant?"]),
+    ("job: Unknown in line 2", JOB.replace(b"integration", b"integration:"), [
+        "job.txt:2: integration: 1000", "`integration:` is no word of a job here; is `integration` meant?"]),
     ("job: Unknown in line 5", JOB.replace(b"file A", b"file C"), [
         "job.txt:5: file C a.vdif", "a name here is not in an earlier line", "no `station` line before this one has C: there are A"]),
     ("job: Unknown in line 5", JOB.replace(b"file A", b"file B"), [

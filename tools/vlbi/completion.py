@@ -126,7 +126,8 @@ def zsh() -> Iterator[str]:
     yield f"#compdef vlbi {' '.join(command.name for command in around())}\n"
     yield "# Completion of vlbi and of the commands around it, for zsh; made by vlbi.completion.\n"
     yield "case $service in\n  vlbi)\n    if (( CURRENT == 2 )); then\n      _files\n"
-    yield f"    elif (( CURRENT == 3 )); then\n      compadd -- {' '.join(COMMANDS)}\n    else\n      words=(\"${{words[@]:2}}\")\n      (( CURRENT -= 2 ))\n      case $words[1] in\n"
+    yield f"    elif (( CURRENT == 3 )); then\n      compadd -- {' '.join(COMMANDS)}\n    else\n"
+    yield "      words=(\"${words[@]:2}\")\n      (( CURRENT -= 2 ))\n      case $words[1] in\n"
     for name, command in program().items():
         yield f"        {name}) _arguments {' '.join(specs(command))} ;;\n"
     yield "      esac\n    fi ;;\n"

@@ -158,8 +158,10 @@ class Lines:
         self.name = name
         self.last = time.monotonic()
         self.now = self.said = ""
+        self.begun = False  # whether there is a state
 
     def show(self, state: State | None, waits: str) -> None:
+        self.begun = self.begun or state is not None
         self.now = state.words if state else waits
         if time.monotonic() - self.last >= EVERY:
             self.say()
@@ -169,7 +171,7 @@ class Lines:
         print(f"{self.name}: {self.now}", file=sys.stderr, flush=True)
 
     def close(self) -> None:
-        if self.now != self.said:
+        if self.begun and self.now != self.said:
             self.say()
 
 

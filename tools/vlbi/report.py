@@ -18,7 +18,7 @@ from numpy.typing import NDArray
 
 from vlbi import fringe as fringes
 from vlbi import job as jobs
-from vlbi import joined, plot, records, rotation, spectrum, vex
+from vlbi import joined, network, plot, records, rotation, spectrum, vex
 from vlbi.faults import Fault
 from vlbi.fringe import Fringe
 from vlbi.records import Records, Scan
@@ -321,9 +321,9 @@ def clocks_of(scans: Sequence[Seen], asked: joined.Asked | None, rates: Sequence
     if not rows:
         return (), 0.0
     keys = list(dict.fromkeys(key for _, row in rows for key in row.keys))
-    ahead = solved(keys, [(row.keys, row.lag - (row.rest or 0.0), row.snr) for _, row in rows])
+    ahead = network.solved(keys, [(row.keys, row.lag - (row.rest or 0.0), row.snr) for _, row in rows])
     rated = [(row.keys, row.rate / row.hertz, row.snr * abs(row.hertz)) for _, row in rows if row.hertz and row.turned]
-    drifts = solved(keys, rated) if rated else {}
+    drifts = network.solved(keys, rated) if rated else {}
     sample = max(scan.sample for scan in scans)
     spread = max(abs(row.lag - (row.rest or 0.0) - (ahead[row.keys[1]] - ahead[row.keys[0]])) / scan.sample for scan, row in rows)
     at = sum(scan.start + scan.seconds / 2 for scan, _ in rows) / len(rows)
@@ -337,34 +337,6 @@ def clocks_of(scans: Sequence[Seen], asked: joined.Asked | None, rates: Sequence
             lines = mending(key, ahead[key], at, drift or 0.0, asked, max(rates), int(min(scan.start for scan in scans)))
             found.append(Clock(key, ahead[key], at, drift, tuple(lines), len(seen)))
     return tuple(found), spread
-
-
-def solved(keys: Sequence[str], rows: Sequence[tuple[tuple[str, str], float, float]]) -> dict[str, float]:
-    """The numbers of stations whose differences, the second's less the first's, are those of the rows, by least squares.
-
-    rows  the baselines' keys, the difference, its weight
-    Stations that rows join are told against the one in the middle of them; of two against the first.
-    """
-    weights = numpy.array([weight for _, _, weight in rows])
-    matrix = numpy.array([[(key == second) - (key == first) for key in keys] for (first, second), _, _ in rows], numpy.float64)
-    due = numpy.array([difference for _, difference, _ in rows])
-    found = numpy.linalg.lstsq(matrix * weights[:, None], due * weights, rcond=None)[0]
-    made = dict.fromkeys(keys, 0.0)
-    for group in groups(keys, [pair for pair, _, _ in rows]):
-        values = {key: float(found[keys.index(key)]) for key in group}
-        reference = values[group[0]] if len(group) < 3 else sorted(values.values())[(len(group) - 1) // 2]
-        made.update({key: value - reference for key, value in values.items()})
-    return made
-
-
-def groups(keys: Sequence[str], pairs: Iterable[tuple[str, str]]) -> list[list[str]]:
-    """The stations that pairs join, each group in the order of the keys."""
-    of = {key: {key} for key in keys}
-    for first, second in pairs:
-        both = of[first] | of[second]
-        for key in both:
-            of[key] = both
-    return [[key for key in keys if key in group] for group in {id(group): group for group in of.values()}.values()]
 
 
 def mending(key: str, ahead: float, at: float, drift: float, asked: joined.Asked | None, rate: int, start: int) -> Iterator[str]:
@@ -384,7 +356,8 @@ def words_of(night: Night) -> Iterator[tuple[str, str, tuple[str, ...]]]:
     """What a night's staff should know, in words: each a kind (`good`, `bad` or `note`), what is said, and lines of a job that go with it."""
     rows = [row for scan in night.scans for row in scan.rows]
     there = sum(row.state == FRINGE for row in rows)
-    yield "good" if there == len(rows) and rows else "note", f"{there} of {len(rows)} baselines and products have a fringe, in {len(night.scans)} scan{'s' * (len(night.scans) != 1)}.", ()
+    scans = f"{len(night.scans)} scan{'s' * (len(night.scans) != 1)}"
+    yield "good" if there == len(rows) and rows else "note", f"{there} of {len(rows)} baselines and products have a fringe, in {scans}.", ()
     yield from without_fringe(night)
     empty = sum(row.state == NO_PAIRS for row in rows)
     if empty:
@@ -434,7 +407,8 @@ def missing(night: Night) -> Iterator[tuple[str, str, tuple[str, ...]]]:
         low = [(share, name) for share, name in shares if share < THERE]
         if low:
             worst = min(low)
-            yield "bad", f"Station {key}: samples are missing in {listed([name for _, name in low], len(shares))}; in {worst[1]} {worst[0] * 100:.1f} % are there.", ()
+            where = listed([name for _, name in low], len(shares))
+            yield "bad", f"Station {key}: samples are missing in {where}; in {worst[1]} {worst[0] * 100:.1f} % are there.", ()
 
 
 def levels(night: Night) -> Iterator[tuple[str, str, tuple[str, ...]]]:

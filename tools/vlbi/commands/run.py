@@ -156,7 +156,7 @@ def follow(process: subprocess.Popen[bytes], watch: progress.Watch, show: progre
             state = watch.look(time.monotonic()) or state
         except (Fault, OSError):
             state = None  # another file; the program says so
-        show.show(state, "the recordings are read" if process.returncode is None else "nothing is kept")
+        show.show(state, "the recordings are read")
         if process.returncode is not None:
             return state
 

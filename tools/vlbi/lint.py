@@ -143,10 +143,11 @@ def pieces(asked: Asked, machine: Machine) -> Iterator[Finding]:
 def clocks(asked: Asked) -> Iterator[Finding]:
     """Clocks that drift more than masers do, and stations of which no clock is given."""
     for line in asked.of_word("clock"):
-        drift = jobs.whole(line.fields[3]) / (asked.rate * 2 ** 32)
-        if abs(drift) > MASER:
-            number = round(math.copysign(MASER, drift) * asked.rate * 2 ** 32)
-            key, when, offset, _ = line.fields
+        key, when, offset, counts = line.fields
+        most = round(MASER * asked.rate * 2 ** 32)
+        if abs(jobs.whole(counts)) > most:
+            drift = jobs.whole(counts) / (asked.rate * 2 ** 32)
+            number = most if drift > 0 else -most
             yield of_line(asked, line, f"the clock of {key} gains {drift:.3g} seconds a second, and masers stay below {MASER:g}",
                           f"measure it again; {MASER:g} is written: clock {key} {when} {offset} {number}")
 

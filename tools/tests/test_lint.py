@@ -104,10 +104,11 @@ def test_lags_and_clocks(folder: Path) -> None:
 
 
 def test_a_fringe_that_turns_too_fast(folder: Path) -> None:
-    # a microsecond a second: 2^24 knots of 32,768 samples are 6,871,948 seconds; the fringe turns 8,400 times a second, so that a sector lasts 0.6 samples
+    # a microsecond a second: 2^24 knots of 32,768 samples are 6,871,948 seconds; the fringe turns 8,400 times a second, so that a sector lasts 0.6 samples:
+    # 8,400 * 16 * 4 samples a second would have four
     change(folder, f"poly Wb {START} {C0}", f"poly Wb {START} {C0} {round(1e-6 * RATE * 2 ** 32 * (2 ** 24 * 32768 / RATE))}")
     said = "the fringe of Wb CH01 turns 8400 times a second in scan No0001: a sector lasts 0.6 samples; its delay grows by 1e-06 seconds a second"
-    assert any(said in it for it in found())
+    assert any(said in it and "from 537600 samples a second on a sector lasts 4" in it for it in found())
 
 
 def test_workers_that_idle(folder: Path) -> None:

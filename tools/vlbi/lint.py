@@ -23,6 +23,7 @@ from vlbi.recording import Recording
 from vlbi.records import CELL, PLACE
 
 SECTOR = 4            # samples: a sector that lasts less is turned too fast
+EARTH = 1.6e-6        # seconds a second: a delay against the earth's centre grows by less
 MASER = 1e-12         # seconds a second: masers drift less
 JUMP = 1.0            # samples
 COVERED = 0.99        # the part of a scan that a recording should have
@@ -210,11 +211,11 @@ def delay_rate(night: Night, scan: Scan, key: str, stay: Stay) -> float:
 def fast_turn(asked: Asked, scan: Scan, key: str, channel: str, rate: float, turns: float) -> Finding:
     lasts = asked.rate / (rotation.SECTORS * turns)
     line = asked.line_of("poly", key) or asked.line_of("clock", key)
-    most = asked.rate / (rotation.SECTORS * SECTOR) * abs(rate) / turns
+    wanted = math.ceil(turns * rotation.SECTORS * SECTOR)
+    slower = f"so fast the earth turns: the sums are right, and take longer; from {wanted} samples a second on a sector lasts {SECTOR}"
+    wrong = f"the earth's turning makes at most {EARTH:g}: were the coefficients made for another rate, knot or unit?"
     return of_line(asked, line, f"the fringe of {key} {channel} turns {turns:.4g} times a second in scan {scan.name}: a sector lasts {lasts:.2g} samples; "
-                   f"its delay grows by {rate:.3g} seconds a second",
-                   f"below {most:.2g} a sector lasts {SECTOR} samples; the earth's turning makes at most 1.6e-06: were the coefficients made for another "
-                   "rate, knot or unit?")
+                   f"its delay grows by {rate:.3g} seconds a second", slower if abs(rate) <= EARTH else wrong)
 
 
 # Recordings

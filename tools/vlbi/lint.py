@@ -211,7 +211,7 @@ def delay_rate(night: Night, scan: Scan, key: str, stay: Stay) -> float:
 def fast_turn(asked: Asked, scan: Scan, key: str, channel: str, rate: float, turns: float) -> Finding:
     lasts = asked.rate / (rotation.SECTORS * turns)
     line = asked.line_of("poly", key) or asked.line_of("clock", key)
-    wanted = math.ceil(turns * rotation.SECTORS * SECTOR)
+    wanted = round(turns * rotation.SECTORS * SECTOR)
     slower = f"so fast the earth turns: the sums are right, and take longer; from {wanted} samples a second on a sector lasts {SECTOR}"
     wrong = f"the earth's turning makes at most {EARTH:g}: were the coefficients made for another rate, knot or unit?"
     return of_line(asked, line, f"the fringe of {key} {channel} turns {turns:.4g} times a second in scan {scan.name}: a sector lasts {lasts:.2g} samples; "

@@ -157,6 +157,18 @@ def test_samples_that_are_missing(folder: Path) -> None:
     assert "Station Ef: samples are missing in scan No0001; in No0001 80.0 % are there." in seen(folder, night_file(late({}), share=0.8))[1]
 
 
+def test_a_station_that_comes_late_lacks_nothing(folder: Path) -> None:
+    """Wb stands in the last 0.6 of 0.8 seconds."""
+    (folder / "sky.vex").write_text("""VEX_rev = 1.5; $MODE; def M; ref $FREQ = F; enddef;
+$FREQ; def F; sample_rate = 1 Ms/sec; chan_def = : 2 MHz : U : 0.5 MHz : &CH01; enddef;
+$SCHED; scan No0001; start = 2010y001d00h00m00s; mode = M; station = Ef : 0 sec : 0.8 sec; station = Wb : 0.2 sec : 0.8 sec; endscan;
+""")
+    (folder / "job.txt").write_text("\n".join(line for line in JOB.split("\n") if not re.match("(station|chan) (On|Mc)|rate|scan|band", line)))
+    (folder / "sky.vis").write_bytes(night_file(late({}), keys=KEYS[:2], share=0.75))
+    assert report.read(["sky.vis"], "job.txt", "sky.vex").scans[0].rows[0].share == 1.0
+    assert report.read(["sky.vis"]).scans[0].rows[0].share == 0.75
+
+
 @pytest.mark.parametrize("outer, judged", [(0.05, "too weak: 5 %"), (0.7, "too strong: 70 %")])
 def test_levels(folder: Path, outer: float, judged: str) -> None:
     """Of two bits' levels the mean square is 1 inside and 9 outside."""

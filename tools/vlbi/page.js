@@ -89,6 +89,7 @@ function sort(head) {
   head.dataset.down = down === 1 ? '1' : '0';
 }
 
+sections.slice(0, 2).forEach(fill);
 const near = new IntersectionObserver(seen => seen.filter(one => one.isIntersecting).forEach(one => fill(one.target)), { rootMargin: '1500px' });
 sections.forEach(section => near.observe(section));
 const idle = window.requestIdleCallback || (work => setTimeout(work, 50)), later = [...sections];

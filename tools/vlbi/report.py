@@ -49,7 +49,7 @@ class Row:
     state      `fringe`, `perhaps`, `none`, `unknown` where there are too few cells to tell, or `no pairs`
     lag, rate  of the peak in microseconds and hertz; NaN where there are no pairs
     amplitude  of the peak, in `unit`
-    share      the part of the scan's samples that were there, 0 to 1
+    share      the part of the samples in which both stations stand that were there, 0 to 1; of the scan's where nobody says the job
     rest       the part of the lag in microseconds that the job's whole delays leave; None where nobody says the job
     hertz      the sky frequency of the band's middle, negative in the lower sideband; None where nobody says it
     turned     whether the job turns it, so that its rate has a sign
@@ -217,8 +217,8 @@ def row_of(pair: plot.Pair, asked: joined.Asked | None) -> Row:
     best = cells["count"].sum(axis=0, dtype=numpy.float64).max(initial=0)
     edges = (float(fringe.rates[0]), float(fringe.rates[-1])) if len(fringe.rates) else (0.0, 0.0)
     return Row(
-        keys, product, state_of(fringe, pair.has_pairs), fringe.snr, fringe.lag * 1e6 / scan.head.rate, fringe.rate, fringe.amplitude * pair.scale, pair.unit,
-        float(best / max(scan.samples, 1)), rest_between(scan, keys, asked), middle(scan, keys[0], product[0], asked), bool(cells["im"].any()),
+        keys, product, state_of(fringe, pair.has_pairs), fringe.snr, fringe.lag * 1e6 / scan.head.rate, fringe.rate,
+        fringe.amplitude * pair.scale, pair.unit, min(1.0, float(best / max(due(scan, keys, asked), 1))), rest_between(scan, keys, asked), middle(scan, keys[0], product[0], asked), bool(cells["im"].any()),
         fewer(pair.over_lags()), fewer(pair.over_time() if pair.has_pairs else numpy.zeros(len(cells), numpy.complex128)), shaded(fringe.map), edges,
     )
 
@@ -256,6 +256,22 @@ def needed(places: int, chance: float) -> float:
     return math.sqrt(2 * math.log(places / chance))
 
 
+def due(scan: Scan, keys: tuple[str, str], asked: joined.Asked | None) -> int:
+    """The samples of a scan in which both stations stand; all where nobody says it."""
+    stays = stays_of(scan, asked)
+    if not all(key in stays for key in keys):
+        return scan.samples
+    return min(stays[key].end for key in keys) - max(stays[key].begin for key in keys)
+
+
+def stays_of(scan: Scan, asked: joined.Asked | None) -> dict[str, joined.Stay]:
+    """The stations' parts of a scan; none where nobody says them."""
+    for one in asked.scans if asked else ():
+        if (one.name, one.start) == (scan.name, scan.start):
+            return one.stays
+    return {}
+
+
 def rest_between(scan: Scan, keys: tuple[str, str], asked: joined.Asked | None) -> float | None:
     """What whole delays leave of the second station's delay less the first's, in microseconds, in the mean over a scan."""
     if asked is None:
@@ -278,10 +294,8 @@ def middle(scan: Scan, key: str, channel: str, asked: joined.Asked | None) -> fl
 
 def band_of(scan: Scan, key: str, channel: str, asked: joined.Asked | None) -> tuple[int, str] | None:
     """Sky frequency and sideband of a station's channel in a scan; None where nobody says them."""
-    for one in asked.scans if asked else ():
-        if (one.name, one.start) == (scan.name, scan.start) and key in one.stays:
-            return one.stays[key].bands.get(channel)
-    return None
+    stays = stays_of(scan, asked)
+    return stays[key].bands.get(channel) if key in stays else None
 
 
 # Stations with themselves

@@ -214,21 +214,27 @@ def row_of(pair: plot.Pair, asked: joined.Asked | None) -> Row:
     scan, fringe = pair.scan, pair.fringe
     cells = scan.cells[:, pair.product, pair.baseline]
     keys, product = scan.baseline_keys[pair.baseline], scan.head.products[pair.product]
-    best = cells["count"].sum(axis=0, dtype=numpy.float64).max(initial=0)
-    edges = (float(fringe.rates[0]), float(fringe.rates[-1])) if len(fringe.rates) else (0.0, 0.0)
+    best = float(cells["count"].sum(axis=0, dtype=numpy.float64).max(initial=0))
+    times = pair.over_time() if pair.has_pairs else numpy.zeros(len(cells), numpy.complex128)
     return Row(
         keys, product, state_of(fringe, pair.has_pairs), fringe.snr, fringe.lag * 1e6 / scan.head.rate, fringe.rate,
-        fringe.amplitude * pair.scale, pair.unit, min(1.0, float(best / max(due(scan, keys, asked), 1))), rest_between(scan, keys, asked), middle(scan, keys[0], product[0], asked), bool(cells["im"].any()),
-        fewer(pair.over_lags()), fewer(pair.over_time() if pair.has_pairs else numpy.zeros(len(cells), numpy.complex128)), shaded(fringe.map), edges,
+        fringe.amplitude * pair.scale, pair.unit,
+        share=min(1.0, best / max(due(scan, keys, asked), 1)),
+        rest=rest_between(scan, keys, asked),
+        hertz=middle(scan, keys[0], product[0], asked),
+        turned=bool(cells["im"].any()),
+        lags=fewer(pair.over_lags()), times=fewer(times), map=shaded(fringe.map),
+        rates=(float(fringe.rates[0]), float(fringe.rates[-1])) if len(fringe.rates) else (0.0, 0.0),
     )
 
 
 def fewer(means: Complexes) -> Complexes:
     """At most POINTS of these: each the first of the greatest of those that it stands for. What is not there is 0."""
     there = numpy.nan_to_num(means)
-    padded = numpy.pad(there, (0, -len(there) % max(1, -(-len(there) // POINTS)))).reshape(-1, max(1, -(-len(there) // POINTS)))
-    if padded.size == 0:
+    each = -(-len(there) // POINTS)
+    if each <= 1:
         return there
+    padded = numpy.pad(there, (0, -len(there) % each)).reshape(-1, each)
     found: Complexes = numpy.take_along_axis(padded, abs(padded).argmax(axis=1)[:, None], axis=1)[:, 0]
     return found
 

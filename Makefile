@@ -3,7 +3,7 @@
 # make example the same by the proved program
 # make test    prove everything, try the edits that must fail, run the tests and the programs
 # make fringe  simulate two stations, correlate them, draw the fringe in fringe/ and compare it with theory
-# make install PREFIX=/usr/local DESTDIR=    install the program, its manual pages, the Python tools and modules, and the documents
+# make install PREFIX=/usr/local DESTDIR=    install the program, its manual pages, the Python tools and modules, completion and the documents
 # make deb     make a Debian package of what is installed, bin/vlbi_VERSION_ARCH.deb
 #
 # With CPU=x86-64-v3 the program that is installed or packed is built for processors with AVX2, from the same proved source. With JOBS=N
@@ -24,6 +24,7 @@ BUILT = bin/vlbi$(CPU:%=-%)
 TO = $(DESTDIR)$(PREFIX)
 # Debian's python3 looks for packages in one folder below /usr, and below /usr/local in one for each version.
 LIB = lib/$(if $(filter /usr/local,$(PREFIX)),$(shell $(PYTHON) -c 'import sys; print("python%d.%d" % sys.version_info[:2])'),python3)/dist-packages
+ZSH = share/zsh/$(if $(filter /usr,$(PREFIX)),vendor-completions,site-functions)
 COMMANDS = $(shell sed -n 's/^vlbi-\([a-z]*\) = .*/\1/p' tools/pyproject.toml)
 PACKAGE = bin/vlbi_$(VERSION)_$(ARCH).deb
 
@@ -60,12 +61,16 @@ fringe: bin/vlbi
 install: $(BUILT)
 	@install -d $(TO)/bin $(TO)/$(LIB)/vlbi/commands $(TO)/share/man/man1 $(TO)/share/doc/vlbi/docs/pictures $(TO)/share/doc/vlbi/demo
 	@install -m 755 $(BUILT) $(TO)/bin/vlbi
-	@install -m 644 tools/vlbi/*.py tools/vlbi/py.typed $(TO)/$(LIB)/vlbi
+	@install -m 644 tools/vlbi/*.py tools/vlbi/*.css tools/vlbi/*.js tools/vlbi/py.typed $(TO)/$(LIB)/vlbi
 	@install -m 644 tools/vlbi/commands/*.py $(TO)/$(LIB)/vlbi/commands
 	@sed -i 's/^__version__ = .*/__version__ = "$(VERSION)"/' $(TO)/$(LIB)/vlbi/__init__.py
 	@for name in $(COMMANDS); do rm -f $(TO)/bin/vlbi-$$name; \
 	    sed "s|@PYTHON@|$(PYTHON)|; s|@LIB@|$(LIB)|; s|@NAME@|$$name|" packaging/command > $(TO)/bin/vlbi-$$name; chmod 755 $(TO)/bin/vlbi-$$name; done
 	@for page in man/*.1; do sed 's|/usr/share/doc/vlbi|$(PREFIX)/share/doc/vlbi|' $$page | gzip -9n > $(TO)/share/man/man1/$${page##*/}.gz; done
+	@install -d $(TO)/share/bash-completion/completions $(TO)/$(ZSH)
+	@cd tools && $(PYTHON) -B -m vlbi.completion bash > $(abspath $(TO))/share/bash-completion/completions/vlbi
+	@cd tools && $(PYTHON) -B -m vlbi.completion zsh > $(abspath $(TO))/$(ZSH)/_vlbi
+	@for name in $(COMMANDS); do ln -sf vlbi $(TO)/share/bash-completion/completions/vlbi-$$name; done
 	@install -m 644 README.md $(TO)/share/doc/vlbi
 	@install -m 644 docs/*.md $(TO)/share/doc/vlbi/docs
 	@install -m 644 docs/pictures/* $(TO)/share/doc/vlbi/docs/pictures

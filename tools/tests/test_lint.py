@@ -7,8 +7,9 @@ from pathlib import Path
 
 import pytest
 
-from vlbi import joined, recording, simulate
+from vlbi import coverage, joined, simulate
 from vlbi import lint as linting
+from vlbi import words as known
 from vlbi.commands import lint
 
 RATE, SECONDS = 80_000, 2
@@ -39,7 +40,7 @@ def change(folder: Path, old: str, new: str, name: str = "job.txt") -> None:
 
 
 def found(machine: linting.Machine = MACHINE, schedule: str | None = "sky.vex") -> list[str]:
-    return [str(one) for one in linting.findings(linting.Night(joined.read("job.txt", schedule)), machine)]
+    return [str(one) for one in linting.findings(coverage.Night(joined.read("job.txt", schedule)), machine)]
 
 
 def number(folder: Path, front: str) -> int:
@@ -50,7 +51,7 @@ def number(folder: Path, front: str) -> int:
 def test_a_good_job_has_no_finding(folder: Path) -> None:
     assert found() == []
     asked = joined.read("job.txt", "sky.vex")
-    night = linting.Night(asked)
+    night = coverage.Night(asked)
     assert list(linting.tables(night)) == [
         "recording Ef.vdif of Ef: 8 slots, 2010y001d00h00m00s to 2010y001d00h00m02s",
         "recording Wb.vdif of Wb: 8 slots, 2010y001d00h00m00s to 2010y001d00h00m02s",
@@ -69,17 +70,22 @@ LINES = [
     # what is changed, the line that is named, what is said, what is written instead
     ("epoch 10000", "epoch 3000", "epoch", "an integration of 10000 samples is no whole number of epochs: the last one of each has 1000", "write: epoch 2500"),
     ("clock Wb 2010y001d00h00m00s 858993459 0", "clock Wb 2010y001d00h00m00s 858993459 3436", "clock Wb",
-     "the clock of Wb gains 1e-11 seconds a second, and masers stay below 1e-12", "measure it again; 1e-12 is written: clock Wb 2010y001d00h00m00s 858993459 344"),
+     "the clock of Wb gains 1e-11 seconds a second, and masers stay below 1e-12",
+     "measure it again; 1e-12 is written: clock Wb 2010y001d00h00m00s 858993459 344"),
     (f"poly Wb {START} {C0}\n", "", "station Wb", "Wb has no `poly` line and Ef has one: its delay is taken as 0",
      "write, where that is meant: poly Wb 2010y001d00h00m00s 0"),
     (f"poly Wb {START} {C0}\n", f"poly Wb {START} {C0}\npoly Wb 2010y001d00h00m01s {2 * C0}\n", "poly Wb 2010y001d00h00m01s",
      "the delay of Wb jumps by 80 samples (1000 microseconds) inside scan No0001", f"the line before it goes on as: poly Wb 2010y001d00h00m01s {C0}"),
     ("chan Wb CH01 0 0\n", "", "station Wb", "Wb has no `chan` line of CH01, which a product has", "write: chan Wb CH01 THREAD INDEX"),
-    ("chan Wb CH01 0 0\n", "chan Wb CH1 0 0\n", "station Wb", "Wb has no `chan` line of CH01, which a product has; is `CH1` meant?", "write: chan Wb CH01 THREAD INDEX"),
-    ("chan Wb CH01 0 0\n", "chan Wb CH01 3 0\n", "chan Wb", "the recordings of Wb have no frame of thread 3: they have the threads 0", "write: chan Wb CH01 0 0"),
+    ("chan Wb CH01 0 0\n", "chan Wb CH1 0 0\n", "station Wb", "Wb has no `chan` line of CH01, which a product has; is `CH1` meant?",
+     "write: chan Wb CH01 THREAD INDEX"),
+    ("chan Wb CH01 0 0\n", "chan Wb CH01 3 0\n", "chan Wb", "the recordings of Wb have no frame of thread 3: they have the threads 0",
+     "write: chan Wb CH01 0 0"),
     ("file Wb Wb.vdif\n", "", "station Wb", "Wb has no recording", "write: file Wb NAME"),
-    ("file Wb Wb.vdif\n", "file Wb WB.vdif\n", "file Wb", "WB.vdif: there is no such file in {folder}; is `Wb.vdif` meant?", "correct the name: file Wb WB.vdif"),
-    ("station Wb 2 2 1 5032", "station Wb 2 2 2 5032", "station Wb", "no slot of Wb.vdif has the shape of `station Wb 2 2 2 5032`", "its first frame is: station Wb 2 2 1 5032"),
+    ("file Wb Wb.vdif\n", "file Wb WB.vdif\n", "file Wb", "WB.vdif: there is no such file in {folder}; is `Wb.vdif` meant?",
+     "correct the name: file Wb WB.vdif"),
+    ("station Wb 2 2 1 5032", "station Wb 2 2 2 5032", "station Wb", "no slot of Wb.vdif has the shape of `station Wb 2 2 2 5032`",
+     "its first frame is: station Wb 2 2 1 5032"),
 ]
 
 
@@ -98,9 +104,11 @@ def test_lags_and_clocks(folder: Path) -> None:
 
 
 def test_a_fringe_that_turns_too_fast(folder: Path) -> None:
-    # a microsecond a second: 2^24 knots of 32,768 samples are 6,871,948 seconds; the fringe turns 8,400 times a second, so that a sector lasts 0.6 samples
+    # a microsecond a second: 2^24 knots of 32,768 samples are 6,871,948 seconds; the fringe turns 8,400 times a second, so that a sector lasts 0.6 samples:
+    # 8,400 * 16 * 4 samples a second would have four
     change(folder, f"poly Wb {START} {C0}", f"poly Wb {START} {C0} {round(1e-6 * RATE * 2 ** 32 * (2 ** 24 * 32768 / RATE))}")
-    assert any("the fringe of Wb CH01 turns 8400 times a second in scan No0001: a sector lasts 0.6 samples; its delay grows by 1e-06 seconds a second" in it for it in found())
+    said = "the fringe of Wb CH01 turns 8400 times a second in scan No0001: a sector lasts 0.6 samples; its delay grows by 1e-06 seconds a second"
+    assert any(said in it and "from 537600 samples a second on a sector lasts 4" in it for it in found())
 
 
 def test_workers_that_idle(folder: Path) -> None:
@@ -114,7 +122,8 @@ def test_a_channel_that_the_schedule_has_not(folder: Path) -> None:
     for old, new in (("chan Wb CH01", "chan Wb CH1"), ("chan Ef CH01", "chan Ef CH1"), ("product CH01 CH01", "product CH1 CH1")):
         change(folder, old, new)
     said = found()
-    assert f"job.txt:{number(folder, 'chan Wb')}: the channel CH1 of Wb is not in the schedule, where it has CH01\n    write its name there; is `CH01` meant?" in said
+    line = number(folder, "chan Wb")
+    assert f"job.txt:{line}: the channel CH1 of Wb is not in the schedule, where it has CH01\n    write its name there; is `CH01` meant?" in said
     assert said[-1].startswith("job.txt: this run would have no pairs at all: all of its 1 scans, baselines and products are without one")
 
 
@@ -157,7 +166,7 @@ def test_a_recording_that_is_cut_off(folder: Path) -> None:
 
 
 def test_a_job_of_too_many_slots_is_split(folder: Path, monkeypatch: pytest.MonkeyPatch) -> None:
-    monkeypatch.setattr(recording, "MOST_SLOTS", 15)
+    monkeypatch.setattr(known, "MOST_SLOTS", 15)
     said = found(schedule="sky.vex")
     assert said[0].startswith("job.txt: the recordings have 16 slots, and a job may have 15\n    split it, and name in each the files of its scans alone: ")
     assert said[0].endswith("job 1: take No0001 (16 slots); scan No0001 alone has too many: cut it in the schedule")
@@ -188,7 +197,8 @@ def test_epochs_of_which_the_syncs_dominate(folder: Path) -> None:
 
 
 def test_a_job_that_states_its_scans(folder: Path) -> None:
-    (folder / "job.txt").write_text((folder / "job.txt").read_text() + f"rate {RATE}\nscan A {START} 80000\nscan B 2010y001d01h00m00s 80000\nband CH01 8400000000 U\n")
+    own = f"rate {RATE}\nscan A {START} 80000\nscan B 2010y001d01h00m00s 80000\nband CH01 8400000000 U\n"
+    (folder / "job.txt").write_text((folder / "job.txt").read_text() + own)
     said = found(schedule=None)
     assert [line.split("\n")[0].split(": ", 1)[1] for line in said] == [
         "Ef CH01 has 0 % of its 80000 samples in scan B (2010y001d01h00m00s to 2010y001d01h00m01s)",

@@ -163,6 +163,15 @@ class Plan:
         whole, more = divmod(epochs, -(-self.integration // self.epoch))
         return min(whole * self.integration + more * self.epoch, scan.samples)
 
+    def cells_of(self, scan: Scan) -> int:
+        """The cells of an epoch of a scan: baselines times products times lags."""
+        return len(scan.baselines) * len(self.products) * self.lags
+
+    @property
+    def pairs(self) -> int:
+        """The samples of all scans, each times the cells of its scan."""
+        return sum(scan.samples * self.cells_of(scan) for scan in self.scans)
+
     @property
     def epochs(self) -> int:
         return sum(self.epochs_of(scan) for scan in self.scans)

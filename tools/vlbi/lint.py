@@ -1,7 +1,7 @@
 """What is wrong or unwise with a job before hours are spent: its lines, its delays and clocks, its recordings, what it will cost.
 
     asked = joined.read("job.txt", "sky.vex")
-    night = lint.Night(asked)
+    night = coverage.Night(asked)
     for finding in lint.findings(night, lint.Machine(workers=4)):
         print(finding)
 
@@ -10,23 +10,20 @@ It is the command `vlbi-lint`. What the proved program refuses is found by the p
 from __future__ import annotations
 
 import dataclasses
-import functools
 import math
-import os
 from collections.abc import Callable, Iterator, Sequence
 
 import numpy
-from numpy.typing import NDArray
 
 from vlbi import job as jobs
-from vlbi import recording, refusal, rotation, vex, work
+from vlbi import recording, refusal, rotation, vex, words, work
+from vlbi.coverage import Night, moment
 from vlbi.joined import Asked, Line, Scan, Stay
 from vlbi.recording import Recording
 from vlbi.records import CELL, PLACE
 
-Reals = NDArray[numpy.float64]
-
 SECTOR = 4            # samples: a sector that lasts less is turned too fast
+EARTH = 1.6e-6        # seconds a second: a delay against the earth's centre grows by less
 MASER = 1e-12         # seconds a second: masers drift less
 JUMP = 1.0            # samples
 COVERED = 0.99        # the part of a scan that a recording should have
@@ -68,100 +65,6 @@ class Machine:
     free: int | None = None
 
 
-@dataclasses.dataclass(frozen=True, eq=False)
-class Covered:
-    """The samples of a station's channel in a scan that are there: stretches from each of `begins` up to that of `ends`, rising."""
-
-    begins: Reals
-    ends: Reals
-
-    @property
-    def samples(self) -> float:
-        return float((self.ends - self.begins).sum())
-
-    def upto(self, places: Reals) -> Reals:
-        """How many of them are before each place."""
-        if len(self.begins) == 0:
-            return numpy.zeros_like(places)
-        sums = numpy.concatenate([[0.0], numpy.cumsum(self.ends - self.begins)])
-        number = numpy.searchsorted(self.begins, places, side="right")
-        inside = numpy.where(number > 0, numpy.maximum(self.ends[number - 1] - places, 0.0), 0.0)
-        found: Reals = sums[number] - inside
-        return found
-
-    def shared(self, other: Covered, apart: float) -> float:
-        """How many of them stand within so many samples of one of the other's, or more."""
-        return float((other.upto(self.ends + apart) - other.upto(self.begins - apart)).sum())
-
-
-class Night:
-    """A job with its recordings, which are looked at when they are asked for."""
-
-    def __init__(self, asked: Asked) -> None:
-        self.asked = asked
-        self.delays = rotation.Delays(asked.by_word, asked.rate)
-        self.channels = list(dict.fromkeys(channel for product in asked.plan.products for channel in product))
-
-    @functools.cached_property
-    def slots(self) -> int:
-        """The slots of all recordings that are there."""
-        return sum(
-            os.path.getsize(path) // self.asked.shapes[key].frame
-            for key, files in self.asked.files.items() for path, _ in files if os.path.isfile(path)
-        )
-
-    @functools.cached_property
-    def recordings(self) -> dict[str, list[Recording]]:
-        """The Recordings of each station that can be read; of more slots than a job may have only the first and the last of each."""
-        ends = self.slots > recording.MOST_SLOTS
-        return {
-            key: [recording.look(path, self.asked.shapes[key], self.asked.rate, ends) for path, _ in files if not refusal.why_not(path)]
-            for key, files in self.asked.files.items()
-        }
-
-    def place(self, key: str, channel: str) -> tuple[int, int] | None:
-        """Thread and index of a station's channel; None where no line says them."""
-        line = self.asked.line_of("chan", key, channel)
-        return (jobs.whole(line.fields[2]), jobs.whole(line.fields[3])) if line else None
-
-    def late(self, scan: Scan, key: str, samples: Reals) -> Reals:
-        """A station's delay in samples at samples of a scan."""
-        seconds = samples / self.asked.rate
-        return self.delays.samples(key, scan.start, numpy.stack([seconds, seconds], axis=1))[:, 0]
-
-    def covered(self, scan: Scan, key: str, channel: str) -> Covered:
-        """The samples of a station's channel in a scan that are there."""
-        stay, place = scan.stays[key], self.place(key, channel)
-        if place is None or channel not in stay.bands or stay.end <= stay.begin:
-            return Covered(numpy.zeros(0), numpy.zeros(0))
-        return self.covered_by(scan, key, place[0])
-
-    @functools.lru_cache(maxsize=None)
-    def covered_by(self, scan: Scan, key: str, thread: int) -> Covered:
-        """The same of all channels of a thread."""
-        stay, size = scan.stays[key], self.asked.shapes[key].samples
-        a_second = max(self.asked.rate // max(size, 1), 1)
-        places = ((recording.joined(self.recordings[key], thread) - scan.start * a_second) * size).astype(numpy.float64)
-        furthest = abs(self.late(scan, key, numpy.array([stay.begin, (stay.begin + stay.end) / 2, stay.end], numpy.float64))).max() + size
-        places = places[(places + size > stay.begin - furthest) & (places < stay.end + furthest)]
-        begins, ends = (edge - numpy.round(self.late(scan, key, edge - self.late(scan, key, edge))) for edge in (places, places + size))
-        begins, ends = numpy.maximum(begins, stay.begin), numpy.minimum(ends, stay.end)
-        if len(begins) > 1:
-            ends[:-1] = numpy.minimum(ends[:-1], begins[1:])
-        there = ends > begins
-        return Covered(begins[there], ends[there])
-
-    def share(self, scan: Scan, key: str, channel: str) -> float:
-        """The part of a station's samples in a scan that are there, 0 to 1."""
-        stay = scan.stays[key]
-        return self.covered(scan, key, channel).samples / max(stay.end - stay.begin, 1)
-
-    def has_pairs(self, scan: Scan, baseline: tuple[str, str], product: tuple[str, str]) -> bool:
-        """Whether a baseline and product have any pair of samples at any lag."""
-        first, second = (self.covered(scan, key, channel) for key, channel in zip(baseline, product))
-        return first.shared(second, self.asked.plan.lags / 2) > 0
-
-
 def findings(night: Night, machine: Machine) -> Iterator[Finding]:
     """All that is to be looked at, from the job's lines to the disk."""
     asked = night.asked
@@ -173,6 +76,11 @@ def findings(night: Night, machine: Machine) -> Iterator[Finding]:
     )
     for row in rows:
         yield from row()
+
+
+def named(names: Sequence[str]) -> str:
+    """Names in words, the first ones of many."""
+    return ", ".join(names[:LISTED]) + (f" and {len(names) - LISTED} more" if len(names) > LISTED else "")
 
 
 def of_line(asked: Asked, line: Line | None, what: str, instead: str = "") -> Finding:
@@ -197,7 +105,8 @@ def lags(asked: Asked, machine: Machine) -> Iterator[Finding]:
     reach = asked.plan.lags / 2 / asked.rate * 1e6
     if reach < wanted:
         many = 2 * math.ceil(wanted * asked.rate / 1e6)
-        instead = f"write: lags {many}" if many <= 1024 else f"write: lags 1024, which reach {512e6 / asked.rate:.3g} microseconds, or find the clocks by few seconds first"
+        most = f"write: lags 1024, which reach {512e6 / asked.rate:.3g} microseconds, or find the clocks by few seconds first"
+        instead = f"write: lags {many}" if many <= 1024 else most
         yield of_line(asked, asked.line_of("lags"), f"{asked.plan.lags} lags reach {reach:.3g} microseconds to either side; two clocks that are known to "
                       f"{machine.known:g} microseconds each may be off by {wanted:g} (--known)", instead)
 
@@ -224,7 +133,8 @@ def pieces(asked: Asked, machine: Machine) -> Iterator[Finding]:
         cause = f"a piece of {piece} samples" if piece else f"an epoch of {plan.epoch} samples"
         other = work.pieces(plan, chosen) >= machine.workers
         instead = f"write: --piece {chosen}" if piece and other else f"write: --workers {many}, or a longer `epoch`"
-        yield of_line(asked, asked.line_of("epoch"), f"{cause} leaves {machine.workers - many} of {machine.workers} workers idle: an epoch has {many} pieces", instead)
+        yield of_line(asked, asked.line_of("epoch"),
+                      f"{cause} leaves {machine.workers - many} of {machine.workers} workers idle: an epoch has {many} pieces", instead)
     if piece and piece < work.LEAST_PIECE and chosen > piece:
         yield of_line(asked, None, f"pieces of {piece} samples are so short that workers draw more than they sum", f"write: --piece {chosen}")
 
@@ -234,10 +144,11 @@ def pieces(asked: Asked, machine: Machine) -> Iterator[Finding]:
 def clocks(asked: Asked) -> Iterator[Finding]:
     """Clocks that drift more than masers do, and stations of which no clock is given."""
     for line in asked.of_word("clock"):
-        drift = jobs.whole(line.fields[3]) / (asked.rate * 2 ** 32)
-        if abs(drift) > MASER:
-            number = round(math.copysign(MASER, drift) * asked.rate * 2 ** 32)
-            key, when, offset, _ = line.fields
+        key, when, offset, counts = line.fields
+        most = round(MASER * asked.rate * 2 ** 32)
+        if abs(jobs.whole(counts)) > most:
+            drift = jobs.whole(counts) / (asked.rate * 2 ** 32)
+            number = most if drift > 0 else -most
             yield of_line(asked, line, f"the clock of {key} gains {drift:.3g} seconds a second, and masers stay below {MASER:g}",
                           f"measure it again; {MASER:g} is written: clock {key} {when} {offset} {number}")
 
@@ -247,9 +158,10 @@ def missing_models(asked: Asked) -> Iterator[Finding]:
     first = min((scan.start for scan in asked.scans), default=0)
     for word, zero, is_then in (("poly", "0", "its delay is taken as 0"), ("clock", "0 0", "its clock is taken as right")):
         having = {line.fields[0] for line in asked.of_word(word)}
+        others = f"{named(sorted(having))} {'has' if len(having) == 1 else 'have'} one"
         for key in asked.shapes:
             if having and key not in having:
-                yield of_line(asked, asked.line_of("station", key), f"{key} has no `{word}` line and {', '.join(sorted(having)[:LISTED])} {'has' if len(having) == 1 else 'have'} one: {is_then}",
+                yield of_line(asked, asked.line_of("station", key), f"{key} has no `{word}` line and {others}: {is_then}",
                               f"write, where that is meant: {word} {key} {vex.vex_time(first)} {zero}")
 
 
@@ -266,7 +178,8 @@ def joints(night: Night) -> Iterator[Finding]:
             if abs(jump) > JUMP:
                 line = next(one for one in asked.of_word("poly", key) if vex.second_of(one.fields[1]) == when)
                 whole = " ".join(map(str, [new[0] - round(float(right - left)), *new[1:]]))
-                yield of_line(asked, line, f"the delay of {key} jumps by {jump:.6g} samples ({jump / asked.rate * 1e6:.4g} microseconds) inside scan {scan.name}",
+                size = f"{jump:.6g} samples ({jump / asked.rate * 1e6:.4g} microseconds)"
+                yield of_line(asked, line, f"the delay of {key} jumps by {size} inside scan {scan.name}",
                               f"the line before it goes on as: poly {key} {line.fields[1]} {whole}")
 
 
@@ -298,24 +211,24 @@ def delay_rate(night: Night, scan: Scan, key: str, stay: Stay) -> float:
 def fast_turn(asked: Asked, scan: Scan, key: str, channel: str, rate: float, turns: float) -> Finding:
     lasts = asked.rate / (rotation.SECTORS * turns)
     line = asked.line_of("poly", key) or asked.line_of("clock", key)
-    most = asked.rate / (rotation.SECTORS * SECTOR) * abs(rate) / turns
+    wanted = round(turns * rotation.SECTORS * SECTOR)
+    slower = f"so fast the earth turns: the sums are right, and take longer; from {wanted} samples a second on a sector lasts {SECTOR}"
+    wrong = f"the earth's turning makes at most {EARTH:g}: were the coefficients made for another rate, knot or unit?"
     return of_line(asked, line, f"the fringe of {key} {channel} turns {turns:.4g} times a second in scan {scan.name}: a sector lasts {lasts:.2g} samples; "
-                   f"its delay grows by {rate:.3g} seconds a second",
-                   f"below {most:.2g} a sector lasts {SECTOR} samples; the earth's turning makes at most 1.6e-06: were the coefficients made for another "
-                   "rate, knot or unit?")
+                   f"its delay grows by {rate:.3g} seconds a second", slower if abs(rate) <= EARTH else wrong)
 
 
 # Recordings
 
 def slots(night: Night) -> Iterator[Finding]:
     """More slots than a job may have, and how to split it."""
-    if night.slots <= recording.MOST_SLOTS:
+    if night.slots <= words.MOST_SLOTS:
         return
     groups = list(split(night))
-    words = [f"job {number}: {', '.join(f'take {scan.name}' for scan in group)} ({many} slots)" for number, (group, many) in enumerate(groups, 1)]
-    words += [f"scan {group[0].name} alone has too many: cut it in the schedule" for group, many in groups if many > recording.MOST_SLOTS]
-    yield Finding(night.asked.path, None, f"the recordings have {night.slots} slots, and a job may have {recording.MOST_SLOTS}",
-                  f"split it, and name in each the files of its scans alone: {'; '.join(words)}")
+    said = [f"job {number}: {', '.join(f'take {scan.name}' for scan in group)} ({many} slots)" for number, (group, many) in enumerate(groups, 1)]
+    said += [f"scan {group[0].name} alone has too many: cut it in the schedule" for group, many in groups if many > words.MOST_SLOTS]
+    yield Finding(night.asked.path, None, f"the recordings have {night.slots} slots, and a job may have {words.MOST_SLOTS}",
+                  f"split it, and name in each the files of its scans alone: {'; '.join(said)}")
 
 
 def split(night: Night) -> Iterator[tuple[list[Scan], int]]:
@@ -324,7 +237,7 @@ def split(night: Night) -> Iterator[tuple[list[Scan], int]]:
     many = 0
     for scan in night.asked.scans:
         more = sum(one.slots for one in needed([*group, scan], night))
-        if group and more > recording.MOST_SLOTS:
+        if group and more > words.MOST_SLOTS:
             yield group, many
             group, more = [], sum(one.slots for one in needed([scan], night))
         group, many = [*group, scan], more
@@ -334,16 +247,7 @@ def split(night: Night) -> Iterator[tuple[list[Scan], int]]:
 
 def needed(scans: Sequence[Scan], night: Night) -> list[Recording]:
     """The recordings that hold something of these scans."""
-    return [one for key, recordings in night.recordings.items() for one in recordings if any(overlaps(one, scan, key, night) for scan in scans)]
-
-
-def overlaps(one: Recording, scan: Scan, key: str, night: Night) -> bool:
-    """Whether a recording's time has something of a station's part of a scan, at its delays."""
-    if one.times is None or key not in scan.stays:
-        return False
-    edges = numpy.array([scan.stays[key].begin, scan.stays[key].end], numpy.float64)
-    first, last = scan.start + (edges + night.late(scan, key, edges)) / night.asked.rate
-    return bool(one.times[0] < last and one.times[1] > first)
+    return [one for key, recordings in night.recordings.items() for one in recordings if any(night.overlaps(one, scan, key) for scan in scans)]
 
 
 def files(night: Night) -> Iterator[Finding]:
@@ -375,7 +279,7 @@ def of_file(night: Night, key: str, one: Recording, line: Line) -> Iterator[Find
         seen = recording.first_shape(one.path, key)
         yield of_line(asked, asked.line_of("station", key), f"no slot of {one.path} has the shape of `{shape.line()}`",
                       f"its first frame is: {seen[0].line()}" if seen else "")
-    elif one.times and asked.scans and not any(overlaps(one, scan, key, night) for scan in asked.scans):
+    elif one.times and asked.scans and not any(night.overlaps(one, scan, key) for scan in asked.scans):
         yield of_line(asked, line, f"{one.path} holds nothing of a scan that is taken: it goes from {moment(one.times[0])} to {moment(one.times[1])}",
                       nearest(night, key, one))
 
@@ -415,10 +319,11 @@ def places(night: Night) -> Iterator[Finding]:
                 yield of_line(asked, asked.line_of("station", key), f"{key} has no `chan` line of {channel}, which a product has{refusal.likely(channel, own)}",
                               f"write: chan {key} {channel} THREAD INDEX")
             elif channel not in bands:
-                where = f"the schedule, where it has {', '.join(bands[:LISTED])}" if asked.schedule else "a `band` line"
+                where = f"the schedule, where it has {named(bands)}" if asked.schedule else "a `band` line"
                 yield of_line(asked, line, f"the channel {channel} of {key} is not in {where}", f"write its name there{refusal.likely(channel, bands)}")
             elif threads and at[0] not in threads:
-                yield of_line(asked, line, f"the recordings of {key} have no frame of thread {at[0]}: they have the threads {', '.join(map(str, threads[:LISTED]))}",
+                there = named([str(thread) for thread in threads])
+                yield of_line(asked, line, f"the recordings of {key} have no frame of thread {at[0]}: they have the threads {there}",
                               f"write: chan {key} {channel} {threads[0]} {at[1]}" if len(threads) == 1 else f"write one of these in: {line}")
 
 
@@ -443,12 +348,14 @@ def gap_of(night: Night, scan: Scan, key: str, stay: Stay, channel: str) -> Find
     what = f"{key} {channel} has {share * 100:.4g} % of its {stay.end - stay.begin} samples in scan {scan.name} ({first} to {last})"
     if not len(covered.begins):
         times = [one.times for one in night.recordings[key] if one.times]
-        span = f"its recordings go from {moment(min(begin for begin, _ in times))} to {moment(max(end for _, end in times))}" if times else "its recordings hold nothing"
+        edges = min((begin for begin, _ in times), default=0.0), max((end for _, end in times), default=0.0)
+        span = f"its recordings go from {moment(edges[0])} to {moment(edges[1])}" if times else "its recordings hold nothing"
         shift = min((begin - scan.start - stay.begin / asked.rate for begin, _ in times), key=abs, default=0.0)
         return of_line(asked, line, what, f"{span}, {shift:+.6g} s from the scan's begin: name the right file, or correct the schedule's time or the delay")
     begins, ends = (float(edge) / asked.rate for edge in (covered.begins[0] - stay.begin, stay.end - covered.ends[-1]))
     inside = (stay.end - stay.begin - covered.samples) / asked.rate - begins - ends
-    return of_line(asked, line, what, f"{begins:.4g} s are missing at the begin, {ends:.4g} s at the end, {max(inside, 0):.4g} s between: is a file of {key} not named?")
+    return of_line(asked, line, what, f"{begins:.4g} s are missing at the begin, {ends:.4g} s at the end, {max(inside, 0):.4g} s between: "
+                   f"is a file of {key} not named?")
 
 
 def pairs(night: Night) -> Iterator[Finding]:
@@ -464,8 +371,8 @@ def pairs(night: Night) -> Iterator[Finding]:
     by_scan: dict[str, list[str]] = {}
     for scan, (a, b), (x, y) in empty:
         by_scan.setdefault(scan.name, []).append(f"{a}-{b} {x},{y}")
-    for name, words in by_scan.items():
-        yield Finding(asked.path, None, f"no pairs in scan {name} on {', '.join(words[:LISTED])}" + (f" and {len(words) - LISTED} more" if len(words) > LISTED else ""),
+    for name, said in by_scan.items():
+        yield Finding(asked.path, None, f"no pairs in scan {name} on {named(said)}",
                       "mend what is said above of these stations, or leave the scan out by `take` lines of the others")
 
 
@@ -481,25 +388,19 @@ def record_bytes(asked: Asked) -> int:
 def journal_bytes(asked: Asked) -> int:
     """The bytes of the journal's epochs."""
     plan = asked.plan
-    return sum(plan.epochs_of(scan) * (1 + len(plan.products) * len(scan.baselines) * plan.lags * CELL.itemsize) for scan in plan.scans)
+    return sum(plan.epochs_of(scan) * (1 + plan.cells_of(scan) * CELL.itemsize) for scan in plan.scans)
 
 
 def disk(asked: Asked, machine: Machine) -> Iterator[Finding]:
     """Records and journal that are larger than the disk."""
     total = record_bytes(asked) + journal_bytes(asked)
     if machine.free is not None and total > machine.free:
-        yield of_line(asked, asked.line_of("integration"), f"records of {record_bytes(asked)} bytes and a journal of {journal_bytes(asked)} bytes are more than the "
-                      f"{machine.free} that are free here", "take a longer `integration` and `epoch`, fewer lags, or some scans by `take` lines; or work on another disk")
+        both = f"records of {record_bytes(asked)} bytes and a journal of {journal_bytes(asked)} bytes"
+        yield of_line(asked, asked.line_of("integration"), f"{both} are more than the {machine.free} that are free here",
+                      "take a longer `integration` and `epoch`, fewer lags, or some scans by `take` lines; or work on another disk")
 
 
 # What there is
-
-def moment(second: float) -> str:
-    """A time, with thousandths of a second where it has such."""
-    whole = math.floor(second + 0.0005)
-    rest = round((second - whole) * 1000)
-    return vex.vex_time(whole) if rest <= 0 else vex.vex_time(whole).removesuffix("s") + f".{rest:03d}s"
-
 
 def tables(night: Night) -> Iterator[str]:
     """The recordings with their times, the covered part of each scan, station and channel, and what the run comes to."""
@@ -512,5 +413,5 @@ def tables(night: Night) -> Iterator[str]:
         for key, stay in scan.stays.items():
             shares = [f"{channel} {night.share(scan, key, channel) * 100:.4g} %" for channel in night.channels]
             yield f"scan {scan.name} {vex.vex_time(scan.start)} {key}: of {stay.end - stay.begin} samples {', '.join(shares)}"
-    yield f"slots {night.slots} of {recording.MOST_SLOTS}"
+    yield f"slots {night.slots} of {words.MOST_SLOTS}"
     yield f"epochs {asked.plan.epochs}, journal {journal_bytes(asked)} bytes, records {record_bytes(asked)} bytes"

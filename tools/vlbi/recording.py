@@ -21,7 +21,6 @@ Integers = NDArray[numpy.int64]
 Words = NDArray[numpy.uint32]
 
 LOOKED = 1 << 18    # headers that are looked at in one go
-MOST_SLOTS = 1 << 26
 EPOCHS = numpy.array([calendar.timegm((2000 + number // 2, 7 if number % 2 else 1, 1, 0, 0, 0)) for number in range(64)], numpy.int64)
 
 

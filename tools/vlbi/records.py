@@ -429,11 +429,13 @@ class Rows(Protocol):
     plan          what its job comes to
     kept          the epochs that were found to be kept
     kept_samples  the samples in them
+    kept_pairs    the pairs of samples, times lags, of all their baselines and products
     """
 
     plan: jobs.Plan
     kept: int
     kept_samples: int
+    kept_pairs: int
 
     def go(self, front: JournalFront) -> None:
         """Goes on over what is kept by now. JournalFault where it is no journal."""
@@ -450,6 +452,7 @@ class EpochRows:
         self.at = at
         self.kept = 0
         self.kept_samples = 0
+        self.kept_pairs = 0
         self.scan = 0    # the number of the next epoch's scan, and the epochs of it that are kept
         self.in_scan = 0
 
@@ -457,12 +460,14 @@ class EpochRows:
         front.at = self.at
         while self.scan < len(self.plan.scans):
             scan = self.plan.scans[self.scan]
-            size = 1 + len(self.plan.products) * len(scan.baselines) * self.plan.lags * CELL.itemsize
+            size = 1 + self.plan.cells_of(scan) * CELL.itemsize
             opened = open_gates(front, self.plan.epochs_of(scan) - self.in_scan, size)
             before = self.plan.samples_of(scan, self.in_scan)
             self.in_scan += opened
             self.kept += opened
-            self.kept_samples += self.plan.samples_of(scan, self.in_scan) - before
+            samples = self.plan.samples_of(scan, self.in_scan) - before
+            self.kept_samples += samples
+            self.kept_pairs += samples * self.plan.cells_of(scan)
             if self.in_scan < self.plan.epochs_of(scan):
                 break
             self.scan, self.in_scan = self.scan + 1, 0
@@ -498,6 +503,11 @@ class Follower:
                     return None
                 self.rows = ROWS[self.identity.magic](self.identity, front.at)
             self.rows.go(front)
+        except JournalFault as fault:
+            if fault.kind == "the end" and os.path.getsize(self.path) > len(front.data):
+                return self.rows  # it grew while it was looked at
+            fault.name_file(self.path)
+            raise
         except Fault as fault:
             fault.name_file(self.path)
             raise

@@ -18,7 +18,7 @@ from numpy.typing import NDArray
 
 from vlbi import fringe as fringes
 from vlbi import job as jobs
-from vlbi import joined, plot, records, rotation, spectrum, vex
+from vlbi import joined, network, plot, records, rotation, spectrum, vex
 from vlbi.faults import Fault
 from vlbi.fringe import Fringe
 from vlbi.records import Records, Scan
@@ -27,14 +27,16 @@ Reals = NDArray[numpy.float64]
 Complexes = NDArray[numpy.complex128]
 
 SURE = 1e-4      # the chance that noise alone is taken for a fringe
-PERHAPS = 0.05   # and for what may be one
-OFF = 0.25       # samples from which on a clock looks off
+PERHAPS = 0.01   # and for what may be one
+OFF = 0.25       # samples from which on a clock looks off,
+OFF_BLIND = 1.0  # and where nobody says what whole delays leave
 SPREAD = 1.0     # samples by which lags may differ from what clocks make of them
 THERE = 0.99     # the part of the samples below which some are said to be missing
 WEAK, STRONG = 0.20, 0.45  # parts of two bits' samples at the outer levels that are too few and too many
 BEST = 0.32      # the best part of them
 POINTS = 64      # places of a picture to a side
 SHADES = 16
+RESTS = 257      # moments of a scan at which the rest of a whole delay is taken
 PIECES = 16      # stretches of an integration in which a rotation is taken
 
 FRINGE, MAYBE, NONE, UNKNOWN, NO_PAIRS = "fringe", "perhaps", "none", "unknown", plot.NO_PAIRS
@@ -47,7 +49,8 @@ class Row:
     state      `fringe`, `perhaps`, `none`, `unknown` where there are too few cells to tell, or `no pairs`
     lag, rate  of the peak in microseconds and hertz; NaN where there are no pairs
     amplitude  of the peak, in `unit`
-    share      the part of the scan's samples that were there, 0 to 1
+    share      the part of the samples in which both stations stand that were there, 0 to 1; of the scan's where nobody says the job
+    rest       the part of the lag in microseconds that the job's whole delays leave; None where nobody says the job
     hertz      the sky frequency of the band's middle, negative in the lower sideband; None where nobody says it
     turned     whether the job turns it, so that its rate has a sign
     lags, times  means over lag and over time, of at most POINTS places
@@ -63,6 +66,7 @@ class Row:
     amplitude: float
     unit: str
     share: float
+    rest: float | None
     hertz: float | None
     turned: bool
     lags: Complexes = dataclasses.field(repr=False)
@@ -210,21 +214,27 @@ def row_of(pair: plot.Pair, asked: joined.Asked | None) -> Row:
     scan, fringe = pair.scan, pair.fringe
     cells = scan.cells[:, pair.product, pair.baseline]
     keys, product = scan.baseline_keys[pair.baseline], scan.head.products[pair.product]
-    best = cells["count"].sum(axis=0, dtype=numpy.float64).max(initial=0)
-    edges = (float(fringe.rates[0]), float(fringe.rates[-1])) if len(fringe.rates) else (0.0, 0.0)
+    best = float(cells["count"].sum(axis=0, dtype=numpy.float64).max(initial=0))
+    times = pair.over_time() if pair.has_pairs else numpy.zeros(len(cells), numpy.complex128)
     return Row(
-        keys, product, state_of(fringe, pair.has_pairs), fringe.snr, fringe.lag * 1e6 / scan.head.rate, fringe.rate, fringe.amplitude * pair.scale, pair.unit,
-        float(best / max(scan.samples, 1)), middle(scan, keys[0], product[0], asked), bool(cells["im"].any()),
-        fewer(pair.over_lags()), fewer(pair.over_time() if pair.has_pairs else numpy.zeros(len(cells), numpy.complex128)), shaded(fringe.map), edges,
+        keys, product, state_of(fringe, pair.has_pairs), fringe.snr, fringe.lag * 1e6 / scan.head.rate, fringe.rate,
+        fringe.amplitude * pair.scale, pair.unit,
+        share=min(1.0, best / max(due(scan, keys, asked), 1)),
+        rest=rest_between(scan, keys, asked),
+        hertz=middle(scan, keys[0], product[0], asked),
+        turned=bool(cells["im"].any()),
+        lags=fewer(pair.over_lags()), times=fewer(times), map=shaded(fringe.map),
+        rates=(float(fringe.rates[0]), float(fringe.rates[-1])) if len(fringe.rates) else (0.0, 0.0),
     )
 
 
 def fewer(means: Complexes) -> Complexes:
     """At most POINTS of these: each the first of the greatest of those that it stands for. What is not there is 0."""
     there = numpy.nan_to_num(means)
-    padded = numpy.pad(there, (0, -len(there) % max(1, -(-len(there) // POINTS)))).reshape(-1, max(1, -(-len(there) // POINTS)))
-    if padded.size == 0:
+    each = -(-len(there) // POINTS)
+    if each <= 1:
         return there
+    padded = numpy.pad(there, (0, -len(there) % each)).reshape(-1, each)
     found: Complexes = numpy.take_along_axis(padded, abs(padded).argmax(axis=1)[:, None], axis=1)[:, 0]
     return found
 
@@ -252,6 +262,33 @@ def needed(places: int, chance: float) -> float:
     return math.sqrt(2 * math.log(places / chance))
 
 
+def due(scan: Scan, keys: tuple[str, str], asked: joined.Asked | None) -> int:
+    """The samples of a scan in which both stations stand; all where nobody says it."""
+    stays = stays_of(scan, asked)
+    if not all(key in stays for key in keys):
+        return scan.samples
+    return min(stays[key].end for key in keys) - max(stays[key].begin for key in keys)
+
+
+def stays_of(scan: Scan, asked: joined.Asked | None) -> dict[str, joined.Stay]:
+    """The stations' parts of a scan; none where nobody says them."""
+    for one in asked.scans if asked else ():
+        if (one.name, one.start) == (scan.name, scan.start):
+            return one.stays
+    return {}
+
+
+def rest_between(scan: Scan, keys: tuple[str, str], asked: joined.Asked | None) -> float | None:
+    """What whole delays leave of the second station's delay less the first's, in microseconds, in the mean over a scan."""
+    if asked is None:
+        return None
+    delays = rotation.Delays(asked.by_word, scan.head.rate)
+    seconds = numpy.linspace(0, scan.samples / scan.head.rate, RESTS)
+    late = [delays.samples(key, scan.start, numpy.stack([seconds, seconds], axis=1))[:, 0] for key in keys]
+    first, second = (float((one - numpy.floor(one + 0.5)).mean()) for one in late)
+    return (second - first) * 1e6 / scan.head.rate
+
+
 def middle(scan: Scan, key: str, channel: str, asked: joined.Asked | None) -> float | None:
     """The sky frequency in hertz of the middle of a station's channel, negative in the lower sideband; None where nobody says it."""
     band = band_of(scan, key, channel, asked)
@@ -263,10 +300,8 @@ def middle(scan: Scan, key: str, channel: str, asked: joined.Asked | None) -> fl
 
 def band_of(scan: Scan, key: str, channel: str, asked: joined.Asked | None) -> tuple[int, str] | None:
     """Sky frequency and sideband of a station's channel in a scan; None where nobody says them."""
-    for one in asked.scans if asked else ():
-        if (one.name, one.start) == (scan.name, scan.start) and key in one.stays:
-            return one.stays[key].bands.get(channel)
-    return None
+    stays = stays_of(scan, asked)
+    return stays[key].bands.get(channel) if key in stays else None
 
 
 # Stations with themselves
@@ -306,11 +341,11 @@ def clocks_of(scans: Sequence[Seen], asked: joined.Asked | None, rates: Sequence
     if not rows:
         return (), 0.0
     keys = list(dict.fromkeys(key for _, row in rows for key in row.keys))
-    ahead = solved(keys, [(row.keys, row.lag, row.snr) for _, row in rows])
+    ahead = network.solved(keys, [(row.keys, row.lag - (row.rest or 0.0), row.snr) for _, row in rows])
     rated = [(row.keys, row.rate / row.hertz, row.snr * abs(row.hertz)) for _, row in rows if row.hertz and row.turned]
-    drifts = solved(keys, rated) if rated else {}
+    drifts = network.solved(keys, rated) if rated else {}
     sample = max(scan.sample for scan in scans)
-    spread = max(abs(row.lag - (ahead[row.keys[1]] - ahead[row.keys[0]])) / scan.sample for scan, row in rows)
+    spread = max(abs(row.lag - (row.rest or 0.0) - (ahead[row.keys[1]] - ahead[row.keys[0]])) / scan.sample for scan, row in rows)
     at = sum(scan.start + scan.seconds / 2 for scan, _ in rows) / len(rows)
     longest = max(scan.seconds for scan, _ in rows)
     found = []
@@ -318,38 +353,10 @@ def clocks_of(scans: Sequence[Seen], asked: joined.Asked | None, rates: Sequence
         seen = [row for _, row in rows if key in row.keys]
         hertz = max((abs(row.hertz) for row in seen if row.hertz), default=0.0)
         drift = drifts.get(key, 0.0) if abs(drifts.get(key, 0.0)) * hertz * longest > 0.5 else None
-        if abs(ahead[key]) > OFF * sample:
+        if abs(ahead[key]) > (OFF if asked else OFF_BLIND) * sample:
             lines = mending(key, ahead[key], at, drift or 0.0, asked, max(rates), int(min(scan.start for scan in scans)))
             found.append(Clock(key, ahead[key], at, drift, tuple(lines), len(seen)))
     return tuple(found), spread
-
-
-def solved(keys: Sequence[str], rows: Sequence[tuple[tuple[str, str], float, float]]) -> dict[str, float]:
-    """The numbers of stations whose differences, the second's less the first's, are those of the rows, by least squares.
-
-    rows  the baselines' keys, the difference, its weight
-    Stations that rows join are told against the one in the middle of them; of two against the first.
-    """
-    weights = numpy.array([weight for _, _, weight in rows])
-    matrix = numpy.array([[(key == second) - (key == first) for key in keys] for (first, second), _, _ in rows], numpy.float64)
-    due = numpy.array([difference for _, difference, _ in rows])
-    found = numpy.linalg.lstsq(matrix * weights[:, None], due * weights, rcond=None)[0]
-    made = dict.fromkeys(keys, 0.0)
-    for group in groups(keys, [pair for pair, _, _ in rows]):
-        values = {key: float(found[keys.index(key)]) for key in group}
-        reference = values[group[0]] if len(group) < 3 else sorted(values.values())[(len(group) - 1) // 2]
-        made.update({key: value - reference for key, value in values.items()})
-    return made
-
-
-def groups(keys: Sequence[str], pairs: Iterable[tuple[str, str]]) -> list[list[str]]:
-    """The stations that pairs join, each group in the order of the keys."""
-    of = {key: {key} for key in keys}
-    for first, second in pairs:
-        both = of[first] | of[second]
-        for key in both:
-            of[key] = both
-    return [[key for key in keys if key in group] for group in {id(group): group for group in of.values()}.values()]
 
 
 def mending(key: str, ahead: float, at: float, drift: float, asked: joined.Asked | None, rate: int, start: int) -> Iterator[str]:
@@ -369,7 +376,8 @@ def words_of(night: Night) -> Iterator[tuple[str, str, tuple[str, ...]]]:
     """What a night's staff should know, in words: each a kind (`good`, `bad` or `note`), what is said, and lines of a job that go with it."""
     rows = [row for scan in night.scans for row in scan.rows]
     there = sum(row.state == FRINGE for row in rows)
-    yield "good" if there == len(rows) and rows else "note", f"{there} of {len(rows)} baselines and products have a fringe, in {len(night.scans)} scan{'s' * (len(night.scans) != 1)}.", ()
+    scans = f"{len(night.scans)} scan{'s' * (len(night.scans) != 1)}"
+    yield "good" if there == len(rows) and rows else "note", f"{there} of {len(rows)} baselines and products have a fringe, in {scans}.", ()
     yield from without_fringe(night)
     empty = sum(row.state == NO_PAIRS for row in rows)
     if empty:
@@ -409,7 +417,7 @@ def clock_words(clock: Clock, has_job: bool) -> str:
     off = f"{abs(clock.ahead):.3f} {plot.MICROSECONDS} {'further' if clock.ahead > 0 else 'less'} ahead than the job says"
     gains = f", and gains {plot.signed(clock.drift * 1e12, 2)}e-12 seconds more in each" if clock.drift else ""
     mend = "to mend it" if has_job else "to mend it, where the job has no `clock` line of it (--job adds it to those that there are)"
-    return f"The clock of {clock.key}, or its delay, is {off}{gains}, by {clock.rows} fringes; {mend}:"
+    return f"The clock of {clock.key}, or its delay, is {off}{gains}, by {clock.rows} fringe{'s' * (clock.rows != 1)}; {mend}:"
 
 
 def missing(night: Night) -> Iterator[tuple[str, str, tuple[str, ...]]]:
@@ -419,7 +427,8 @@ def missing(night: Night) -> Iterator[tuple[str, str, tuple[str, ...]]]:
         low = [(share, name) for share, name in shares if share < THERE]
         if low:
             worst = min(low)
-            yield "bad", f"Station {key}: samples are missing in {listed([name for _, name in low], len(shares))}; in {worst[1]} {worst[0] * 100:.1f} % are there.", ()
+            where = listed([name for _, name in low], len(shares))
+            yield "bad", f"Station {key}: samples are missing in {where}; in {worst[1]} {worst[0] * 100:.1f} % are there.", ()
 
 
 def levels(night: Night) -> Iterator[tuple[str, str, tuple[str, ...]]]:

@@ -81,7 +81,7 @@ class Progress:
         if self.quiet or now - self.last < (self.EVERY_SHOWN if self.shown else self.EVERY) and not (whole and self.shown):
             return
         self.last = now
-        words = f"{self.name}: {done:.1f} of {of} {self.what}" if isinstance(done, float) else f"{self.name}: {done} of {of} {self.what}"
+        words = f"{self.name}: {done:.1f} of {of:g} {self.what}" if isinstance(done, float) else f"{self.name}: {done} of {of} {self.what}"
         print(f"\r{words}" if self.shown else words, end="\n" if whole or not self.shown else "", file=sys.stderr, flush=True)
 
 

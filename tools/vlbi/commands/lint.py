@@ -64,11 +64,11 @@ def lint(given: argparse.Namespace) -> int:
 
 def of_job(given: argparse.Namespace) -> int:
     """Prints what is found beside what the program says, and the tables; how many were found."""
-    from vlbi import joined, work
+    from vlbi import coverage, joined, work
     from vlbi import lint as linting
 
     asked = joined.read(given.job, given.vex)
-    night = linting.Night(asked)
+    night = coverage.Night(asked)
     machine = linting.Machine(given.workers or work.workers(), given.piece or 0, given.known, shutil.disk_usage(".").free)
     found = 0
     for finding in linting.findings(night, machine):

@@ -1,0 +1,315 @@
+"""`vlbi-run`, `vlbi-watch` and `vlbi.refusal`: a program that stands in for `vlbi` keeps epochs, ends with a status or waits for a signal."""
+from __future__ import annotations
+
+import os
+import signal
+import struct
+import subprocess
+import sys
+import time
+from pathlib import Path
+
+import pytest
+
+from vlbi import progress, records, refusal
+from vlbi.commands import run, watch
+
+RATE = 1000
+JOB = b"""lags 4
+integration 1000
+epoch 500
+station A 1 2 1 40
+file A a.vdif
+station B 2 2 1 40
+file B b.vdif
+chan A X 0 0
+chan B X 0 0
+product X X
+rate 1000
+scan S 2010y001d00h00m00s 4000
+band X 0 U
+"""
+CELLS = 4 * 24
+
+# Keeps the epochs of $KEEP, then ends with $STATUS, or waits for a signal.
+PROGRAM = f"""#!{sys.executable}
+import os, signal, struct, sys, time
+journal, words = sys.argv[1], sys.argv[2:]
+print(" ".join(words), flush=True)
+job = open(words[words.index("--job") + 1], "rb").read()
+with open(journal, "wb") as file:
+    file.write(b"\\1VLBIJRN1" + struct.pack("<QQQQQ", 0, len(job), 2, 80, 80) + job + b"\\0")
+    for _ in range(int(os.environ.get("KEEP", "0"))):
+        file.seek(-1, 2)
+        file.write(b"\\1" + bytes({CELLS}) + b"\\0")
+        file.flush()
+print(os.environ.get("NOTE", ""), end="", file=sys.stderr, flush=True)
+if os.environ.get("WAIT"):
+    open("waits", "w").close()
+    while True:
+        time.sleep(0.1)
+sys.exit(int(os.environ.get("STATUS", "0")))
+"""
+
+
+@pytest.fixture
+def folder(tmp_path: Path, monkeypatch: pytest.MonkeyPatch) -> Path:
+    monkeypatch.chdir(tmp_path)
+    (tmp_path / "vlbi").write_text(PROGRAM)
+    (tmp_path / "vlbi").chmod(0o755)
+    (tmp_path / "job.txt").write_bytes(JOB)
+    for name in ("a.vdif", "b.vdif"):
+        (tmp_path / name).write_bytes(bytes(80))
+    monkeypatch.setattr(run, "LOOK", 0.05)
+    return tmp_path
+
+
+def test_words_are_handed_on_and_chosen(folder: Path, capfd: pytest.CaptureFixture[str], monkeypatch: pytest.MonkeyPatch) -> None:
+    monkeypatch.setenv("KEEP", "8")
+    assert run.main(["--program", "./vlbi", "j", "--job", "job.txt", "--workers", "3", "--piece", "64"]) == 0
+    said = capfd.readouterr()
+    assert said.out == "run --job job.txt --workers 3 --piece 64\n"
+    assert "vlbi-run: 8 of 8 epochs kept" in said.err and "vlbi-run: all 8 epochs are kept and the records written, in 0:0" in said.err
+    assert run.main(["--program", "./vlbi", "--quiet", "j", "run", "--job=job.txt", "--job", "b", "--fly"]) == 0
+    workers = len(os.sched_getaffinity(0))
+    assert capfd.readouterr() == (f"run --job job.txt --job b --fly --workers {workers} --piece 4096\n", "")
+
+
+def test_a_status_is_handed_on_and_explained(folder: Path, capfd: pytest.CaptureFixture[str], monkeypatch: pytest.MonkeyPatch) -> None:
+    monkeypatch.setenv("STATUS", "8")
+    monkeypatch.setenv("NOTE", "vlbi: journal fault, 5 epochs kept\n")
+    assert run.main(["--program", "./vlbi", "--quiet", "j", "--job", "job.txt"]) == 8
+    said = capfd.readouterr().err.splitlines()
+    assert said[:2] == ["vlbi: journal fault, 5 epochs kept", "vlbi-run: 5 epochs are safe."] and "bytes left" in said[2]
+
+
+@pytest.mark.parametrize("number", [signal.SIGTERM, signal.SIGINT, signal.SIGHUP])
+def test_signals_are_handed_on(folder: Path, number: signal.Signals) -> None:
+    words = [sys.executable, "-m", "vlbi.commands.run", "--program", "./vlbi", "j", "--job", "job.txt"]
+    environment = {**os.environ, "PYTHONPATH": str(Path(run.__file__).parents[2]), "WAIT": "1", "KEEP": "2"}
+    process = subprocess.Popen(words, stdout=subprocess.PIPE, stderr=subprocess.PIPE, env=environment)
+    until = time.monotonic() + 60
+    while not os.path.exists("waits") and time.monotonic() < until:
+        time.sleep(0.02)
+    process.send_signal(number)
+    said = process.communicate(timeout=60)[1].decode()
+    if number == signal.SIGINT:  # the stand-in is a Python that says so, and ends by it
+        assert "KeyboardInterrupt" in said
+    assert process.returncode == -number
+    assert said.endswith(f"vlbi-run: stopped by {number.name}; the same command goes on behind the epochs that are kept\n")
+
+
+def test_no_program(folder: Path, capsys: pytest.CaptureFixture[str], monkeypatch: pytest.MonkeyPatch) -> None:
+    monkeypatch.setenv("PATH", "")
+    assert run.main(["j", "--job", "job.txt"]) == 1
+    assert capsys.readouterr().err == f"vlbi-run: {run.NO_PROGRAM}\n"
+
+
+# Progress
+
+def journal(path: Path, kept: int, job: bytes = JOB) -> None:
+    """A journal of the job that keeps so many epochs."""
+    identity = b"\1VLBIJRN1" + struct.pack("<QQQQQ", 0, len(job), 2, 80, 80) + job
+    path.write_bytes(identity + (b"\1" + bytes(CELLS)) * kept + b"\0")
+
+
+def test_how_far_it_is(folder: Path) -> None:
+    one = progress.Watch("j")
+    assert one.look(0.0) is None
+    (folder / "j").write_bytes(b"\0")
+    assert one.look(1.0) is None
+    journal(folder / "j", 2)
+    state = one.look(2.0)
+    assert state is not None and (state.words, state.whole) == ("2 of 8 epochs kept", False)
+    journal(folder / "j", 4)
+    # two epochs of 500 samples and four lags in two seconds; four more are left
+    state = one.look(4.0)
+    assert state == progress.State(4, 8, 500.0, 2000.0, 0.5, 4.0, 0.0)
+    assert state.words == "4 of 8 epochs kept, 500 samples/s (0.5 times real time), 2 kpairs/s, 0:04 left"
+    state = one.look(68.0)
+    assert state is not None and state.still == 64.0 and "nothing kept for 1:04" in state.words
+    journal(folder / "j", 8)
+    state = one.look(70.0)
+    assert state is not None and state.whole and "left" not in state.words
+
+
+def test_a_speed_is_that_of_the_last_minute(folder: Path) -> None:
+    one = progress.Watch("j")
+    for kept, now in ((0, 0.0), (2, 10.0), (2, 100.0), (3, 110.0)):
+        journal(folder / "j", kept)
+        state = one.look(now)
+    # from the 10th second on, the last look that is a minute old
+    assert state is not None and state.samples == 500 / 100
+
+
+def test_another_jobs_journal_is_not_shown(folder: Path) -> None:
+    journal(folder / "j", 3, JOB + b"# another\n")
+    one = progress.Watch("j", (JOB, b""))
+    assert one.look(0.0) is None
+    journal(folder / "j", 3)
+    state = one.look(1.0)
+    assert state is not None and state.kept == 3
+
+
+def test_a_follower_goes_on_where_it_was(folder: Path) -> None:
+    follower = records.Follower("j")
+    for kept in (0, 1, 5, 8):
+        journal(folder / "j", kept)
+        rows = follower.look()
+        assert rows is not None and (rows.kept, rows.kept_samples, rows.kept_pairs) == (kept, 500 * kept, 2000 * kept)
+        assert records.journal("j").kept == kept
+
+
+def test_numbers_in_words() -> None:
+    assert [progress.scaled(number) for number in (0, 0.5, 999, 1000, 1.6e6, 2.5e9)] == ["0 ", "0.5 ", "999 ", "1 k", "1.6 M", "2.5 G"]
+    assert [progress.clock(seconds) for seconds in (0, 59.6, 3599, 7384)] == ["0:00", "1:00", "59:59", "2:03:04"]
+
+
+def test_watching(folder: Path, capsys: pytest.CaptureFixture[str]) -> None:
+    assert watch.main(["--once", "j"]) == 0
+    assert capsys.readouterr().out == "nothing is kept yet\n"
+    journal(folder / "j", 3)
+    assert watch.main(["--once", "j"]) == 0
+    assert capsys.readouterr().out == "3 of 8 epochs kept\n"
+    journal(folder / "j", 8)
+    assert watch.main(["j"]) == 0
+    assert capsys.readouterr().err == "vlbi-watch: 8 of 8 epochs kept\n"
+    (folder / "j").write_bytes(b"\1text of another kind")
+    assert watch.main(["--once", "j"]) == 1
+    assert capsys.readouterr().err == "vlbi-watch: j: no journal: another mark at byte 1\n"
+
+
+def test_a_terminal_has_one_line(folder: Path) -> None:
+    """In a terminal of its own the bar of tqdm."""
+    pytest.importorskip("tqdm")
+    import fcntl
+    import pty
+    import termios
+
+    journal(folder / "j", 8)
+    parent, child = pty.openpty()
+    fcntl.ioctl(child, termios.TIOCSWINSZ, struct.pack("HHHH", 24, 100, 0, 0))
+    words = [sys.executable, "-m", "vlbi.commands.watch", "j"]
+    done = subprocess.run(words, stderr=child, env={**os.environ, "PYTHONPATH": str(Path(run.__file__).parents[2])})
+    os.close(child)
+    said = os.read(parent, 10000).decode()
+    assert done.returncode == 0 and "100 %|" in said and "8 of 8 epochs" in said and said.count("\n") == 1
+
+
+# What to do after a status
+
+SCHEDULE = b"""VEX_rev = 1.5;
+$MODE; def M; ref $FREQ = G; enddef;
+$FREQ; def F; sample_rate = 1 Ms/sec; enddef;
+$SCHED; scan S; start = 2010y001d00h00m00s; mode = M; station = A : 0 sec : 1 sec; endscan;
+"""
+
+
+def told(status: int, note: str, *words: str, journal: str = "j") -> list[str]:
+    return refusal.advice(refusal.Call(journal, words or ("run", "--job", "job.txt")), status, note)
+
+
+WORDS = [
+    (("run", "--job", "job.txt", "--piece", "64"), ["--workers is missing"]),
+    (("run", "--job", "a", "--workers", "65", "--piece", "64"), ["--workers 65: it is a whole number, 1 to 64"]),
+    (("run", "--job", "a", "--workers", "x", "--piece", "63"), [
+        "--workers x: it is a whole number, 1 to 64", "--piece 63: it is a whole number, 64 to 4194304"]),
+    (("plain", "--job", "a", "--job", "b"), ["--job is given 2 times"]),
+    (("plain", "--jbo", "a"), [
+        "--job is missing", "`--jbo` is no option of `plain`: --job, --vex; is `--job` meant?", "`a` is no option of `plain`: --job, --vex"]),
+    (("rnu", "--job", "a"), ["`rnu` is no command: run, plain, check, status, dump, gen; is `run` meant?"]),
+    (("gen", "--seed=7", "--seconds", "61", "--workers", "1", "--piece", "64"), ["--seconds 61: it is a whole number, 1 to 60"]),
+    (("dump",), ["`dump` takes the name of one record file"]),
+]
+
+
+@pytest.mark.parametrize("words, said", WORDS, ids=[row[1][0] for row in WORDS])
+def test_words_of_a_call(words: tuple[str, ...], said: list[str]) -> None:
+    assert told(2, "vlbi: words: Option", *words) == said
+
+
+def test_a_byte_of_a_schedule(folder: Path) -> None:
+    (folder / "sky.vex").write_bytes(SCHEDULE)
+    at = SCHEDULE.index(b"ref $FREQ")
+    assert told(3, f"vlbi: schedule: UnknownRef at byte {at}", "run", "--job", "job.txt", "--vex", "sky.vex") == [
+        "sky.vex:2: the def that this names is not there",
+        "    $MODE; def M; ref $FREQ = G; enddef;",
+        "                  ^",
+        "the defs of $FREQ: F",
+    ]
+
+
+JOBS = [
+    ("job: Missing in line 0", JOB.replace(b"epoch 500\n", b"").replace(b"rate 1000\n", b""), [
+        "job.txt: the job lacks a line `epoch`: epoch SAMPLES, 1 to 4194304",
+        "job.txt: the job lacks a line `rate`: rate R, 1 to 2^32 - 1, without a schedule only, or --vex SCHEDULE in its place"]),
+    ("job: Range in line 1", JOB.replace(b"lags 4", b"lags 3"), ["job.txt:1: lags 3", "write: lags L, L even, 2 to 1024"]),
+    ("job: Unknown in line 2", JOB.replace(b"integration", b"integration:"), [
+        "job.txt:2: integration: 1000", "`integration:` is no word of a job here; is `integration` meant?"]),
+    ("job: Unknown in line 5", JOB.replace(b"file A", b"file C"), [
+        "job.txt:5: file C a.vdif", "a name here is not in an earlier line", "no `station` line before this one has C: there are A"]),
+    ("job: Unknown in line 5", JOB.replace(b"file A", b"file B"), [
+        "job.txt:5: file B a.vdif", "a name here is not in an earlier line",
+        "no `station` line before this one has B: there are A; its `station` line comes later: put it in front"]),
+    ("job: Double in line 10", JOB.replace(b"product X X\n", b"chan B X 1 0\n"), ["job.txt:10: chan B X 1 0", "this is said in an earlier line already"]),
+    ("job: Line in line 12", JOB.replace(b"2010y001d00h00m00s", b"2010-01-01"), [
+        "job.txt:12: scan S 2010-01-01 4000", "write: scan NAME TIME SAMPLES, 0 to 2^40 samples, without a schedule only",
+        "a time is written 2010y113d20h29m00s, of a day that its year has"]),
+    # 32 samples in a frame do not go into 1000 samples a second
+    ("job: FrameRate for A", JOB, [
+        "a frame of A holds 32 complete samples, and 1000 samples a second are no whole number of such frames",
+        "`station A 1 2 1 40`: look at bits, channels and the bytes of a frame"]),
+    ("job: NoModel for A", JOB + b"poly A 2010y001d00h00m01s 0\n", [
+        "the first `poly` line of A is of 2010y001d00h00m01s, its first scan begins at 2010y001d00h00m00s",
+        # 2^24 knots of 32768 samples
+        "the last one is of 2010y001d00h00m01s and counts for 549755814 seconds (2^24 knots)",
+        "all samples of a scan need one, also those before a station that comes late: `vlbi-model` writes them"]),
+]
+
+
+@pytest.mark.parametrize("note, job, said", JOBS, ids=[row[0] for row in JOBS])
+def test_lines_of_a_job(folder: Path, note: str, job: bytes, said: list[str]) -> None:
+    (folder / "job.txt").write_bytes(job)
+    assert told(4, f"vlbi: {note}") == said
+
+
+def test_job_and_schedule(folder: Path) -> None:
+    (folder / "sky.vex").write_bytes(SCHEDULE.replace(b"= G", b"= F"))
+    words = ("run", "--job", "job.txt", "--vex", "sky.vex")
+    assert told(4, "vlbi: job: UnknownStation for B", *words)[0] == "no scan that is taken has the station B: there are A"
+    assert told(4, "vlbi: job: UnknownScan for T", *words) == ["`take T` names no scan of sky.vex: there are S"]
+    assert told(4, "vlbi: job: RateDiffers for S", *words)[0] == "scan S, station A: 1000000 samples a second"
+
+
+def test_the_first_frame_of_a_recording(folder: Path) -> None:
+    # two channels, 2 bits, 80 bytes, station 7, thread 0
+    (folder / "a.vdif").write_bytes(struct.pack("<IIII", 0, 20 << 24, 1 << 24 | 10, 1 << 26 | 7) + bytes(64))
+    assert told(5, "vlbi: recording: A Length") == [
+        "job.txt:4: station A 1 2 1 40", "the first frame of a.vdif differs in Length; it is of the shape", "    station A 7 2 2 80",
+        "correct the line, or the name in the `file` line",
+    ]
+
+
+def test_files_and_limits(folder: Path) -> None:
+    (folder / "b.vdif").unlink()
+    assert told(11, "vlbi: no file b.vdif") == [f"b.vdif: there is no such file in {folder}; is `a.vdif` meant?"]
+    assert told(7, "vlbi: read fault")[0] == f"b.vdif: there is no such file in {folder}; is `a.vdif` meant?"
+    (folder / "c.vdif").mkdir()
+    assert refusal.why_not("c.vdif") == ["c.vdif: Is a directory"]
+    assert told(6, "vlbi: limit: load 400000000") == [
+        "load 400000000: the greatest is 268435456", "take a shorter `epoch`: stations times channels times its samples may come to that"]
+    assert told(8, "vlbi: journal fault", journal="none/j") == ["none/j: there is no folder none"]
+    assert told(5, "vlbi: records: Short at byte 160", "dump", "a.vis")[0].startswith("it is cut off")
+    assert told(0, "") == []
+
+
+def test_the_journal_of_another_job(folder: Path) -> None:
+    journal(folder / "j", 3, JOB.replace(b"epoch 500", b"epoch 250"))
+    assert told(10, "vlbi: other journal at byte 77: kept 32, ours 35") == [
+        "the job differs in line 3:", "    job.txt: epoch 500", "    the journal's: epoch 250", "Name another journal, or remove this one to begin anew."]
+    journal(folder / "j", 3)
+    (folder / "b.vdif").write_bytes(bytes(120))
+    assert told(10, "vlbi: other journal at byte 33")[0] == "the recording b.vdif has 120 bytes, and had 80 when the journal was begun"
+    (folder / "sky.vex").write_bytes(SCHEDULE.replace(b"= G", b"= F"))
+    assert told(10, "vlbi: other journal at byte 9", "run", "--job", "job.txt", "--vex", "sky.vex")[0] == (
+        "the journal was begun without a schedule, and the call is with one")

@@ -105,8 +105,7 @@ class Sky:
             raise SkyFault(f"a sample has 1 or 2 bits, not {self.bits}")
         if not re.fullmatch("[UL]+", self.sideband) or len(self.sideband) not in (1, self.channels):
             raise SkyFault(f"sidebands are U or L, one for all channels or one for each of {self.channels}: {self.sideband}")
-        if not all(0 <= part <= 1 for part in (self.common, self.missing, self.invalid)):
-            raise SkyFault("a part lies between 0 and 1")
+        check_parts(self.common, self.missing, self.invalid)
         if min(self.frequencies) < 0 or max(self.frequencies) >= 2 ** 40:
             raise SkyFault(f"a sky frequency past its range, 0 to 2^40 - 1 hertz: {min(self.frequencies)} to {max(self.frequencies)}")
 
@@ -159,6 +158,12 @@ class Sky:
         if knot is None or jobs.knot_seconds(knot, self.rate) <= self.seconds:
             raise SkyFault("no job can hold these delays over the whole scan")
         return knot
+
+
+def check_parts(*parts: float) -> None:
+    """SkyFault where one of these is no part of a whole."""
+    if not all(0 <= part <= 1 for part in parts):
+        raise SkyFault("a part lies between 0 and 1")
 
 
 def check_key(key: str) -> None:

@@ -216,17 +216,26 @@ def clock_seconds(schedule: vex.Schedule, key: str) -> list[int]:
 
 def clocks_of(schedule: vex.Schedule, parts: Sequence[Part], rate: int) -> dict[str, list[str]]:
     """The `clock` lines of each station of these parts."""
-    first = {part.key: part.begin for part in reversed(parts)}
-    return {key: clock_lines(schedule, key, first[key], rate) for key in sorted(first)}
+    begins: dict[str, list[int]] = {}
+    for part in parts:
+        begins.setdefault(part.key, []).append(part.begin)
+    return {key: clock_lines(schedule, key, begins[key], rate) for key in sorted(begins)}
 
 
-def clock_lines(schedule: vex.Schedule, key: str, first: int, rate: int) -> list[str]:
-    """The `clock` lines of a station, none where the schedule has no clock of it; Fault where none counts at the second `first`."""
+def clock_lines(schedule: vex.Schedule, key: str, begins: Sequence[int], rate: int) -> list[str]:
+    """The `clock` lines of a station, none where the schedule has no clock of it; Fault where none counts at the first of these seconds.
+
+    begins  the seconds at which its parts begin: each has a line, since a job rounds a drift, and what that comes to grows with the time since
+    """
     clocks = {math.floor(clock.since): clock for clock in schedule.clocks(key)}
-    if clocks and min(clocks) > first:
+    if not clocks:
+        return []
+    first = min(begins)
+    if min(clocks) > first:
         raise Fault(f"the clock of station {key} counts from {vex.vex_time(min(clocks))} on, and its first scan is before that", schedule.path)
     lines = []
-    for when, clock in sorted(clocks.items()):
+    for when in sorted({*begins, *(since for since in clocks if since > first)}):
+        clock = clocks[max(since for since in clocks if since <= when)]
         early = jobs.exact(clock.early) + jobs.exact(clock.rate) * (when - jobs.exact(clock.at))
         lines.append(jobs.clock_line(key, when, str(early * 10 ** 6), clock.rate, rate))
     return lines

@@ -152,7 +152,11 @@ class Night:
     def arrivals(self, scan: vex.Scan) -> dict[str, Arrival]:
         """Of each station of a scan, when it gets the wave."""
         source = self.schedule.source(scan.sources[0])
-        return {one.key: Arrival(self.schedule, one.key, source, scan.start, self.asked.air) for one in scan.passes}
+        try:
+            return {one.key: Arrival(self.schedule, one.key, source, scan.start, self.asked.air) for one in scan.passes}
+        except Fault as fault:
+            fault.name_file(self.schedule.path)
+            raise
 
     def write_scan(
         self, number: int, fronts: dict[str, Arrival], writers: dict[str, tuple[Recording, Receiver]], progress: Callable[[float], None]

@@ -17,6 +17,8 @@ import warnings
 import erfa
 import numpy
 from astropy import units
+from astropy.coordinates import EarthLocation, get_body_barycentric, get_body_barycentric_posvel
+from astropy.time import Time, TimeDelta
 from astropy.utils import iers
 from numpy.polynomial import Chebyshev, Polynomial
 from numpy.typing import NDArray
@@ -25,10 +27,9 @@ from vlbi import vex
 from vlbi.faults import Fault
 
 with warnings.catch_warnings():
-    # a list of leap seconds that is past its day: the library ERFA has one of its own
+    # a list of leap seconds that is past its day, read at its first use: the library ERFA has one of its own
     warnings.simplefilter("ignore", iers.IERSStaleWarning)
-    from astropy.coordinates import EarthLocation, get_body_barycentric, get_body_barycentric_posvel
-    from astropy.time import Time, TimeDelta
+    Time(0.0, format="unix").tai
 
 Reals = NDArray[numpy.float64]
 

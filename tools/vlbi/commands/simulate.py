@@ -51,7 +51,7 @@ def parser() -> argparse.ArgumentParser:
     made = parser_of(NAME, "Makes recordings with a true fringe, their schedule and jobs.")
     made.add_argument("folder", help="where the files are written")
     made.add_argument("--sky", metavar="SCHEDULE", help="the recordings of this VEX schedule, whose stations and sources move as on the sky; "
-                      "it says what the options from --station to --apart say without one")
+                      "it says itself what --station, --seconds, --rate, --start, --channels, --frequency, --sideband and --apart say without it")
     made.add_argument("--scan", action="append", default=[], metavar="NAME", help="a scan of the schedule, more than once for more (all)")
     made.add_argument("--no-atmosphere", action="store_true", help="the schedule's stations have no dry atmosphere above them")
     made.add_argument("--station", type=station_of, action="append", metavar="KEY[,delay=US[:US/s[:..]]][,clock=US[:US/s]]",

@@ -66,7 +66,7 @@ scan No0002; start = 2010y115d20h33m00s; mode = X; source = 3C279;
 """
 RATE, HERTZ, COMMON = 64_000, 8.4e9, 0.2
 KEPT = 0.8        # of the signal to noise, by two bits and two rotations of three levels
-SIGMAS = 5.0
+SIGMAS = 6.0      # of a median
 BETWEEN = 0.3e-12  # seconds: how far two evaluations of a delay on one baseline may be apart
 
 
@@ -88,13 +88,20 @@ def found_in(path: str) -> dict[tuple[str, str], tuple[Reals, NDArray[numpy.comp
     return found
 
 
+def middle(seen: NDArray[numpy.complex128], axis: int) -> NDArray[numpy.complex128]:
+    """The median of real and imaginary parts: where a whole delay changes in the midst of an integration, the upper end of the band has noise alone."""
+    found: NDArray[numpy.complex128] = numpy.median(seen.real, axis=axis) + 1j * numpy.median(seen.imag, axis=axis)
+    return found
+
+
 def compare(said: Comparison, name: str, seconds: Reals, seen: NDArray[numpy.complex128]) -> None:
     """Compares the fringe of a baseline and a source with none."""
     snr = KEPT * COMMON * numpy.sqrt(RATE * len(seconds))
-    mean = seen.mean()
-    places = numpy.arange(seen.shape[1]) / (2 * seen.shape[1])  # turns a sample
-    slope, _ = numpy.polyfit(places, numpy.angle(seen.mean(axis=0) / mean) / (2 * numpy.pi), 1)
-    rate, _ = numpy.polyfit(seconds, numpy.angle(seen.mean(axis=1) / mean) / (2 * numpy.pi), 1)
+    inner = seen[:, 1:]  # of the channel at the edge half is in the band
+    mean = middle(inner, 0).mean()
+    places = numpy.arange(inner.shape[1]) / (2 * seen.shape[1])  # turns a sample
+    slope, _ = numpy.polyfit(places, numpy.angle(middle(inner, 0) / mean) / (2 * numpy.pi), 1)
+    rate, _ = numpy.polyfit(seconds, numpy.angle(middle(inner, 1) / mean) / (2 * numpy.pi), 1)
     of_noise = SIGMAS * numpy.sqrt(12) / (2 * numpy.pi * snr)
     length = len(seconds)
     said.line(f"{name}: lag (samples)", 0, slope, 2 * of_noise)
@@ -113,7 +120,7 @@ def draw(path: str, found: dict[tuple[str, str], tuple[Reals, NDArray[numpy.comp
     figure, axes = pyplot.subplots(len(found), 1, sharex=True, sharey=True, figsize=(9, 9), constrained_layout=True)
     start = min(seconds[0] for seconds, _ in found.values())
     for one, ((baseline, source), (seconds, seen)) in zip(axes, found.items()):
-        one.plot(seconds - start, numpy.angle(seen.mean(axis=1), deg=True), ".", markersize=3)
+        one.plot(seconds - start, numpy.angle(middle(seen, 1), deg=True), ".", markersize=3)
         one.set(ylim=(-30, 30), ylabel="degrees")
         one.set_title(f"{baseline}   {source}", loc="left", fontsize=9)
     axes[-1].set_xlabel("seconds")

@@ -31,7 +31,7 @@ STATED = {           # what a schedule says, and what is taken without one
     "station": None, "seconds": 10, "rate": 2_000_000, "start": "2010y001d00h00m00s", "channels": 1, "frequency": 8_400_000_000, "sideband": "U",
     "apart": False, "blind_integration": None,
 }
-OF_SKY = {"scan": [], "no_atmosphere": False}  # what counts with a schedule alone
+OF_SKY = ("scan", "no_atmosphere")  # what counts with a schedule alone
 
 
 class Asked(NamedTuple):

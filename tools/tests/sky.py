@@ -1,5 +1,6 @@
 #!/usr/bin/python3
-"""Three stations look at two sources: recordings that move as on the sky, the job of vlbi-model, records, pictures, FITS-IDI.
+"""Three stations look at two sources, in the upper sideband and in the lower: recordings that move as on the sky, the job of vlbi-model, records,
+pictures, FITS-IDI.
 
     sky.py PROGRAM FOLDER
 
@@ -52,8 +53,10 @@ def A; TAI-UTC = 34 sec; eop_ref_epoch = 2010y113d; num_eop_points = 5; eop_inte
   y_wobble = 0.371843 asec : 0.374067 asec : 0.376327 asec : 0.378538 asec : 0.380923 asec; enddef;
 $MODE;
 def X; ref $FREQ = X; ref $BBC = X; ref $IF = X; enddef;
+def Y; ref $FREQ = Y; ref $BBC = X; ref $IF = X; enddef;
 $FREQ;
 def X; sample_rate = 0.064 Ms/sec; chan_def = : 8400.00 MHz : U : 0.032 MHz : &CH01 : &BBC01 : &NoCal; enddef;
+def Y; sample_rate = 0.064 Ms/sec; chan_def = : 8400.00 MHz : L : 0.032 MHz : &CH01 : &BBC01 : &NoCal; enddef;
 $BBC;
 def X; BBC_assign = &BBC01 : 01 : &IF_A; enddef;
 $IF;
@@ -61,7 +64,7 @@ def X; if_def = &IF_A : A : R : 8080 MHz : U; enddef;
 $SCHED;
 scan No0001; start = 2010y115d20h30m00s; mode = X; source = 3C273B;
   station = Ef : 0 sec : 150 sec; station = Wb : 0 sec : 150 sec; station = Hh : 10 sec : 150 sec; endscan;
-scan No0002; start = 2010y115d20h33m00s; mode = X; source = 3C279;
+scan No0002; start = 2010y115d20h33m00s; mode = Y; source = 3C279;
   station = Ef : 0 sec : 60 sec; station = Wb : 0 sec : 60 sec; station = Hh : 0 sec : 60 sec; endscan;
 """
 RATE, HERTZ, COMMON = 64_000, 8.4e9, 0.2
@@ -97,7 +100,7 @@ def middle(seen: NDArray[numpy.complex128], axis: int) -> NDArray[numpy.complex1
 def compare(said: Comparison, name: str, seconds: Reals, seen: NDArray[numpy.complex128]) -> None:
     """Compares the fringe of a baseline and a source with none."""
     snr = KEPT * COMMON * numpy.sqrt(RATE * len(seconds))
-    inner = seen[:, 1:]  # of the channel at the edge half is in the band
+    inner = seen[:, 1:-1]  # of the channel at the edge half is in the band
     mean = middle(inner, 0).mean()
     places = numpy.arange(inner.shape[1]) / (2 * seen.shape[1])  # turns a sample
     slope, _ = numpy.polyfit(places, numpy.angle(middle(inner, 0) / mean) / (2 * numpy.pi), 1)

@@ -3,6 +3,7 @@
 # make example the same by the proved program
 # make test    prove everything, try the edits that must fail, run the tests and the programs
 # make fringe  simulate two stations, correlate them, draw the fringe in fringe/ and compare it with theory
+# make sky    three stations and two sources that move as on the sky: from a schedule to FITS-IDI and pictures in sky/, compared with theory
 # make install PREFIX=/usr/local DESTDIR=    install the program, its manual pages, the Python tools and modules, completion and the documents
 # make deb     make a Debian package of what is installed, bin/vlbi_VERSION_ARCH.deb
 #
@@ -28,7 +29,7 @@ ZSH = share/zsh/$(if $(filter /usr,$(PREFIX)),vendor-completions,site-functions)
 COMMANDS = $(shell sed -n 's/^vlbi-\([a-z]*\) = .*/\1/p' tools/pyproject.toml)
 PACKAGE = bin/vlbi_$(VERSION)_$(ARCH).deb
 
-.PHONY: program demo example test fringe install deb
+.PHONY: program demo example test fringe sky install deb
 
 program: bin/vlbi
 
@@ -56,6 +57,9 @@ test:
 
 fringe: bin/vlbi
 	@$(PYTHON) tools/tests/fringe.py bin/vlbi fringe
+
+sky: bin/vlbi
+	@$(PYTHON) tools/tests/sky.py bin/vlbi sky
 
 # A command finds the package by its own place, so that any prefix will do; Python is told by PYTHONPATH where it does not look there.
 install: $(BUILT)

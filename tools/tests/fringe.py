@@ -18,23 +18,31 @@ if __name__ == "__main__":
     sys.path.insert(0, os.path.dirname(os.path.dirname(os.path.abspath(__file__))))
 
 import theory
+from numpy.typing import NDArray
 
 from vlbi import fringe as fringes
 from vlbi import records, simulate
 from vlbi.commands import plot
 
+Reals = NDArray[numpy.float64]
+
 STATIONS = (simulate.Station("Ef"), simulate.Station("Wb", delay=(4.95e-6, 1e-8), clock=(2.5e-6,)))
 
 
 def correlate(program: str, folder: str, job: str, out_name: str) -> records.Records:
+    """The records of a job of a folder with the schedule sky.vex, which go into a file there."""
+    run_job(program, folder, job, out_name, "sky.vex")
+    return records.read(os.path.join(folder, out_name))
+
+
+def run_job(program: str, folder: str, job: str, out_name: str, schedule: str) -> None:
     """Runs a job of a folder by `run` with four workers; what it prints goes into a file there."""
     journal = os.path.join(folder, f"{job}.journal")
     if os.path.exists(journal):
         os.remove(journal)
-    words = [program, f"{job}.journal", "run", "--job", f"{job}.txt", "--vex", "sky.vex", "--workers", "4", "--piece", "65536"]
+    words = [program, f"{job}.journal", "run", "--job", f"{job}.txt", "--vex", schedule, "--workers", "4", "--piece", "65536"]
     with open(os.path.join(folder, out_name), "wb") as out:
         subprocess.run(words, cwd=folder, stdout=out, check=True)
-    return records.read(os.path.join(folder, out_name))
 
 
 class Comparison:

@@ -517,6 +517,22 @@ def test_thresholds_are_those_of_the_power(folder: Folder) -> None:
     assert spectrum.threshold_of(0.5) == spectrum.threshold_of(9.5) == spectrum.BEST_THRESHOLD
 
 
+def test_a_channel_as_it_was_recorded() -> None:
+    """A tone at `tone` turns a sample, of a station whose delay grows by 0.001 samples in each, is recorded lower by the fringe's turns in a sample. Its
+    sample at the whole delay, turned back by the fringe's exact phase, has on the mean what `rests` says of that recorded frequency."""
+    tone, edge, start, growth = 0.3, 40.0, 0.2, 0.001
+    number = numpy.arange(1700.0)
+    late = start + growth * number
+    taken = number + numpy.floor(late + 0.5)
+    wave = (taken - start) / (1 + growth)  # the wave that is in sample `taken`: wave + its delay = taken
+    lead = taken - wave
+    values = numpy.exp(2j * numpy.pi * (tone * wave - edge * lead)) * numpy.exp(2j * numpy.pi * edge * late)
+    found = (values * numpy.exp(-2j * numpy.pi * tone * number)).mean()
+    ends = numpy.array([[start, start + growth * len(number)]])
+    assert abs(rotation.rests(ends, numpy.array([tone - edge * growth]))[0, 0] - found) < 2e-3
+    assert abs(rotation.rests(ends, numpy.array([tone]))[0, 0] - found) > 0.02
+
+
 def test_the_gain_of_levels_is_their_slope() -> None:
     for bits in (1, 2):
         assert spectrum.level_gain(bits) ** 2 == pytest.approx(float(theory.level_product(1e-4, bits)) / 1e-4, rel=1e-6)

@@ -351,7 +351,8 @@ def test_the_lines_are_the_delays(stretch: str, tmp_path: Path, capsys: pytest.C
     rate, knot, origin = 2_000_000, int(told.group(2)), theory(air=True)
     assert f"knot {knot}\n" in text
     clocks = list(lines_of(text, "clock"))
-    assert clocks[0] == ("Ef", vex.second_of("2010y115d00h00m00s"), [round((1.25e-6 - 28800e-12) * rate * 2 ** 32), round(1e-12 * rate * 2 ** 32)])
+    assert [(key, when - vex.second_of("2010y115d08h29m00s")) for key, when, _ in clocks] == [("Ef", 0), ("Ef", 70), ("Ef", 210)]
+    assert clocks[0][2] == [round((1.25e-6 + 1740e-12) * rate * 2 ** 32), round(1e-12 * rate * 2 ** 32)]
     polys = list(lines_of(text, "poly"))
     assert len(polys) == int(told.group(1))
     greatest = 0.0

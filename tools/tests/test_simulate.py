@@ -18,7 +18,9 @@ from numpy.typing import NDArray
 from vlbi import fringe as fringes
 from vlbi import commands, job, records, vex
 from vlbi.commands import simulate as command
-from vlbi.simulate import BLOCK, THRESHOLD, CommonNoise, Sky, SkyFault, Station, codes_of, packed, simulate, wave_at
+from vlbi.faults import Fault
+from vlbi.simulate import BLOCK, THRESHOLD, CommonNoise, Sky, SkyFault, Station, codes_of, simulate, wave_at
+from vlbi.vdif import packed
 
 SMALL = Sky((Station("A"), Station("B")), rate=80_000, seconds=2)
 ROOT = Path(__file__).resolve().parents[2]
@@ -77,15 +79,15 @@ def simulated(folder: Path, **changes: object) -> Sky:
 def test_frames(tmp_path: Path) -> None:
     second = job.second_of("2013y200d01h02m03s")
     sky = simulated(tmp_path, start=second, channels=2)
-    headers, data = frames_of(tmp_path / "B.vdif", sky.frame_bytes)
-    a_second = sky.rate // sky.frame_samples
+    headers, data = frames_of(tmp_path / "B.vdif", sky.frames.size)
+    a_second = sky.rate // sky.frames.samples
     assert len(headers) == 2 * a_second
     july = job.second_of("2013y182d00h00m00s")
     assert headers[:, 0].tolist() == [second - july] * a_second + [second - july + 1] * a_second
     assert headers[:, 1].tolist() == [27 << 24 | number for number in range(a_second)] * 2
-    assert set(headers[:, 2]) == {1 << 24 | sky.frame_bytes // 8}
+    assert set(headers[:, 2]) == {1 << 24 | sky.frames.size // 8}
     assert set(headers[:, 3]) == {1 << 26 | 2}
-    assert data.shape[1] * 8 == sky.frame_samples * 2 * 2
+    assert data.shape[1] * 8 == sky.frames.samples * 2 * 2
     levels = numpy.bincount((data[..., None] >> numpy.array([0, 2, 4, 6], numpy.uint8) & 3).ravel(), minlength=4) / (2 * 2 * 80_000)
     outer = (1 - theory.normal_between(THRESHOLD)) / 2
     numpy.testing.assert_allclose(levels, [outer, 0.5 - outer, 0.5 - outer, outer], atol=0.01)
@@ -93,15 +95,15 @@ def test_frames(tmp_path: Path) -> None:
 
 def test_threads_apart(tmp_path: Path) -> None:
     sky = simulated(tmp_path, channels=3, apart=True, bits=1)
-    headers, _ = frames_of(tmp_path / "A.vdif", sky.frame_bytes)
+    headers, _ = frames_of(tmp_path / "A.vdif", sky.frames.size)
     assert (headers[:, 3] >> 16 & 1023).tolist() == [0, 1, 2] * (len(headers) // 3)
     assert set(headers[:, 2] >> 24) == {0}
 
 
 def test_missing_and_invalid(tmp_path: Path) -> None:
     sky = simulated(tmp_path, seconds=20, missing=0.2, invalid=0.1)
-    headers, _ = frames_of(tmp_path / "A.vdif", sky.frame_bytes)
-    due = sky.seconds * sky.rate // sky.frame_samples
+    headers, _ = frames_of(tmp_path / "A.vdif", sky.frames.size)
+    due = sky.seconds * sky.rate // sky.frames.samples
     assert len(headers) / due == pytest.approx(0.8, abs=0.15)
     assert (headers[:, 0] >> 31).mean() == pytest.approx(0.1, abs=0.08)
 
@@ -148,7 +150,7 @@ def test_a_sideband_for_each_channel(tmp_path: Path) -> None:
 ])
 def test_what_cannot_be_simulated(tmp_path: Path, changes: dict[str, object], said: str) -> None:
     """Nothing is written then."""
-    with pytest.raises(SkyFault, match=said):
+    with pytest.raises(Fault, match=said):
         simulated(tmp_path / "sky", **changes)
     assert not (tmp_path / "sky").exists()
 
@@ -159,7 +161,7 @@ def test_jobs_that_the_program_takes(tmp_path: Path) -> None:
             simulate(SMALL, str(tmp_path / "sky"), lags, integration)
     # 64 channels of two bits are two words
     many = dataclasses.replace(SMALL, channels=64, stations=tuple(Station(f"S{number}") for number in range(32)), rate=64_000_000)
-    assert many.frame_samples == 500
+    assert many.frames.samples == 500
     from vlbi.simulate import job_text
 
     epoch = int(job.job_lines(job_text(many, 2, 8_000_000).encode())["epoch"][0][0])
@@ -301,7 +303,7 @@ def test_what_is_missing_is_counted(tmp_path: Path) -> None:
     scan = correlated(sky, tmp_path, 2, auto=True).scans[0]
     counts = {}
     for station in ("A", "B"):
-        headers, _ = frames_of(tmp_path / f"{station}.vdif", sky.frame_bytes)
+        headers, _ = frames_of(tmp_path / f"{station}.vdif", sky.frames.size)
         counts[station] = len(headers), int((headers[:, 0] >> 31).sum())
     if program.PROGRAM:
         lines = [f"station {key} slots {slots} doubled 0 invalid {invalid} foreign 0 late 0\n" for key, (slots, invalid) in counts.items()]
@@ -310,5 +312,5 @@ def test_what_is_missing_is_counted(tmp_path: Path) -> None:
     for number, key in enumerate(("A", "B")):
         slots, invalid = counts[key]
         paired = scan.cells[:, 0, scan.baselines.index((number, number)), 1]["count"].sum()
-        assert int(paired) == (slots - invalid) * sky.frame_samples
+        assert int(paired) == (slots - invalid) * sky.frames.samples
         assert fringes.power(scan, number, "CH01") == pytest.approx(float(theory.level_power(THRESHOLD)), abs=0.05)

@@ -346,6 +346,13 @@ def fill_visibilities(rows: NDArray[Any], setup: Setup, shape: Shape, scan: Scan
         rows["WEIGHT"][..., band, stokes] = weights
 
 
+def stretches(scan: Scan, chosen: slice) -> Reals:
+    """Begins and ends of PIECES stretches of each of some integrations, in seconds behind the scan's start."""
+    begins = scan.begins[chosen]
+    ends = numpy.minimum(begins + scan.head.integration, scan.samples)
+    return rotation.stretches(begins / scan.head.rate, ends / scan.head.rate, PIECES)
+
+
 class Amplitudes:
     """What visibilities are: mean products of levels, or coefficients of correlation.
 
@@ -393,16 +400,18 @@ class Amplitudes:
 
     def late(self, scan: Scan, station: int, chosen: slice) -> Reals:
         """A station's delay in samples at the begins and the ends of the stretches of some integrations, PIECES in each."""
-        begins = scan.begins[chosen]
-        ends = numpy.minimum(begins + scan.head.integration, scan.samples)
-        edges = rotation.stretches(begins / scan.head.rate, ends / scan.head.rate, PIECES)
-        return self.delays.samples(scan.head.stations[station], scan.start, edges)
+        return self.delays.samples(scan.head.stations[station], scan.start, stretches(scan, chosen))
 
     def gain(self, scan: Scan, station: int, band: Band, chosen: slice, many: int) -> Complexes:
-        """What rotation and whole delays leave of a station's signal, in each integration and channel: complex128 (M, K)."""
+        """What rotation and whole delays leave of a station's signal, in each integration and channel: complex128 (M, K).
+
+        As it was recorded a channel lies lower than it does without its fringe, by the fringe's turns in a sample.
+        """
         late = self.late(scan, station, chosen)
-        turned = rotation.gain(late * (band.sign * band.hertz / scan.head.rate)).reshape(-1, PIECES).mean(axis=1)
-        rested = rotation.rests(late, numpy.arange(many) / scan.head.lags).reshape(-1, PIECES, many).mean(axis=1)
+        turns = late * (band.sign * band.hertz / scan.head.rate)
+        in_sample = numpy.diff(turns, axis=1) / (numpy.diff(stretches(scan, chosen), axis=1) * scan.head.rate)
+        rested = rotation.rests(late, numpy.arange(many) / scan.head.lags - in_sample).reshape(-1, PIECES, many).mean(axis=1)
+        turned = rotation.gain(turns).reshape(-1, PIECES).mean(axis=1)
         found: Complexes = turned[:, None] * rested
         return found if band.side == "U" else numpy.conj(found)[:, ::-1]
 

@@ -93,32 +93,6 @@ class Origin(Protocol):
 
 # Parts
 
-def chosen_scans(schedule: vex.Schedule, names: Sequence[str]) -> list[vex.Scan]:
-    """The scans of these names, or all; Fault where there is none of a name."""
-    there = {scan.name for scan in schedule.scans}
-    for name in names:
-        if name not in there:
-            raise Fault(f"no scan {name}", schedule.path)
-    return [scan for scan in schedule.scans if not names or scan.name in names]
-
-
-def chosen_stations(schedule: vex.Schedule, scans: Sequence[vex.Scan], keys: Sequence[str]) -> list[str]:
-    """These stations, or all of the scans, in the order in which they come; Fault where one is in none."""
-    there = list(dict.fromkeys(one.key for scan in scans for one in scan.passes))
-    for key in keys:
-        if key not in there:
-            raise Fault(f"no station {key} in the scans", schedule.path)
-    return [key for key in there if not keys or key in keys]
-
-
-def rate_of(schedule: vex.Schedule, scans: Sequence[vex.Scan], keys: Sequence[str]) -> int:
-    """The samples a second of all these stations in all these scans; Fault where they differ, or where there is nothing."""
-    rates = {one.setup.rate for scan in scans for one in scan.passes if one.key in keys}
-    if len(rates) != 1:
-        raise Fault(f"a job has one sample rate: these scans have {', '.join(map(str, sorted(rates))) or 'none'}", schedule.path)
-    return rates.pop()
-
-
 def parts_of(schedule: vex.Schedule, scans: Sequence[vex.Scan], keys: Sequence[str]) -> list[Part]:
     """A Part for each station and scan, by time: from the scan's start to its end, or to where the station's next part begins."""
     made = [part for key in keys for part in of_station(schedule, scans, key)]
@@ -242,17 +216,26 @@ def clock_seconds(schedule: vex.Schedule, key: str) -> list[int]:
 
 def clocks_of(schedule: vex.Schedule, parts: Sequence[Part], rate: int) -> dict[str, list[str]]:
     """The `clock` lines of each station of these parts."""
-    first = {part.key: part.begin for part in reversed(parts)}
-    return {key: clock_lines(schedule, key, first[key], rate) for key in sorted(first)}
+    begins: dict[str, list[int]] = {}
+    for part in parts:
+        begins.setdefault(part.key, []).append(part.begin)
+    return {key: clock_lines(schedule, key, begins[key], rate) for key in sorted(begins)}
 
 
-def clock_lines(schedule: vex.Schedule, key: str, first: int, rate: int) -> list[str]:
-    """The `clock` lines of a station, none where the schedule has no clock of it; Fault where none counts at the second `first`."""
+def clock_lines(schedule: vex.Schedule, key: str, begins: Sequence[int], rate: int) -> list[str]:
+    """The `clock` lines of a station, none where the schedule has no clock of it; Fault where none counts at the first of these seconds.
+
+    begins  the seconds at which its parts begin: each has a line, since a job rounds a drift, and what that comes to grows with the time since
+    """
     clocks = {math.floor(clock.since): clock for clock in schedule.clocks(key)}
-    if clocks and min(clocks) > first:
+    if not clocks:
+        return []
+    first = min(begins)
+    if min(clocks) > first:
         raise Fault(f"the clock of station {key} counts from {vex.vex_time(min(clocks))} on, and its first scan is before that", schedule.path)
     lines = []
-    for when, clock in sorted(clocks.items()):
+    for when in sorted({*begins, *(since for since in clocks if since > first)}):
+        clock = clocks[max(since for since in clocks if since <= when)]
         early = jobs.exact(clock.early) + jobs.exact(clock.rate) * (when - jobs.exact(clock.at))
         lines.append(jobs.clock_line(key, when, str(early * 10 ** 6), clock.rate, rate))
     return lines

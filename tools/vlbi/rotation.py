@@ -105,10 +105,10 @@ def power(turns: Reals) -> Reals:
 
 
 def rests(late: Reals, places: Reals) -> Complexes:
-    """What whole delays leave at these places in the band: complex128 (N, K), the mean turn of a wave that is up to half a sample early.
+    """What whole delays leave at these places in the recorded band: complex128 (N, K), the mean turn of a wave that is up to half a sample early.
 
     late    float64 (N, 2): the delay in samples at the begin and the end of each stretch, between which it changes evenly
-    places  float64 (K,): frequencies in turns a sample
+    places  float64 (K,) or (N, K): frequencies in turns a sample
     """
     def value(delays: Reals) -> Complexes:
         found: Complexes = numpy.exp(-2j * numpy.pi * places * (delays - numpy.floor(delays + 0.5))[..., None])

@@ -8,15 +8,12 @@ clocks out, and the job blind.txt, which knows nothing of them. It is the comman
 """
 from __future__ import annotations
 
-import calendar
 import contextlib
 import dataclasses
 import functools
 import os
 import re
-import struct
-import time
-from collections.abc import Callable, Sequence
+from collections.abc import Callable, Iterator, Sequence
 from typing import BinaryIO
 
 import numpy
@@ -24,16 +21,14 @@ from numpy.typing import NDArray
 
 from vlbi import job as jobs
 from vlbi.faults import Fault
+from vlbi.vdif import Codes, Frames, Recording, reference_epoch
 
 Reals = NDArray[numpy.float64]
 Complexes = NDArray[numpy.complex128]
-Codes = NDArray[numpy.uint8]
 
 THRESHOLD = 0.9957  # the greatest signal to noise of levels -3, -1, +1, +3, in standard deviations of the samples
 BLOCK = 1 << 16     # samples that are made at once
 FINER = 4           # places between two samples at which the common noise is computed, before it is read between them
-HEAD_BYTES = 32
-MOST_DATA = 8000    # bytes of data in a frame, at most
 MOST_STATIONS = 32
 MOST_CHANNELS = 64
 MOST_LAGS = 1024
@@ -110,8 +105,7 @@ class Sky:
             raise SkyFault(f"a sample has 1 or 2 bits, not {self.bits}")
         if not re.fullmatch("[UL]+", self.sideband) or len(self.sideband) not in (1, self.channels):
             raise SkyFault(f"sidebands are U or L, one for all channels or one for each of {self.channels}: {self.sideband}")
-        if not all(0 <= part <= 1 for part in (self.common, self.missing, self.invalid)):
-            raise SkyFault("a part lies between 0 and 1")
+        check_parts(self.common, self.missing, self.invalid)
         if min(self.frequencies) < 0 or max(self.frequencies) >= 2 ** 40:
             raise SkyFault(f"a sky frequency past its range, 0 to 2^40 - 1 hertz: {min(self.frequencies)} to {max(self.frequencies)}")
 
@@ -119,8 +113,7 @@ class Sky:
         """SkyFault where two stations have one key, or where a key is no name of a file and no word of a job and a schedule."""
         keys = [station.key for station in self.stations]
         for number, key in enumerate(keys):
-            if not re.fullmatch(r"[A-Za-z0-9_][A-Za-z0-9_.+-]{0,63}", key):
-                raise SkyFault(f"a station's key is made of letters, digits, _, and behind the first . + -: {key!r}")
+            check_key(key)
             if key in keys[:number]:
                 raise SkyFault(f"two stations have the key {key}")
 
@@ -146,24 +139,9 @@ class Sky:
         return tuple(lowest + (number + (side == "L")) * self.bandwidth for number, side in enumerate(self.sides))
 
     @property
-    def in_frame(self) -> int:
-        """The channels in one frame: all, or one where each has a thread of its own."""
-        return 1 if self.apart else self.channels
-
-    @property
-    def frame_samples(self) -> int:
-        """The complete samples in a frame: the most that fill whole words, go evenly into a second and are few enough bytes."""
-        if self.in_frame not in (1, 2, 4, 8, 16, 32, 64):
-            raise SkyFault(f"{self.in_frame} channels cannot stand in one frame: their number is a power of two up to 64, or they stand apart")
-        word = max(1, 64 // (self.bits * self.in_frame))
-        fits = [many for many in range(word, MOST_DATA * 8 // (self.bits * self.in_frame) + 1, word) if self.rate % many == 0]
-        if not fits:
-            raise SkyFault(f"no frame goes evenly into a second of {self.rate} samples")
-        return fits[-1]
-
-    @property
-    def frame_bytes(self) -> int:
-        return HEAD_BYTES + self.frame_samples * self.bits * self.in_frame // 8
+    def frames(self) -> Frames:
+        """What all frames have alike."""
+        return Frames(self.rate, self.channels, self.bits, self.apart)
 
     def model_lines(self, station: Station) -> list[str]:
         """The `clock` and the `poly` line of a station, for the job's knot."""
@@ -180,6 +158,18 @@ class Sky:
         if knot is None or jobs.knot_seconds(knot, self.rate) <= self.seconds:
             raise SkyFault("no job can hold these delays over the whole scan")
         return knot
+
+
+def check_parts(*parts: float) -> None:
+    """SkyFault where one of these is no part of a whole."""
+    if not all(0 <= part <= 1 for part in parts):
+        raise SkyFault("a part lies between 0 and 1")
+
+
+def check_key(key: str) -> None:
+    """SkyFault where a station's key is no name of a file, and no word of a job and a schedule."""
+    if not re.fullmatch(r"[A-Za-z0-9_][A-Za-z0-9_.+-]{0,63}", key):
+        raise SkyFault(f"a station's key is made of letters, digits, _, and behind the first . + -: {key!r}")
 
 
 class CommonNoise:
@@ -237,11 +227,13 @@ def wave_at(sky: Sky, station: Station, recorded: Reals) -> tuple[Reals, Reals]:
     return wave, lead
 
 
-def voltages(sky: Sky, station: Station, channel: int, common: CommonNoise, recorded: Reals) -> Reals:
-    """The part of a station's samples that it has in common with the others, of power 1: float64 of the shape of `recorded`."""
-    wave, lead = wave_at(sky, station, recorded)
-    sign = 1 if sky.sides[channel] == "U" else -1
-    turns = numpy.mod(sky.frequencies[channel] * lead, 1.0)
+def in_common(common: CommonNoise, wave: Reals, lead: Reals, hertz: int, side: str) -> Reals:
+    """The part of a station's samples that it has in common with the others, of power 1, in a channel with its edge at a sky frequency.
+
+    wave, lead  as `wave_at` says them, float64 of the shape of the answer
+    """
+    sign = 1 if side == "U" else -1
+    turns = numpy.mod(hertz * lead, 1.0)
     seen: Reals = numpy.sqrt(2) * (common.at(wave) * numpy.exp(-2j * numpy.pi * sign * turns)).real
     return seen
 
@@ -253,61 +245,29 @@ def codes_of(voltage: Reals, bits: int) -> Codes:
     return numpy.digitize(voltage, (-THRESHOLD, 0.0, THRESHOLD)).astype(numpy.uint8)
 
 
-def packed(codes: Codes, bits: int) -> Codes:
-    """The bytes of codes in their order, uint8: the lowest bits of a byte come first."""
-    in_byte = 8 // bits
-    shifts = numpy.arange(in_byte, dtype=numpy.uint8) * bits
-    together: Codes = numpy.bitwise_or.reduce(codes.reshape(-1, in_byte) << shifts, axis=1)
-    return together
+class Receiver:
+    """A station's samples: the part that it has in common with the others, its own noise, and its levels.
 
+    number  that of the station
+    common  the part of its power that all have in common
+    """
 
-class Recording:
-    """A station's recording, to which frames are added in their order."""
+    def __init__(self, number: int, common: float, bits: int, seed: int) -> None:
+        self.common, self.bits = common, bits
+        self.random = numpy.random.default_rng([seed, 2 ** 21 + number - 1])
 
-    def __init__(self, sky: Sky, number: int, file: BinaryIO) -> None:
-        self.sky = sky
-        self.number = number
-        self.file = file
-        self.random = numpy.random.default_rng([sky.seed, 2 ** 20 + number])
-        self.frames = 0
-        self.epoch, self.epoch_second = reference_epoch(sky.start)
+    def codes(self, noise: Sequence[CommonNoise], bands: Sequence[tuple[int, str]], wave: Reals, lead: Reals) -> Codes:
+        """The codes of the samples of this wave, uint8 of the shape (complete samples, channels).
 
-    def add(self, codes: Codes) -> None:
-        """Adds the frames of these codes, uint8 of the shape (complete samples, channels), of whole frames."""
-        sky = self.sky
-        data = codes.reshape(-1, sky.frame_samples, sky.channels)
-        for frame in data:
-            if sky.apart:
-                for channel in range(sky.channels):
-                    self.add_frame(channel, packed(frame[:, channel], sky.bits))
-            else:
-                self.add_frame(0, packed(frame.ravel(), sky.bits))
-            self.frames += 1
-
-    def add_frame(self, thread: int, data: Codes) -> None:
-        sky = self.sky
-        missing, invalid = self.random.random(2) < (sky.missing, sky.invalid)
-        if not missing:
-            second, number = divmod(self.frames, sky.rate // sky.frame_samples)
-            second += sky.start - self.epoch_second
-            channels_log2 = sky.in_frame.bit_length() - 1
-            self.file.write(struct.pack(
-                "<IIII16x",
-                int(invalid) << 31 | second,
-                self.epoch << 24 | number,
-                channels_log2 << 24 | sky.frame_bytes // 8,
-                (sky.bits - 1) << 26 | thread << 16 | self.number,
-            ))
-            self.file.write(data.tobytes())
-
-
-def reference_epoch(second: int) -> tuple[int, int]:
-    """The number of the VDIF reference epoch in which a second since 1970-01-01 lies, and the second with which it begins."""
-    year, month = time.gmtime(second)[:2]
-    half = int(month > 6)
-    if not 2000 <= year < 2032:
-        raise SkyFault(f"no VDIF reference epoch in the year {year}")
-    return 2 * (year - 2000) + half, calendar.timegm((year, 7 if half else 1, 1, 0, 0, 0))
+        noise, bands  of each channel the noise in common, and its edge's sky frequency and sideband
+        wave, lead    as `wave_at` says them
+        """
+        codes = numpy.empty((len(wave), len(bands)), numpy.uint8)
+        for channel, (shared, (hertz, side)) in enumerate(zip(noise, bands)):
+            seen = in_common(shared, wave, lead, hertz, side)
+            own = self.random.standard_normal(len(wave))
+            codes[:, channel] = codes_of(numpy.sqrt(self.common) * seen + numpy.sqrt(1 - self.common) * own, self.bits)
+        return codes
 
 
 def write_recordings(sky: Sky, folder: str, progress: Callable[[float], None] = no_progress) -> None:
@@ -320,20 +280,23 @@ def write_recordings(sky: Sky, folder: str, progress: Callable[[float], None] = 
 
 def write_blocks(sky: Sky, common: list[CommonNoise], files: Sequence[BinaryIO], progress: Callable[[float], None]) -> None:
     """Writes the recordings into these open files, with this common noise of each channel."""
-    recordings = [Recording(sky, number, file) for number, file in enumerate(files, 1)]
-    noise = [numpy.random.default_rng([sky.seed, 2 ** 21 + number]) for number in range(len(files))]
-    step = max(1, BLOCK // sky.frame_samples) * sky.frame_samples
-    total = sky.rate * sky.seconds
-    for first in range(0, total, step):
-        recorded = numpy.arange(first, min(first + step, total), dtype=numpy.float64)
-        for station, recording, random in zip(sky.stations, recordings, noise):
-            codes = numpy.empty((len(recorded), sky.channels), numpy.uint8)
-            for channel in range(sky.channels):
-                shared = voltages(sky, station, channel, common[channel], recorded)
-                own = random.standard_normal(len(recorded))
-                codes[:, channel] = codes_of(numpy.sqrt(sky.common) * shared + numpy.sqrt(1 - sky.common) * own, sky.bits)
-            recording.add(codes)
-        progress(min(first + step, total) / sky.rate)
+    frames, bands = sky.frames, list(zip(sky.frequencies, sky.sides))
+    recordings = [Recording(frames, number, file, sky.missing, sky.invalid, sky.seed) for number, file in enumerate(files, 1)]
+    receivers = [Receiver(number, sky.common, sky.bits, sky.seed) for number in range(1, len(files) + 1)]
+    for recording in recordings:
+        recording.go_to(sky.start, 0)
+    for first, past in blocks(frames, 0, sky.rate * sky.seconds):
+        recorded = numpy.arange(first, past, dtype=numpy.float64)
+        for station, recording, receiver in zip(sky.stations, recordings, receivers):
+            recording.add(receiver.codes(common, bands, *wave_at(sky, station, recorded)))
+        progress(past / sky.rate)
+
+
+def blocks(frames: Frames, first: int, past: int) -> Iterator[tuple[int, int]]:
+    """The first samples, and those behind the last ones, of blocks of whole frames from `first` up to `past`."""
+    step = max(1, BLOCK // frames.samples) * frames.samples
+    for begin in range(first, past, step):
+        yield begin, min(begin + step, past)
 
 
 def schedule_text(sky: Sky) -> str:
@@ -363,22 +326,31 @@ scan No0001;
 
 def job_text(sky: Sky, lags: int, integration: int, model: bool = True, auto: bool = False) -> str:
     """The job's text; with `model` it has the delays and clocks of the stations, with `auto` the stations with themselves too."""
-    if lags % 2 != 0 or not 2 <= lags <= MOST_LAGS:
-        raise SkyFault(f"the number of lags is even, 2 to {MOST_LAGS}: {lags}")
-    if not 1 <= integration <= 2 ** 36:
-        raise SkyFault(f"an integration has 1 to 2^36 samples: {integration}")
-    epoch = min(integration, MOST_EPOCH, MOST_LOAD // (len(sky.stations) * sky.channels))
-    lines = [f"lags {lags}", f"integration {integration}", f"epoch {epoch}", f"knot {sky.knot}", *["auto"] * auto]
+    lines = [*head_lines(lags, integration, len(sky.stations) * sky.channels, auto), f"knot {sky.knot}"]
     for number, station in enumerate(sky.stations, 1):
-        key = station.key
-        lines.append(f"station {key} {number} {sky.bits} {sky.in_frame} {sky.frame_bytes}")
-        lines.append(f"file {key} {key}.vdif")
-        for channel, name in enumerate(sky.names):
-            lines.append(f"chan {key} {name} {channel} 0" if sky.apart else f"chan {key} {name} 0 {channel}")
+        lines += station_lines(sky.frames, number, station.key, sky.names)
         if model:
             lines += sky.model_lines(station)
     lines += [f"product {name} {name}" for name in sky.names]
     return "\n".join(lines) + "\n"
+
+
+def head_lines(lags: int, integration: int, streams: int, auto: bool) -> list[str]:
+    """The job's lines `lags`, `integration`, `epoch` and `auto`, for so many channels of all stations; SkyFault where the program takes no such job."""
+    if lags % 2 != 0 or not 2 <= lags <= MOST_LAGS:
+        raise SkyFault(f"the number of lags is even, 2 to {MOST_LAGS}: {lags}")
+    if not 1 <= integration <= 2 ** 36:
+        raise SkyFault(f"an integration has 1 to 2^36 samples: {integration}")
+    epoch = min(integration, MOST_EPOCH, MOST_LOAD // streams)
+    return [f"lags {lags}", f"integration {integration}", f"epoch {epoch}", *["auto"] * auto]
+
+
+def station_lines(frames: Frames, number: int, key: str, names: Sequence[str]) -> list[str]:
+    """The job's lines `station`, `file` and `chan` of a station with channels of these names, in the order in which it records them."""
+    lines = [f"station {key} {number} {frames.bits} {frames.in_frame} {frames.size}", f"file {key} {key}.vdif"]
+    for channel, name in enumerate(names):
+        lines.append(f"chan {key} {name} {channel} 0" if frames.apart else f"chan {key} {name} 0 {channel}")
+    return lines
 
 
 def simulate(

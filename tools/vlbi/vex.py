@@ -17,7 +17,7 @@ import functools
 import math
 import re
 import time
-from collections.abc import Callable, Iterable, Iterator, Mapping
+from collections.abc import Callable, Iterable, Iterator, Mapping, Sequence
 from typing import TypeVar
 
 from vlbi.faults import Fault, PlacedFault
@@ -617,6 +617,32 @@ def from_bytes(text: bytes, path: str | None = None) -> Schedule:
     except VexFault as fault:
         fault.name_file(path)
         raise
+
+
+def chosen_scans(schedule: Schedule, names: Sequence[str]) -> list[Scan]:
+    """The scans of these names, or all; Fault where there is none of a name."""
+    there = {scan.name for scan in schedule.scans}
+    for name in names:
+        if name not in there:
+            raise Fault(f"no scan {name}", schedule.path)
+    return [scan for scan in schedule.scans if not names or scan.name in names]
+
+
+def chosen_stations(schedule: Schedule, scans: Sequence[Scan], keys: Sequence[str]) -> list[str]:
+    """These stations, or all of the scans, in the order in which they come; Fault where one is in none."""
+    there = list(dict.fromkeys(one.key for scan in scans for one in scan.passes))
+    for key in keys:
+        if key not in there:
+            raise Fault(f"no station {key} in the scans", schedule.path)
+    return [key for key in there if not keys or key in keys]
+
+
+def rate_of(schedule: Schedule, scans: Sequence[Scan], keys: Sequence[str]) -> int:
+    """The samples a second of all these stations in all these scans; Fault where they differ, or where there is nothing."""
+    rates = {one.setup.rate for scan in scans for one in scan.passes if one.key in keys}
+    if len(rates) != 1:
+        raise Fault(f"a job has one sample rate: these scans have {', '.join(map(str, sorted(rates))) or 'none'}", schedule.path)
+    return rates.pop()
 
 
 def byte_length(name: str) -> int:

@@ -54,9 +54,9 @@ def make(given: argparse.Namespace) -> int:
 
     schedule = vex.read(given.schedule)
     try:
-        scans = model.chosen_scans(schedule, given.scan)
-        keys = model.chosen_stations(schedule, scans, given.station)
-        rate = model.rate_of(schedule, scans, keys)
+        scans = vex.chosen_scans(schedule, given.scan)
+        keys = vex.chosen_stations(schedule, scans, given.station)
+        rate = vex.rate_of(schedule, scans, keys)
         origin = origin_of(schedule, given)
         parts = model.parts_of(schedule, scans, keys)
         clocks = model.clocks_of(schedule, parts, rate)

@@ -110,7 +110,7 @@ module _ {D : Type 0} (seen : D → Option (List ℕ)) (moment : D → ℕ) (may
 
   module _ (law : OneOutcome) (files : Files) (words : List (List ℕ)) (job : Call) (base : IsRunBy files words job) where
     back : (images : List ℕ → Type 0) (step : Step D) → IsStep seen moment may_leave files job images step → AreAlike files step.call job
-    back images step is = alike law files step.words words step.call job is.runs base (sym is.same)
+    back images step is = alike law files step.words words step.call job is.runs base (sym is.same.0, sym is.same.1)
 
     stays : (images : List ℕ → Type 0) → ((image : List ℕ) → images image → (is_blank image ≡ true) ⊎ IsHonest files job image)
         → (step : Step D) → IsStep seen moment may_leave files job images step → StaysHonest files job step.status moment may_leave step.old step.new

@@ -1,6 +1,6 @@
 //! The record file of a plan, on one thread: each integration is summed epoch by epoch, and its records are written before the
 //! next one is read.
-ghost use Rattle.std.specs.Prelude.{◌≡◌, ◌≤◌, ◌<◌, Some, flat_map, length, slice_get, IsSome, IfErr};
+ghost use Rattle.std.specs.Prelude.{◌≡◌, ◌≤◌, ◌<◌, Some, flat_map, length, slice_get, IfErr, IfSome, option_copied};
 ghost use Rattle.std.specs.List.{range_with_len};
 ghost use Rattle.std.specs.Str.{IsUtf8};
 ghost use Rattle.dev_traits.specs.Told.{WhereTold};

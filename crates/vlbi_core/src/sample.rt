@@ -1,5 +1,6 @@
 //! The job of a generated sample, correlated over devices in memory.
-ghost use Rattle.std.specs.Prelude.{◌≡◌, ◌≤◌, IfOk, IfErr};
+ghost use Rattle.std.specs.Prelude.{◌≡◌, ◌≤◌, IfOk, IfErr, codes};
+ghost use Rattle.std.specs.Str.{IsUtf8};
 ghost use Rattle.mem_devices.specs.MemShelfState.{files_of};
 ghost use Rattle.sample_gen.specs.Frames.{recording_of};
 ghost use Rattle.run_words.specs.Orders.{IsWork, IsSample};
@@ -76,7 +77,7 @@ fn sample_records<R: Threads + Sync, G: Gate + Sync>(
 {
     one_outcome();
     comes_to_a_plan();
-    let job = Name::new(alloc, "job".as_bytes())?;
+    let job = sample_name(alloc)?;
     let mut shelf = SureShelf::new(alloc, sample_files(alloc, seed, seconds)?);
     let mut journal = MemDisk::new(alloc, Vec::new(alloc), Vec::new(alloc), None)?;
     let mut out = MemSink::new(alloc, usize::MAX, Vec::new(alloc));
@@ -110,6 +111,14 @@ fn in_memory(refusal: Refusal) -> AllocError
         Refusal::Other(_) => unreachable!(),
         Refusal::Read => unreachable!(),
     }
+}
+
+// The name of a sample's job.
+fn sample_name(alloc: Global) -> Result<Name, AllocError>
+    ensures name { IfOk result (λ name. name ≡ codes "job") }
+    ensures text { IfOk result IsUtf8 }
+{
+    Name::new(alloc, "job".as_bytes())
 }
 
 // The job of a sample, and its recordings.

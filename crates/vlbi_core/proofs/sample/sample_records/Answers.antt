@@ -1,4 +1,4 @@
-use Rattle.std.proofs.Common.{◌≡◌, ◌∙◌, rules, refl, ap, codes, List, ℕ, None, Some}
+use Rattle.std.proofs.Common.{◌≡◌, ◌∙◌, rules, refl, ap, List, ℕ, None, Some}
 use Rattle.mem_devices.specs.MemSinkState.{MemSinkState}
 use Rattle.mem_devices.specs.MemDiskState.{State, start}
 use Rattle.vlbi_core.proofs.SampleLemmas.{IsSampleJob, sampled-does, refused-memory}
@@ -6,8 +6,7 @@ use Rattle.vlbi_core.proofs.sample.sample_records.Goals as goal
 
 pub returns-in-Ok : goal.returns-in-Ok
 returns-in-Ok g c =
-    let job_is : c.in_ok-job.job ≡ codes "job" = cc in
-    let names : IsSampleJob c.in_ok-job.job None = record { job_is = job_is; alone = refl } in
+    let names : IsSampleJob c.in_ok-job.job None = record { job_is = c.in_ok-job.ensures.name; alone = refl } in
     let same_files = c.new-shelf.ensures ∙ c.in_ok-sample_files.ensures in
     let blank = ap (λ (s : State). Some s.seen) c.in_ok-journal.ensures.state ∙ ap (λ (b : List ℕ). Some (start b).seen) c.new.ensures.items in
     let none = ap (λ (s : MemSinkState). s.bytes) c.new-out.ensures in
@@ -18,8 +17,7 @@ returns-in-Ok g c =
 
 pub in_memory-requires : goal.in_memory-requires
 in_memory-requires g c =
-    let job_is : c.in_ok-job.job ≡ codes "job" = cc in
-    let names : IsSampleJob c.in_ok-job.job None = record { job_is = job_is; alone = refl } in
+    let names : IsSampleJob c.in_ok-job.job None = record { job_is = c.in_ok-job.ensures.name; alone = refl } in
     let same_files = c.new-shelf.ensures ∙ c.in_ok-sample_files.ensures in
     let blank = ap (λ (s : State). Some s.seen) c.in_ok-journal.ensures.state ∙ ap (λ (b : List ℕ). Some (start b).seen) c.new.ensures.items in
     let plan = c.comes_to_a_plan.ensures c.args.seed c.args.seconds c.requires.sample.some c.requires.sample.few in

@@ -19,7 +19,7 @@ from collections.abc import Callable, Iterable, Iterator, Sequence
 from vlbi import job as jobs
 from vlbi import joined, recording, records, vex
 from vlbi.faults import Fault
-from vlbi.words import COMMANDS, FORMS, GREATEST, RANGES, RECORD_RULES, SCHEDULE_FAULTS, WANTED, WANTED_INLINE
+from vlbi.words import COMMANDS, FORMS, GREATEST, NAMED, RANGES, RECORD_RULES, SCHEDULE_FAULTS, WANTED, WANTED_INLINE
 
 SHOWN = 100  # characters of a line that is shown
 TIME_WORDS = "a time is written 2010y113d20h29m00s, of a day that its year has"
@@ -47,6 +47,18 @@ class Call:
         return found
 
     @property
+    def names(self) -> list[str]:
+        """The words that are no options and no values of them."""
+        found, rest = [], list(self.words[1:])
+        while rest:
+            word = rest.pop(0)
+            if word in COMMANDS.get(self.command, {}):
+                rest[:1] = []
+            elif not word.startswith("-"):
+                found.append(word)
+        return found
+
+    @property
     def job(self) -> str | None:
         return next(iter(self.values("--job")), None)
 
@@ -59,6 +71,7 @@ def advice(call: Call, status: int, note: str) -> list[str]:
     """What to do after a status of a call, and its line on standard error: lines, none for the status 0."""
     handlers: dict[int, Callable[[Call, str], Iterable[str]]] = {
         1: memory, 2: of_words, 3: of_schedule, 4: of_job, 5: of_content, 6: of_limit, 7: of_read, 8: of_journal, 9: of_output, 10: of_other, 11: of_name,
+        13: of_certificate,
     }
     if status not in handlers:
         return []
@@ -102,16 +115,14 @@ def wrong_values(option: str, given: Iterable[str]) -> Iterator[str]:
 
 def unknown_words(call: Call, known: Iterable[str]) -> Iterator[str]:
     """The words that are no options of the command and no values of them."""
-    rest = list(call.words[1:])
-    if call.command == "dump":
-        if len(rest) != 1:
-            yield "`dump` takes the name of one record file"
-        return
+    rest, wanted = list(call.words[1:]), NAMED.get(call.command, ())
+    if wanted and len(call.names) != len(wanted):
+        yield f"`{call.command}` takes the name of {' and that of '.join(wanted)}"
     while rest:
         word = rest.pop(0)
         if word in known:
             rest[:1] = []
-        elif word.split("=")[0] not in known:
+        elif word.split("=")[0] not in known and not (wanted and word in call.names):
             yield f"`{word}` is no option of `{call.command}`: {', '.join(known)}{likely(word, known)}"
 
 
@@ -316,6 +327,18 @@ def of_limit(call: Call, note: str) -> Iterator[str]:
         yield words
 
 
+def of_certificate(call: Call, note: str) -> Iterator[str]:
+    """Which line of a certificate is wrong."""
+    at = int(note.rsplit(" ", 1)[1])
+    path = call.names[1]
+    with open(path, "rb") as file:
+        text = file.read()
+    number = text.count(b"\n", 0, at) + 1
+    line = text[at:].split(b"\n", 1)[0].decode("utf-8", "replace")
+    yield f"{path}:{number}: " + (f"`{line[:80]}` is not the line that is due here, or not true" if at < len(text) else "a line is missing here")
+    yield f"the text was changed or cut short, or it is the certificate of another record file: `fringe` writes that of {call.names[0]}"
+
+
 def of_read(call: Call, note: str) -> Iterator[str]:
     wrong = [words for path in named_files(call) for words in why_not(path)]
     yield from wrong or ["All files that the call names can be opened now: look at the disk they are on."]
@@ -330,8 +353,8 @@ def of_name(call: Call, note: str) -> Iterator[str]:
 def named_files(call: Call) -> list[str]:
     """The files that a call reads: schedule, job, and the recordings that the job names."""
     given = [path for path in (call.schedule, call.job) if path is not None]
-    if call.command == "dump":
-        given += call.words[1:]
+    if call.command in NAMED:
+        given += call.names
     if call.job is not None and os.path.isfile(call.job) and os.access(call.job, os.R_OK):
         with open(call.job, "rb") as file:
             given += [os.fsdecode(fields[1].encode("latin-1")) for fields in jobs.job_lines(file.read()).get("file", []) if len(fields) == 2]

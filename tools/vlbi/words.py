@@ -12,8 +12,12 @@ COMMANDS: dict[str, dict[str, bool]] = {  # the options of each, and whether it 
     "status": JOB_OPTIONS,
     "dump": {},
     "gen": {"--seed": True, "--seconds": True, **WORK_OPTIONS},
+    "fringe": {"--rates": True, "--divide": True},
+    "verify": {},
 }
-RANGES = {"--workers": (1, 64), "--piece": (64, 4194304), "--seed": (0, 2 ** 64 - 1), "--seconds": (1, 60)}
+NAMED = {"dump": ("one record file",), "fringe": ("one record file",), "verify": ("one record file", "one certificate")}  # without an option
+RANGES = {"--workers": (1, 64), "--piece": (64, 4194304), "--seed": (0, 2 ** 64 - 1), "--seconds": (1, 60), "--rates": (0, 4096),
+          "--divide": (1, 65536)}
 
 # The lines of a job: how they are written, and the ranges of their fields.
 FORMS = {
@@ -79,5 +83,7 @@ GREATEST = {
     "schedule": (8388608, "leave out of the schedule what the correlator does not read (docs/VEX.md)"),
     "job": (4194304, "cut the job by scans, each with the `poly` lines that it needs"),
     "records": (1073741824, "read it with the Python module vlbi.records"),
+    "certificate": (1073741824, "look at the name: a certificate has a line for each lag of each scan, product and baseline"),
+    "amplitude": (2 ** 49 - 1, "the magnitudes of a lag add up to more than is searched: cut the scan, or take fewer samples an integration"),
     "slots": (MOST_SLOTS, "cut the job by `take` lines, and name in each the files that its scans need: `vlbi-lint JOB` says which"),
 }

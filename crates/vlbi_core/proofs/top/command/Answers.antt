@@ -25,46 +25,46 @@ use Rattle.vlbi_core.proofs.top.command.Goals as goal
 
 pub returns-in-Run-clause-does : goal.returns-in-Run-clause-does
 returns-in-Run-clause-does g c =
-    let same : c.args.order.now ≡ Run c.in-Run.job.now (option_copied c.as_ref.result) c.in-Run.workers.now c.in-Run.piece.now = cc in
+    let same : c.args.order.now ≡ Run c.in-Run.job (option_copied c.as_ref.result) c.in-Run.workers c.in-Run.piece = cc in
     subst (λ (o : Order). WhereTold (g.F.Shelf.told c.args.shelf.now) (λ files. Does (Ok o) files g.D.Disk.seen g.D.Disk.moment g.D.Disk.may_leave c.args.journal.now c.correlate_job.new.journal
     (g.S.Sink.told c.args.out.now) (g.S.Sink.told c.correlate_job.new.out) c.correlate_job.result)) (sym same) c.correlate_job.ensures.does
 
 pub returns-in-Run-clause-leaves : goal.returns-in-Run-clause-leaves
 returns-in-Run-clause-leaves g c =
-    let same : c.args.order.now ≡ Run c.in-Run.job.now (option_copied c.as_ref.result) c.in-Run.workers.now c.in-Run.piece.now = cc in
+    let same : c.args.order.now ≡ Run c.in-Run.job (option_copied c.as_ref.result) c.in-Run.workers c.in-Run.piece = cc in
     subst (λ (o : Order). Leaves (Ok o) g.D.Disk.seen g.D.Disk.moment g.D.Disk.may_leave c.args.journal.now c.correlate_job.new.journal
     (g.S.Sink.told c.args.out.now) (g.S.Sink.told c.correlate_job.new.out) c.correlate_job.result) (sym same) c.correlate_job.ensures.leaves
 
 pub returns-in-Status-clause-does : goal.returns-in-Status-clause-does
 returns-in-Status-clause-does g c =
-    let same : c.args.order.now ≡ Status c.in-Status.job.now (option_copied c.as_ref-in-Status.result) = cc in
+    let same : c.args.order.now ≡ Status c.in-Status.job (option_copied c.as_ref-in-Status.result) = cc in
     subst (λ (o : Order). WhereTold (g.F.Shelf.told c.args.shelf.now) (λ files. Does (Ok o) files g.D.Disk.seen g.D.Disk.moment g.D.Disk.may_leave c.args.journal.now c.journal_status.new.journal
     (g.S.Sink.told c.args.out.now) (g.S.Sink.told c.journal_status.new.out) c.journal_status.result)) (sym same) c.journal_status.ensures.does
 
 pub returns-in-Status-clause-leaves : goal.returns-in-Status-clause-leaves
 returns-in-Status-clause-leaves g c =
-    let same : c.args.order.now ≡ Status c.in-Status.job.now (option_copied c.as_ref-in-Status.result) = cc in
+    let same : c.args.order.now ≡ Status c.in-Status.job (option_copied c.as_ref-in-Status.result) = cc in
     subst (λ (o : Order). Leaves (Ok o) g.D.Disk.seen g.D.Disk.moment g.D.Disk.may_leave c.args.journal.now c.journal_status.new.journal
     (g.S.Sink.told c.args.out.now) (g.S.Sink.told c.journal_status.new.out) c.journal_status.result) (sym same) c.journal_status.ensures.leaves
 
 pub returns-in-Check-clause-does : goal.returns-in-Check-clause-does
 returns-in-Check-clause-does g c =
-    let same : c.args.order.now ≡ Check c.in-Check.job.now (option_copied c.as_ref-in-Check.result) = cc in
+    let same : c.args.order.now ≡ Check c.in-Check.job (option_copied c.as_ref-in-Check.result) = cc in
     does-text g.D.Disk.seen g.D.Disk.moment g.D.Disk.may_leave (g.F.Shelf.told c.args.shelf.now) c.args.order.now _
-    (λ (files : Files). PlanOf files c.in-Check.job.now (option_copied c.as_ref-in-Check.result)) (λ (files : Files) (plan : Plan). check_text plan files) same (λ files o p. p)
+    (λ (files : Files). PlanOf files c.in-Check.job (option_copied c.as_ref-in-Check.result)) (λ (files : Files) (plan : Plan). check_text plan files) same (λ files o p. p)
     c.args.journal.now (g.S.Sink.told c.args.out.now) (g.S.Sink.told c.check_job.new.out) c.check_job.result c.check_job.ensures.stage c.check_job.ensures.tells
 
 pub returns-in-Plain-clause-does : goal.returns-in-Plain-clause-does
 returns-in-Plain-clause-does g c =
-    let same : c.args.order.now ≡ Plain c.in-Plain.job.now (option_copied c.as_ref-in-Plain.result) = cc in
+    let same : c.args.order.now ≡ Plain c.in-Plain.job (option_copied c.as_ref-in-Plain.result) = cc in
     does-text g.D.Disk.seen g.D.Disk.moment g.D.Disk.may_leave (g.F.Shelf.told c.args.shelf.now) c.args.order.now _
-    (λ (files : Files). PlanOf files c.in-Plain.job.now (option_copied c.as_ref-in-Plain.result)) (λ (files : Files) (plan : Plan). output plan files) same (λ files o p. p)
+    (λ (files : Files). PlanOf files c.in-Plain.job (option_copied c.as_ref-in-Plain.result)) (λ (files : Files) (plan : Plan). output plan files) same (λ files o p. p)
     c.args.journal.now (g.S.Sink.told c.args.out.now) (g.S.Sink.told c.plain_job.new.out) c.plain_job.result c.plain_job.ensures.stage c.plain_job.ensures.tells
 
 pub returns-in-Dump-clause-does : goal.returns-in-Dump-clause-does
 returns-in-Dump-clause-does g c =
     let told = g.F.Shelf.told c.args.shelf.now in
-    let outcomes = λ (files : Files). RecordsOf files c.in-Dump.file.now in
+    let outcomes = λ (files : Files). RecordsOf files c.in-Dump.file in
     does-text g.D.Disk.seen g.D.Disk.moment g.D.Disk.may_leave told c.args.order.now _ outcomes (λ (files : Files). dump_text) c.in-Dump.is (λ files o p. p)
     c.args.journal.now (g.S.Sink.told c.args.out.now) (g.S.Sink.told c.show_records.new.out) c.show_records.result c.show_records.ensures.stage
     (where_then told _ _
@@ -74,7 +74,7 @@ returns-in-Dump-clause-does g c =
 pub returns-in-Fringe-clause-does : goal.returns-in-Fringe-clause-does
 returns-in-Fringe-clause-does g c =
     let told = g.F.Shelf.told c.args.shelf.now in
-    let outcomes = λ (files : Files). FringeOf files c.in-Fringe.file.now c.in-Fringe.rates.now c.in-Fringe.divide.now in
+    let outcomes = λ (files : Files). FringeOf files c.in-Fringe.file c.in-Fringe.rates c.in-Fringe.divide in
     does-text g.D.Disk.seen g.D.Disk.moment g.D.Disk.may_leave told c.args.order.now _ outcomes (λ (files : Files). lines_text) c.in-Fringe.is (λ files o p. p)
     c.args.journal.now (g.S.Sink.told c.args.out.now) (g.S.Sink.told c.write_peaks.new.out) c.write_peaks.result c.write_peaks.ensures.stage
     (where_then told _ _
@@ -84,7 +84,7 @@ returns-in-Fringe-clause-does g c =
 pub returns-in-Verify-clause-does : goal.returns-in-Verify-clause-does
 returns-in-Verify-clause-does g c =
     let told = g.F.Shelf.told c.args.shelf.now in
-    let outcomes = λ (files : Files). VerifyOf files c.in-Verify.file.now c.in-Verify.certificate.now in
+    let outcomes = λ (files : Files). VerifyOf files c.in-Verify.file c.in-Verify.certificate in
     does-text g.D.Disk.seen g.D.Disk.moment g.D.Disk.may_leave told c.args.order.now _ outcomes (λ (files : Files). right_text) c.in-Verify.is (λ files o p. p)
     c.args.journal.now (g.S.Sink.told c.args.out.now) (g.S.Sink.told c.verify_peaks.new.out) c.verify_peaks.result c.verify_peaks.ensures.stage
     (where_then told _ _
@@ -94,7 +94,7 @@ returns-in-Verify-clause-does g c =
 pub returns-in-Gen-clause-does : goal.returns-in-Gen-clause-does
 returns-in-Gen-clause-does g c =
     does-text g.D.Disk.seen g.D.Disk.moment g.D.Disk.may_leave (g.F.Shelf.told c.args.shelf.now) c.args.order.now _
-    (λ (files : Files). SampleOf c.in-Gen.seed.now c.in-Gen.seconds.now) (λ (files : Files). sample_text c.in-Gen.seed.now c.in-Gen.seconds.now) c.in-Gen.is (λ files o p. p)
+    (λ (files : Files). SampleOf c.in-Gen.seed c.in-Gen.seconds) (λ (files : Files). sample_text c.in-Gen.seed c.in-Gen.seconds) c.in-Gen.is (λ files o p. p)
     c.args.journal.now (g.S.Sink.told c.args.out.now) (g.S.Sink.told c.total_sample.new.out) c.total_sample.result (of-files c.total_sample.result c.total_sample.ensures.stage)
     (where_always (g.F.Shelf.told c.args.shelf.now) _ (λ files. c.total_sample.ensures.tells))
 

@@ -87,6 +87,17 @@ def back(times: Reals, rate: float) -> Complexes:
     return factors
 
 
+def is_mirrored(scan: Scan, product: int, baseline: int, rate: float) -> bool:
+    """Whether the fringe at a residual rate in hertz is the mirror image of the one in the band.
+
+    Samples are real, so each fringe is there twice, turning either way about what the job takes out, the two of one amplitude where an
+    integration holds no turn of what lies between them. In the band the phase falls from lag to lag, in the mirror image it rises.
+    """
+    cells = scan.cells[:, product, baseline]
+    means = ((cells["re"] + 1j * cells["im"]) * back(scan.times, rate)[:, None]).sum(axis=0)
+    return bool((means[1:] * means[:-1].conj()).sum().imag > 0)
+
+
 def power(scan: Scan, station: int, channel: str) -> float:
     """The mean square of a station's values in a channel, over a scan; NaN where the station was not correlated with itself.
 

@@ -20,6 +20,7 @@ Complexes = NDArray[numpy.complex128]
 PADDING = 4           # rates for one that the scan's length tells apart
 MOST_CELLS = 1 << 24  # cells of a map up to which it has them
 FEW = 64              # cells of a map of which no noise can be told
+NEAR = 4              # lags to either side of a peak in which its band is seen
 
 
 @dataclasses.dataclass(frozen=True, eq=False)
@@ -94,8 +95,10 @@ def is_mirrored(scan: Scan, product: int, baseline: int, rate: float) -> bool:
     integration holds no turn of what lies between them. In the band the phase falls from lag to lag, in the mirror image it rises.
     """
     cells = scan.cells[:, product, baseline]
-    means = ((cells["re"] + 1j * cells["im"]) * back(scan.times, rate)[:, None]).sum(axis=0)
-    return bool((means[1:] * means[:-1].conj()).sum().imag > 0)
+    turned = ((cells["re"] + 1j * cells["im"]) * back(scan.times, rate)[:, None]).sum(axis=0)
+    peak = int(numpy.abs(turned).argmax())
+    near = turned[max(0, peak - NEAR):peak + NEAR + 1]
+    return bool((near[1:] * near[:-1].conj()).sum().imag > 0)
 
 
 def power(scan: Scan, station: int, channel: str) -> float:

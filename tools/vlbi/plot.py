@@ -153,7 +153,7 @@ def draw_lags(upper: Axes, lower: Axes, pairs: Sequence[Pair]) -> None:
         draw_phases(lower, lags, means, colour)
         if pair.certified:
             for axes in (upper, lower):
-                axes.axvline(pair.certified.lag, color=CERTIFIED if len(pairs) == 1 else colour, linestyle="--", linewidth=1)
+                axes.axvline(pair.certified.lag, color=mark_colour(pairs, colour), linestyle="--", linewidth=1)
     say_certified(upper, pairs)
     for axes in (upper, lower):
         axes.set_xlim(lags[0] - 0.5, lags[-1] + 0.5)
@@ -170,7 +170,7 @@ def draw_time(upper: Axes, lower: Axes, pairs: Sequence[Pair]) -> None:
         draw_phases(lower, scan.times, means, colour)
         if pair.certified:
             turned = pair.certified.phase + 360 * pair.certified.rate * (scan.times - scan.times[0])
-            lower.plot(scan.times, (turned + 180) % 360 - 180, "_", color=CERTIFIED if len(pairs) == 1 else colour, markersize=4)
+            lower.plot(scan.times, (turned + 180) % 360 - 180, "_", color=mark_colour(pairs, colour), markersize=4)
     say_certified(upper, pairs)
     for axes in (upper, lower):
         axes.set_xlim(0, max(scan.samples, 1) / scan.head.rate)
@@ -207,6 +207,11 @@ def draw_map(figure: Figure, place: Place, pair: Pair) -> None:
     say_certified(axes, [pair])
     axes.set_xlim(extent[:2])
     axes.set_ylim(extent[2:])
+
+
+def mark_colour(pairs: Sequence[Pair], colour: str) -> str:
+    """The colour of the mark of a certified peak: with several Pairs that in which its own is drawn."""
+    return CERTIFIED if len(pairs) == 1 else colour
 
 
 def say_certified(axes: Axes, pairs: Sequence[Pair]) -> None:

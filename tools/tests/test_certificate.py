@@ -66,7 +66,7 @@ def test_a_fringe_and_its_mirror_image() -> None:
 
 
 NONE: Series = [[(0, 0)] * 4]
-MANY = [[NONE] * 4, [[], []], [QUARTERS, NONE * 4]]  # two baselines, a scan without samples, one baseline; two products
+MANY: list[list[Series]] = [[NONE] * 4, [[], []], [QUARTERS, NONE * 4]]  # two baselines, a scan without samples, one baseline; two products
 NOTHING = b"lag -2 grid\nlag -1 grid\nlag 0 grid\nlag 1 grid\n"
 PLACES = [(0, 0, 0), (0, 0, 1), (0, 1, 0), (0, 1, 1), (1, 0, 0), (1, 1, 0), (2, 0, 0), (2, 1, 0)]
 OF_MANY = GRID + b"".join(

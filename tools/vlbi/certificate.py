@@ -41,7 +41,7 @@ class CertificateFault(Fault):
 
 @dataclasses.dataclass(frozen=True)
 class Peak:
-    """The point of greatest power of a scan, product and baseline.
+    """The point of greatest power of a scan, product and baseline, where the certificate is right.
 
     head    the Head of the record file
     divide  the grid's divisor
@@ -64,7 +64,7 @@ class Peak:
 
     @property
     def rate(self) -> float:
-        """The residual rate in hertz, of the sign of `vlbi.fringe`; those that differ by an integration's inverse cannot be told apart."""
+        """The residual rate in hertz, of the sign of `vlbi.fringe`; rates a whole turn each integration apart are one to the records."""
         return self.step * self.head.rate / (SECTORS * self.divide * self.head.integration)
 
     @property

@@ -217,15 +217,25 @@ WORDS = [
     (("plain", "--job", "a", "--job", "b"), ["--job is given 2 times"]),
     (("plain", "--jbo", "a"), [
         "--job is missing", "`--jbo` is no option of `plain`: --job, --vex; is `--job` meant?", "`a` is no option of `plain`: --job, --vex"]),
-    (("rnu", "--job", "a"), ["`rnu` is no command: run, plain, check, status, dump, gen; is `run` meant?"]),
+    (("rnu", "--job", "a"), ["`rnu` is no command: run, plain, check, status, dump, gen, fringe, verify; is `run` meant?"]),
     (("gen", "--seed=7", "--seconds", "61", "--workers", "1", "--piece", "64"), ["--seconds 61: it is a whole number, 1 to 60"]),
     (("dump",), ["`dump` takes the name of one record file"]),
+    (("fringe", "a", "--rates", "4097"), ["--rates 4097: it is a whole number, 0 to 4096", "--divide is missing"]),
+    (("verify", "a"), ["`verify` takes the name of one record file and that of one certificate"]),
 ]
 
 
 @pytest.mark.parametrize("words, said", WORDS, ids=[row[1][0] for row in WORDS])
 def test_words_of_a_call(words: tuple[str, ...], said: list[str]) -> None:
     assert told(2, "vlbi: words: Option", *words) == said
+
+
+def test_a_line_of_a_certificate(folder: Path) -> None:
+    (folder / "c").write_bytes(b"grid 1 1\npeak 0 0 0 0 0 9 0\n")
+    due = "the text was changed or cut short, or it is the certificate of another record file: `fringe` writes that of r.vis"
+    assert told(13, "vlbi: certificate at byte 9", "verify", "r.vis", "c") == [
+        "c:2: `peak 0 0 0 0 0 9 0` is not the line that is due here, or not true", due]
+    assert told(13, "vlbi: certificate at byte 28", "verify", "r.vis", "c") == ["c:3: a line is missing here", due]
 
 
 def test_a_byte_of_a_schedule(folder: Path) -> None:

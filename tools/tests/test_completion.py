@@ -32,6 +32,7 @@ CASES = [
     (["vlbi-plot", "--what", "m"], ["map"]),
     (["vlbi-plot", "--dpi", ""], [""]),
     (["vlbi-lint", "jo"], ["job.txt"]),
+    (["vlbi-plot", "--certificate", "jo"], ["job.txt"]),
     (["/usr/bin/vlbi-report", "sky.vis", "--tit"], ["--title"]),
 ]
 

@@ -13,6 +13,7 @@ import pytest
 import record_files
 from matplotlib.figure import Figure
 
+from vlbi import certificate
 from vlbi import fringe as fringes
 from vlbi import plot as drawing
 from vlbi import records
@@ -110,6 +111,41 @@ def test_small_ones(folder: Folder, integrations: int) -> None:
     assert folder.call(fringe_file(integrations, BASELINES[:1]), "sky.vis", "picture.png") == (0, ["picture.png"], "")
 
 
+def certificate_of(*peaks: tuple[int, int], divide: int = 1) -> bytes:
+    """A certificate of `fringe_file` with these lags and rates of its baselines' peaks, and each sum of the phase 90."""
+    lags = b"".join(b"lag %d grid\n" % lag for lag in range(-LAGS // 2, LAGS // 2))
+    return b"grid 16 %d\n" % divide + b"".join(b"peak 0 0 %d %d %d 0 5\n" % (number, *peak) + lags for number, peak in enumerate(peaks))
+
+
+@pytest.mark.parametrize("what", ["page", "lags", "time", "map"])
+def test_each_kind_with_a_certificate(folder: Folder, what: str) -> None:
+    (folder.path / "sky.peaks").write_bytes(certificate_of((-4, -3), (-3, -2)))
+    words = ("--what", what, "--certificate", "sky.peaks", "sky.vis", "picture.png")
+    assert folder.call(fringe_file(8, BASELINES[:2]), *words) == (0, ["picture.png"], "")
+
+
+def marks(file: bytes, text: bytes, what: str) -> list[tuple[list[float], list[float]]]:
+    """The places of all marks of certified peaks in the picture of a file with one fringe."""
+    found = records.from_bytes(file)
+    pairs = drawing.pairs_of(found.scans[0], [], [], False)
+    drawing.certify(pairs, certificate.from_bytes(text, found), 0)
+    lines = [line for axes in drawing.figure_of(pairs, what, "").axes for line in axes.lines if line.get_color() == drawing.CERTIFIED]
+    return [(list(line.get_xdata()), list(line.get_ydata())) for line in lines]
+
+
+def test_where_certified_peaks_are_marked() -> None:
+    """Integrations of 1/20 second: a rate of 3 sixteenths of a turn is 3.75 hertz, one of 13 cannot be told from -3."""
+    file = fringe_file(4, BASELINES[:1])
+    assert marks(file, certificate_of((-4, -3)), "map") == [([-4], [-3.75])]
+    assert marks(file, certificate_of((7, 13)), "map") == [([7], [-3.75])]
+    assert marks(file, certificate_of((7, 6), divide=2), "map") == [([7], [3.75])]
+    assert marks(file, certificate_of((-4, -3)), "lags") == [([-4, -4], [0, 1])] * 2
+    (times, phases), = marks(file, certificate_of((-4, -3)), "time")
+    assert times == pytest.approx([0.025, 0.075, 0.125, 0.175]) and phases == pytest.approx([90, 22.5, -45, -112.5])
+    (times, phases), = marks(file, certificate_of((-4, 2)), "time")
+    assert phases == pytest.approx([90, 135, -180, -135])
+
+
 def test_no_pairs(folder: Folder) -> None:
     file = numpy.frombuffer(fringe_file(2, BASELINES[:1]), numpy.uint8).copy()
     size = records.PLACE.itemsize + LAGS * records.CELL.itemsize
@@ -163,6 +199,8 @@ FILE = fringe_file(1)
     (["--scan", "7", "sky.vis", "picture.png"], "sky.vis: no scan 7 among No0001"),
     (["--baseline", "Ef-Wb", "--baseline", "Wb-Ef", "sky.vis", "picture.png"], "sky.vis: scan No0001 has no baseline Wb-Ef among Ef-Wb, Ef-On, "),
     (["--product", "CH01,CH02", "sky.vis", "picture.png"], "sky.vis: scan No0001 has no product CH01,CH02 among CH01,CH01"),
+    (["--certificate", "none.peaks", "sky.vis", "picture.png"], "none.peaks: No such file or directory"),
+    (["--certificate", "sky.vis", "sky.vis", "picture.png"], "sky.vis: no certificate of these records: line 1: `VLBIVIS1"),
     (["cut.vis", "picture.png"], f"cut.vis: no record file: Short at byte {len(FILE) - 1}"),
     (["empty.vis", "picture.png"], "empty.vis: scan No0001 has no samples"),
     (["sky.vis"], "sky.vis: there are no windows here: name a picture"),

@@ -17,7 +17,8 @@ from collections.abc import Iterator
 from vlbi import commands
 from vlbi.words import COMMANDS
 
-FILES = ("job", "vex", "program", "output", "im", "uvw", "records", "picture", "journal", "folder", "schedule")  # options and words that are files
+# options and words that are files
+FILES = ("job", "vex", "program", "output", "im", "uvw", "records", "picture", "journal", "folder", "schedule", "certificate")
 
 
 @dataclasses.dataclass(frozen=True)

@@ -20,6 +20,7 @@ Complexes = NDArray[numpy.complex128]
 PADDING = 4           # rates for one that the scan's length tells apart
 MOST_CELLS = 1 << 24  # cells of a map up to which it has them
 FEW = 64              # cells of a map of which no noise can be told
+NEAR = 4              # lags to either side of a peak in which its band is seen
 
 
 @dataclasses.dataclass(frozen=True, eq=False)
@@ -85,6 +86,19 @@ def back(times: Reals, rate: float) -> Complexes:
     """The factors that turn a phase back at a rate in hertz, about the middle of these times in seconds: complex128 of their shape."""
     factors: Complexes = numpy.exp(-2j * numpy.pi * rate * (times - times.mean()))
     return factors
+
+
+def is_mirrored(scan: Scan, product: int, baseline: int, rate: float) -> bool:
+    """Whether the fringe at a residual rate in hertz is the mirror image of the one in the band.
+
+    Samples are real, so each fringe is there twice, turning either way about what the job takes out, the two of one amplitude where an
+    integration holds no turn of what lies between them. In the band the phase falls from lag to lag, in the mirror image it rises.
+    """
+    cells = scan.cells[:, product, baseline]
+    turned = ((cells["re"] + 1j * cells["im"]) * back(scan.times, rate)[:, None]).sum(axis=0)
+    peak = int(numpy.abs(turned).argmax())
+    near = turned[max(0, peak - NEAR):peak + NEAR + 1]
+    return bool((near[1:] * near[:-1].conj()).sum().imag > 0)
 
 
 def power(scan: Scan, station: int, channel: str) -> float:

@@ -14,6 +14,7 @@ from matplotlib.figure import Figure
 from numpy.typing import NDArray
 
 from vlbi import fringe as fringes
+from vlbi.certificate import Certificate, Peak
 from vlbi.faults import Fault
 from vlbi.records import Scan
 
@@ -27,6 +28,7 @@ COLUMNS = {"page": 1, "lags": 2, "time": 2, "map": 3}  # places in a row
 MOST_ROWS = 512  # rows of a map that are drawn
 COLOURS = ("#1f5fa8", "#c8501e", "#2e8b57", "#8a4fa3", "#b8860b", "#00868b", "#a0305a", "#5a6b1f")
 PEAK = "#e8502a"
+CERTIFIED = "#d6006f"
 SMALL = 8        # points of the letters
 MINUS = "\N{MINUS SIGN}"
 NO_PAIRS = "no pairs"
@@ -36,14 +38,16 @@ MICROSECONDS = "\N{MICRO SIGN}s"
 class Pair:
     """A baseline and a product of a scan, numbers from 0, with its fringe.
 
-    scale  what a mean product of levels is multiplied by to be drawn, and `unit` what it is then: per cent of correlation where
-           both stations were correlated with themselves, else as it is
+    scale      what a mean product of levels is multiplied by to be drawn, and `unit` what it is then: per cent of correlation where
+               both stations were correlated with themselves, else as it is
+    certified  its peak by a certificate, which is marked where there is one
     """
 
     def __init__(self, scan: Scan, baseline: int, product: int) -> None:
         self.scan = scan
         self.baseline = baseline
         self.product = product
+        self.certified: Peak | None = None
         (a, b), (x, y) = scan.baselines[baseline], scan.head.products[product]
         power = float(numpy.sqrt(fringes.power(scan, a, x) * fringes.power(scan, b, y)))
         self.scale, self.unit = (100 / power, "correlation (%)") if power > 0 else (1.0, "mean product")
@@ -109,6 +113,12 @@ def pairs_of(scan: Scan, baselines: Sequence[str], products: Sequence[str], auto
     ]
 
 
+def certify(pairs: Iterable[Pair], certificate: Certificate, scan: int) -> None:
+    """Gives the Pairs of the scan of this number their peaks by a certificate."""
+    for pair in pairs:
+        pair.certified = certificate.peaks[scan, pair.product, pair.baseline]
+
+
 def draw_phases(axes: Axes, places: NDArray[numpy.float64], means: NDArray[numpy.complex128], colour: str) -> None:
     """Phases in degrees as points, the fainter the smaller their amplitude."""
     amplitudes = numpy.abs(means)
@@ -141,6 +151,10 @@ def draw_lags(upper: Axes, lower: Axes, pairs: Sequence[Pair]) -> None:
         means = pair.over_lags()
         draw_amplitudes(upper, lags, means, colour, pair.product_name)
         draw_phases(lower, lags, means, colour)
+        if pair.certified:
+            for axes in (upper, lower):
+                axes.axvline(pair.certified.lag, color=mark_colour(pairs, colour), linestyle="--", linewidth=1)
+    say_certified(upper, pairs)
     for axes in (upper, lower):
         axes.set_xlim(lags[0] - 0.5, lags[-1] + 0.5)
     microsecond_axis(upper, pairs[0].scan.head.rate)
@@ -154,6 +168,10 @@ def draw_time(upper: Axes, lower: Axes, pairs: Sequence[Pair]) -> None:
         means = pair.over_time()
         draw_amplitudes(upper, scan.times, means, colour, pair.product_name)
         draw_phases(lower, scan.times, means, colour)
+        if pair.certified:
+            turned = pair.certified.phase + 360 * pair.certified.rate * (scan.times - scan.times[0])
+            lower.plot(scan.times, (turned + 180) % 360 - 180, "_", color=mark_colour(pairs, colour), markersize=4)
+    say_certified(upper, pairs)
     for axes in (upper, lower):
         axes.set_xlim(0, max(scan.samples, 1) / scan.head.rate)
     lower.set_xlabel("time in the scan (s)", fontsize=SMALL, labelpad=1)
@@ -183,8 +201,26 @@ def draw_map(figure: Figure, place: Place, pair: Pair) -> None:
     bar.ax.tick_params(labelsize=SMALL - 1, length=2)
     bar.set_label(pair.unit, fontsize=SMALL, labelpad=3)
     axes.plot(fringe.lag, fringe.rate, marker="o", markersize=12, markerfacecolor="none", markeredgecolor=PEAK, markeredgewidth=1.6)
+    if pair.certified:
+        lowest, turn = fringe.rates[0], len(fringe.rates) * step
+        axes.plot(pair.certified.lag, (pair.certified.rate - lowest) % turn + lowest, marker="+", markersize=12, color=CERTIFIED, markeredgewidth=1.6)
+    say_certified(axes, [pair])
     axes.set_xlim(extent[:2])
     axes.set_ylim(extent[2:])
+
+
+def mark_colour(pairs: Sequence[Pair], colour: str) -> str:
+    """The colour of the mark of a certified peak: with several Pairs that in which its own is drawn."""
+    return CERTIFIED if len(pairs) == 1 else colour
+
+
+def say_certified(axes: Axes, pairs: Sequence[Pair]) -> None:
+    """Says in a corner where the certified peak of a lone Pair is; with several, or none, nothing."""
+    peak = pairs[0].certified if len(pairs) == 1 else None
+    if peak:
+        said = f"certified: lag {signed(peak.lag, 0)}, rate {signed(peak.rate, 3)} Hz"
+        axes.text(0.015, 0.965, said, transform=axes.transAxes, ha="left", va="top", fontsize=SMALL - 1, color=CERTIFIED,
+                  bbox={"facecolor": "white", "alpha": 0.8, "linewidth": 0, "pad": 1.5})
 
 
 def shrunk(heights: NDArray[numpy.float64], most: int = MOST_ROWS) -> NDArray[numpy.float64]:

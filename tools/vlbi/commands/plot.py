@@ -3,6 +3,7 @@
     vlbi-plot sky.vis                    in a window
     vlbi-plot sky.vis sky.png            into a file
     vlbi-plot --what map --baseline Ef-Wb --product CH01,CH01 sky.vis sky.png
+    vlbi-plot --certificate sky.peaks sky.vis sky.png
 """
 from __future__ import annotations
 
@@ -38,6 +39,7 @@ def parser() -> argparse.ArgumentParser:
     made.add_argument("--scan", default="0", help="a scan by its name, or by its number from 0 (0)")
     made.add_argument("--baseline", action="append", default=[], metavar="A-B", help="a baseline, more than once for more (all)")
     made.add_argument("--product", action="append", default=[], metavar="X,Y", help="a product, more than once for more (all)")
+    made.add_argument("--certificate", metavar="FILE", help="a certificate that `vlbi JOURNAL fringe` wrote of the records: its peaks are marked")
     made.add_argument("--auto", action="store_true", help="stations with themselves too")
     made.add_argument("--pages", action="store_true", help="all fringes, on as many pages as they need; else the first page alone")
     made.add_argument("--dpi", type=whole_number(10, 1200), default=100, help="dots an inch of the picture, 10 to 1200 (100)")
@@ -46,15 +48,18 @@ def parser() -> argparse.ArgumentParser:
 
 def plot(given: argparse.Namespace) -> int:
     """Draws what is asked, into files whose names are printed, or into windows; the exit status."""
+    from vlbi import certificate, records
     from vlbi import plot as pictures
-    from vlbi import records
 
     if given.picture:
         pictures.check_picture(given.picture)
     found = records.read(given.records)
+    certified = certificate.read(given.certificate, found) if given.certificate else None
     try:
         scan = chosen_scan(found, given.scan)
         pairs = chosen_pairs(scan, given)
+        if certified:
+            pictures.certify(pairs, certified, found.scans.index(scan))
         pages = pictures.pages(pairs, given.what)
         if len(pages) > 1 and not given.pages:
             print(f"{NAME}: {given.records}: the first {len(pages[0])} of {len(pairs)} fringes; --baseline and --product choose others, "

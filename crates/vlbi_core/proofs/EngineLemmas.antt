@@ -22,7 +22,7 @@ use Rattle.run_records.specs.Refused.{IsOfRecords as IsEmitFaultOf}
 use Rattle.run_records.specs.Counted.{CountsJournal as CountsEmitJournal, CountsWrites as CountsEmitWrites}
 use Rattle.run_notes.specs.Refusals.{MatchJournal}
 use Rattle.run_notes.specs.Counted.{CountsReads, CountsReadsBeside, CountsJournal, CountsWrites}
-use Rattle.vlbi_core.specs.Engine.{sums_answer, opening_refusal, resume_answer, emit_answer, IsRefusedFor, KeepsNamed, IsOfRecords}
+use Rattle.vlbi_core.specs.Engine.{sums_answer, IsOfSums, opening_refusal, resume_answer, emit_answer, IsRefusedFor, KeepsNamed, IsOfRecords}
 use Rattle.vlbi_core.specs.Steps.{IsLookedFor}
 
 -- ---- an epoch that is summed
@@ -30,6 +30,11 @@ use Rattle.vlbi_core.specs.Steps.{IsLookedFor}
 pub summed-ok : {T : Type 0} (q : Result T StreamFault) (P : T → Type 0) → IfOk q P → IfOk (sums_answer q) P
 summed-ok (Ok x) P p = p
 summed-ok (Err fault) P p = tt
+
+pub summed-stage : {T : Type 0} (q : Result T StreamFault) → IfErr (sums_answer q) IsOfSums
+summed-stage (Ok x) = tt
+summed-stage (Err StreamRead) = tt
+summed-stage (Err StreamMemory) = tt
 
 pub summed-counts : {T : Type 0} (before now : ℕ) (q : Result T StreamFault) → CountsStream before now q → CountsReads before now (sums_answer q)
 summed-counts before now (Ok x) counts = counts.kept

@@ -35,6 +35,16 @@ abbrev pub sums_answer : {T : Type 0} → Result T StreamFault → Result T Refu
 sums_answer (Ok x) = Ok x
 sums_answer (Err fault) = Err (sums_refusal fault)
 
+-- what an epoch is not summed for: want of memory, and a read fault
+abbrev pub IsOfSums : Refusal → Type 0
+IsOfSums Memory = ⊤
+IsOfSums (Words fault) = ⊥
+IsOfSums (DueRefusal due) = ⊥
+IsOfSums (Other d) = ⊥
+IsOfSums Read = ⊤
+IsOfSums (Journal kept) = ⊥
+IsOfSums Write = ⊥
+
 -- a journal that is not opened
 abbrev pub opening_refusal : OpenFault → Refusal
 opening_refusal OpenDisk = Journal None

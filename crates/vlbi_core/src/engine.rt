@@ -18,7 +18,7 @@ ghost use Rattle.run_ready.specs.Stage.{IsOfFiles};
 ghost use Rattle.run_sums.specs.Ahead.{AreSumsOf};
 ghost use Rattle.run_journal.specs.Extended.{IsSummed, Extends};
 ghost use Rattle.run_records.specs.Kept.{Grows, WritesKept};
-ghost use Rattle.vlbi_core.specs.Engine.{job_names, sums_refusal, sums_answer, opening_refusal, resume_refusal, resume_answer, emit_refusal, emit_answer, IsRefusedFor, KeepsNamed, IsOfRecords};
+ghost use Rattle.vlbi_core.specs.Engine.{job_names, sums_refusal, sums_answer, IsOfSums, opening_refusal, resume_refusal, resume_answer, emit_refusal, emit_answer, IsRefusedFor, KeepsNamed, IsOfRecords};
 
 use crate::order::{job_of, vex_of};
 use atomic_sums::EpochSums;
@@ -67,6 +67,7 @@ pub fn correlate<R: Threads + Sync, F: Shelf, G: Gate + Sync>(
     ensures same { F.told shelf.new ≡ F.told shelf.old }
     ensures sums { IfOk result (λ sums. AreSumsOf (F.told shelf.old) ready.now i sums) }
     ensures pieces { IfOk result (λ sums. sums.pieces ≡ option_map_or (λ e. pieces_in_epoch e piece) (slice_get (epochs_of ready.now.epochs) i) 0) }
+    ensures stage { IfErr result IsOfSums }
     ensures counts { CountsReads (F.faults shelf.old) (F.faults shelf.new) result }
 {
     summed(run_sums::correlate(rt, alloc, ready, shelf, i, workers, piece, gate))

@@ -1,5 +1,4 @@
 pub mod Faults
 pub mod Numbers
 pub mod Options
-pub mod Commands
 pub mod Orders

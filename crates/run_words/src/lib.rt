@@ -3,7 +3,6 @@
 //! the order that `specs/Orders` says, or the first fault. Numbers are taken as text and judged once all options stand.
 #![tactic(auto)]
 
-mod commands;
 mod fault;
 mod given;
 mod numbers;

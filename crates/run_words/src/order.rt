@@ -1,5 +1,16 @@
-//! Orders.
+//! Orders: what a call asks for, and of each command what `clap` knows of it and the order that the words behind its name give.
+ghost use Rattle.std.specs.Prelude.{◌≡◌, IfOk, map, string_bytes};
+ghost use Rattle.clap.specs.Words.{app_of, rows_of, found_of};
+ghost use Rattle.run_words.specs.Options.{taken_by};
+ghost use Rattle.run_words.specs.Orders.{job_app, job_names_of, run_app, run_of, dump_app, dump_of, gen_app, gen_of, fringe_app, fringe_of, verify_app, verify_of, order_after, Gives, AreNames, IsOrder};
+
+use crate::fault::WordsFault;
+use crate::given::{name_given, name_of, needed};
+use crate::numbers::{number_in, piece_in, workers_in};
+use crate::options::{bare, needed_option, needed_word, option, parsed, with, with_work};
+use clap::{ArgMatches, Command};
 use num_time::Name;
+use std::alloc::{AllocError, Global};
 
 /// What a call asks for, by its command: the name of the job's file and that of the schedule's, where there is one; how many
 /// workers share the work, and the samples of a piece of it; the name of a record file; of a generated job the seed and the
@@ -43,4 +54,258 @@ pub enum Order {
         file: Name,
         certificate: Name,
     },
+}
+
+/// The order of a command and the words behind it.
+#[tactic(auto, unfolding(crate::specs::Orders::order_after))]
+pub(crate) fn order_after(
+    alloc: Global,
+    command: &str,
+    words: &[String],
+) -> Result<Order, WordsFault>
+    ensures order { Gives result (order_after command.now (map string_bytes words.now)) }
+    ensures is_order { IfOk result IsOrder }
+{
+    if command == "run" {
+        run_order(alloc, words)
+    } else if command == "plain" {
+        let (job, vex) = job_names(alloc, "plain", words)?;
+        Ok(Order::Plain { job, vex })
+    } else if command == "check" {
+        let (job, vex) = job_names(alloc, "check", words)?;
+        Ok(Order::Check { job, vex })
+    } else if command == "status" {
+        let (job, vex) = job_names(alloc, "status", words)?;
+        Ok(Order::Status { job, vex })
+    } else if command == "dump" {
+        dump_order(alloc, words)
+    } else if command == "gen" {
+        gen_order(alloc, words)
+    } else if command == "fringe" {
+        fringe_order(alloc, words)
+    } else if command == "verify" {
+        verify_order(alloc, words)
+    } else {
+        Err(WordsFault::UnknownCommand)
+    }
+}
+
+// ---- a command on a job, by the names of its file and of the schedule's: `plain`, `check` and `status`
+
+/// A command on a job.
+fn job_command<'a>(alloc: Global, name: &'a str) -> Result<Command<'a>, AllocError>
+    ensures { IfOk result (λ command. app_of command ≡ job_app name.entry.now) }
+{
+    let command = with(bare(alloc, name), needed_option(alloc, "job"))?;
+    with(command, option(alloc, "vex"))
+}
+
+// The names of the job's file and of its schedule's.
+#[tactic(auto, unfolding(crate::specs::Orders::job_names_of))]
+fn job_names_of(alloc: Global, matches: &ArgMatches) -> Result<(Name, Option<Name>), WordsFault>
+    ensures names { Gives result (job_names_of (rows_of (found_of matches.now))) }
+    ensures texts { IfOk result (λ names. AreNames names.0 names.1) }
+{
+    let job = needed(matches, "job")?;
+    Ok((name_of(alloc, job)?, name_given(alloc, matches, "vex")?))
+}
+
+// The names in the words behind a command on a job.
+#[tactic(auto, unfolding(crate::specs::Options::taken_by))]
+fn job_names(
+    alloc: Global,
+    command: &str,
+    words: &[String],
+) -> Result<(Name, Option<Name>), WordsFault>
+    ensures names { Gives result (taken_by (job_app command.now) job_names_of (map string_bytes words.now)) }
+    ensures texts { IfOk result (λ names. AreNames names.0 names.1) }
+{
+    let matches = parsed(job_command(alloc, command)?, words)?;
+    job_names_of(alloc, &matches)
+}
+
+// ---- `run`: a job, the workers that share its work, and the samples of a piece
+
+// The command.
+fn run_command<'a>(alloc: Global) -> Result<Command<'a>, AllocError>
+    ensures { IfOk result (λ command. app_of command ≡ run_app) }
+{
+    let command = job_command(alloc, "run")?;
+    with_work(alloc, command)
+}
+
+// Its order.
+#[tactic(auto, unfolding(crate::specs::Orders::run_of))]
+fn run_of(alloc: Global, matches: &ArgMatches) -> Result<Order, WordsFault>
+    ensures order { Gives result (run_of (rows_of (found_of matches.now))) }
+    ensures is_order { IfOk result IsOrder }
+{
+    let job = needed(matches, "job")?;
+    let workers = needed(matches, "workers")?;
+    let piece = needed(matches, "piece")?;
+    let workers = workers_in(workers)?;
+    let piece = piece_in(piece)?;
+    Ok(Order::Run {
+        job: name_of(alloc, job)?,
+        vex: name_given(alloc, matches, "vex")?,
+        workers,
+        piece,
+    })
+}
+
+// The order of the words behind `run`.
+#[tactic(auto, unfolding(crate::specs::Options::taken_by))]
+fn run_order(alloc: Global, words: &[String]) -> Result<Order, WordsFault>
+    ensures order { Gives result (taken_by run_app run_of (map string_bytes words.now)) }
+    ensures is_order { IfOk result IsOrder }
+{
+    let matches = parsed(run_command(alloc)?, words)?;
+    run_of(alloc, &matches)
+}
+
+// ---- `dump`: a record file
+
+// The command.
+fn dump_command<'a>(alloc: Global) -> Result<Command<'a>, AllocError>
+    ensures { IfOk result (λ command. app_of command ≡ dump_app) }
+{
+    with(bare(alloc, "dump"), needed_word(alloc, "file"))
+}
+
+// Its order.
+#[tactic(auto, unfolding(crate::specs::Orders::dump_of))]
+fn dump_of(alloc: Global, matches: &ArgMatches) -> Result<Order, WordsFault>
+    ensures order { Gives result (dump_of (rows_of (found_of matches.now))) }
+    ensures is_order { IfOk result IsOrder }
+{
+    let file = needed(matches, "file")?;
+    Ok(Order::Dump {
+        file: name_of(alloc, file)?,
+    })
+}
+
+// The order of the words behind `dump`.
+#[tactic(auto, unfolding(crate::specs::Options::taken_by))]
+fn dump_order(alloc: Global, words: &[String]) -> Result<Order, WordsFault>
+    ensures order { Gives result (taken_by dump_app dump_of (map string_bytes words.now)) }
+    ensures is_order { IfOk result IsOrder }
+{
+    let matches = parsed(dump_command(alloc)?, words)?;
+    dump_of(alloc, &matches)
+}
+
+// ---- `gen`: the seed and the seconds of a generated job, the workers that share its work, and the samples of a piece
+
+// The command.
+fn gen_command<'a>(alloc: Global) -> Result<Command<'a>, AllocError>
+    ensures { IfOk result (λ command. app_of command ≡ gen_app) }
+{
+    let command = with(bare(alloc, "gen"), needed_option(alloc, "seed"))?;
+    let command = with(command, needed_option(alloc, "seconds"))?;
+    with_work(alloc, command)
+}
+
+// Its order.
+#[tactic(auto, unfolding(crate::specs::Orders::gen_of))]
+fn gen_of(matches: &ArgMatches) -> Result<Order, WordsFault>
+    ensures order { result ≡ gen_of (rows_of (found_of matches.now)) }
+    ensures is_order { IfOk result IsOrder }
+{
+    let seed = needed(matches, "seed")?;
+    let seconds = needed(matches, "seconds")?;
+    let workers = needed(matches, "workers")?;
+    let piece = needed(matches, "piece")?;
+    let seed = number_in(seed, 0, u64::MAX)?;
+    let seconds = number_in(seconds, 1, 60)?;
+    let workers = workers_in(workers)?;
+    let piece = piece_in(piece)?;
+    Ok(Order::Gen {
+        seed,
+        seconds: seconds as u32,
+        workers,
+        piece,
+    })
+}
+
+// The order of the words behind `gen`.
+#[tactic(auto, unfolding(crate::specs::Options::taken_by))]
+fn gen_order(alloc: Global, words: &[String]) -> Result<Order, WordsFault>
+    ensures order { Gives result (taken_by gen_app gen_of (map string_bytes words.now)) }
+    ensures is_order { IfOk result IsOrder }
+{
+    let matches = parsed(gen_command(alloc)?, words)?;
+    gen_of(&matches)
+}
+
+// ---- `fringe`: a record file, and the grid of rates over which its fringes are searched
+
+// The command.
+fn fringe_command<'a>(alloc: Global) -> Result<Command<'a>, AllocError>
+    ensures { IfOk result (λ command. app_of command ≡ fringe_app) }
+{
+    let command = with(bare(alloc, "fringe"), needed_word(alloc, "file"))?;
+    let command = with(command, needed_option(alloc, "rates"))?;
+    with(command, needed_option(alloc, "divide"))
+}
+
+// Its order.
+#[tactic(auto, unfolding(crate::specs::Orders::fringe_of))]
+fn fringe_of(alloc: Global, matches: &ArgMatches) -> Result<Order, WordsFault>
+    ensures order { Gives result (fringe_of (rows_of (found_of matches.now))) }
+    ensures is_order { IfOk result IsOrder }
+{
+    let file = needed(matches, "file")?;
+    let rates = needed(matches, "rates")?;
+    let divide = needed(matches, "divide")?;
+    let rates = number_in(rates, 0, 4096)?;
+    let divide = number_in(divide, 1, 65_536)?;
+    Ok(Order::Fringe {
+        file: name_of(alloc, file)?,
+        rates: rates as u32,
+        divide: divide as u32,
+    })
+}
+
+// The order of the words behind `fringe`.
+#[tactic(auto, unfolding(crate::specs::Options::taken_by))]
+fn fringe_order(alloc: Global, words: &[String]) -> Result<Order, WordsFault>
+    ensures order { Gives result (taken_by fringe_app fringe_of (map string_bytes words.now)) }
+    ensures is_order { IfOk result IsOrder }
+{
+    let matches = parsed(fringe_command(alloc)?, words)?;
+    fringe_of(alloc, &matches)
+}
+
+// ---- `verify`: a record file, and the certificate of a search of its fringes
+
+// The command.
+fn verify_command<'a>(alloc: Global) -> Result<Command<'a>, AllocError>
+    ensures { IfOk result (λ command. app_of command ≡ verify_app) }
+{
+    let command = with(bare(alloc, "verify"), needed_word(alloc, "file"))?;
+    with(command, needed_word(alloc, "certificate"))
+}
+
+// Its order.
+#[tactic(auto, unfolding(crate::specs::Orders::verify_of))]
+fn verify_of(alloc: Global, matches: &ArgMatches) -> Result<Order, WordsFault>
+    ensures order { Gives result (verify_of (rows_of (found_of matches.now))) }
+    ensures is_order { IfOk result IsOrder }
+{
+    let file = needed(matches, "file")?;
+    let certificate = needed(matches, "certificate")?;
+    Ok(Order::Verify {
+        file: name_of(alloc, file)?,
+        certificate: name_of(alloc, certificate)?,
+    })
+}
+
+// The order of the words behind `verify`.
+#[tactic(auto, unfolding(crate::specs::Options::taken_by))]
+fn verify_order(alloc: Global, words: &[String]) -> Result<Order, WordsFault>
+    ensures order { Gives result (taken_by verify_app verify_of (map string_bytes words.now)) }
+    ensures is_order { IfOk result IsOrder }
+{
+    let matches = parsed(verify_command(alloc)?, words)?;
+    verify_of(alloc, &matches)
 }

@@ -2,9 +2,8 @@
 ghost use Rattle.std.specs.Prelude.{◌≡◌, IfOk, map, string_bytes};
 ghost use Rattle.run_words.specs.Orders.{order_of, Gives, IsOrder};
 
-use crate::commands::order_after;
 use crate::fault::WordsFault;
-use crate::order::Order;
+use crate::order::{Order, order_after};
 use std::alloc::Global;
 
 /// The order that the words of a call give: a command, and behind it its options, in any order that `clap` takes. Its names

@@ -14,14 +14,16 @@ use Rattle.run_notes.specs.declared.refusal.Refusal.{Refusal}
 use Rattle.run_notes.specs.declared.refusal.Refusal.TheVariants.{Memory, Words, Due as DueRefusal, Other, Read, Journal, Write}
 use Rattle.run_notes.specs.Answers.{Answer, words_answer}
 use Rattle.run_notes.specs.Refusals.{Outcomes, IsCause}
-use Rattle.run_notes.specs.Commands.{IsPartOf, IsPartlyOf, Tells, IsOfFilesOrOutput}
+use Rattle.run_notes.specs.Commands.{IsPartOf, IsPartlyOf, Tells, Shows, IsOfFilesOrOutput}
 use Rattle.run_notes.specs.Counted.{CountsReads, CountsReadsBeside}
+use Rattle.run_notes.proofs.CommandLemmas.{shows-tells}
 use Rattle.run_ready.specs.Steps.{answered}
 use Rattle.run_ready.specs.Outcome.{SurveyOf, PlanOf}
 use Rattle.run_ready.specs.Stage.{IsOfFiles}
 use Rattle.station_stream.specs.declared.recording.Recording.{Recording as StationRecording}
 use Rattle.station_stream.specs.Recorded.{AreRecorded}
 use Rattle.run_summary.specs.Summaries.{check_text}
+use Rattle.vis_writer.proofs.WritesLemmas.{where_then}
 use Rattle.vlbi_core.specs.Calls.{Call, call_of, Task, OfJob, OfText, JobFor, TextFor, TaskFor, is_run}
 use Rattle.vlbi_core.specs.Texts.{IsPart}
 use Rattle.vlbi_core.specs.Faults.{written_with}
@@ -283,6 +285,15 @@ module _ {D : Type 0} (seen : D → Option (List ℕ)) (moment : D → ℕ) (may
   does-text (Some files) order given outcomes text same is_for d old new result stage tells =
       subst (λ (o : Order). Does (Ok o) files seen moment may_leave d d old new result) (sym same)
       (does-tells files given (outcomes files) (text files) d (is_for files) old new result stage tells)
+
+  -- a command that appends nothing before all is read and taken
+  pub does-shown : {A : Type 0} (told : Option Files) (order given : Order) (outcomes : Files → Outcomes A) (text : A → List ℕ) → order ≡ given
+      → ((files : Files) (o : Result Task Answer) → TextFor (outcomes files) text o → TaskFor files given o) → (d : D) (old new : Option (List ℕ)) (result : Result (Unit {0}) Refusal)
+      → IfErr result IsOfFilesOrOutput → WhereTold told (λ files. Shows (outcomes files) text old new result)
+      → WhereTold told (λ files. Does (Ok order) files seen moment may_leave d d old new result)
+  does-shown told order given outcomes text same is_for d old new result stage shows =
+      does-text told order given outcomes (λ (files : Files). text) same is_for d old new result stage
+      (where_then told _ _ (λ files shown. shows-tells (outcomes files) text old new result stage shown) shows)
 
   pub leaves-tells : (order : Order) (d : D) (old new : Option (List ℕ)) (result : Result (Unit {0}) Refusal) → is_run order ≡ false
       → IfErr result (λ r. MatchDue r (new ≡ old)) → Leaves (Ok order) seen moment may_leave d d old new result

@@ -1,6 +1,6 @@
 -- Calls of `run` one after another.
 use Rattle.std.specs.Prelude.{is_some, slice_get}
-use Rattle.std.proofs.Common.{◌≡◌, ◌∙◌, ◌⊎◌, ⊎_elim, inl, inr, ℕ, zero, suc, ◌<◌, ◌≤◌, true, false, List, [], ◌∷◌, Option, Some, None, Result, Ok, Err, refl, sym, ap, subst, arith, length}
+use Rattle.std.proofs.Common.{◌≡◌, ◌∙◌, ◌⊎◌, ⊎_elim, inl, inr, ℕ, zero, suc, ◌<◌, ◌≤◌, true, List, [], ◌∷◌, Option, Some, None, Result, Ok, Err, refl, sym, ap, subst, arith, length}
 use Rattle.dev_traits.specs.Moments.{AtLeast}
 use Rattle.dev_traits.specs.Told.{more, WhereTold}
 use Rattle.corr_model.specs.Files.{Files}
@@ -10,30 +10,16 @@ use Rattle.job_plan.specs.Output.{output}
 use Rattle.job_epochs.specs.Sizes.{sizes_of}
 use Rattle.checkpoint_journal.specs.Image.{is_blank}
 use Rattle.checkpoint_journal.proofs.FindLemmas.{reading-blank}
-use Rattle.run_words.specs.declared.order.Order.{Order}
-use Rattle.run_words.specs.declared.order.Order.TheVariants.{Run, Plain, Check, Status, Dump, Gen, Fringe, Verify}
 use Rattle.run_notes.specs.Answers.{Answer}
 use Rattle.run_ready.specs.Outcome.{PlanOf}
 use Rattle.run_ready.specs.Recordings.{recordings_answer}
-use Rattle.vlbi_core.specs.Calls.{Call, OfJob, TaskFor, OutcomeOf, identity_for, sizes_for, kept_for}
+use Rattle.vlbi_core.specs.Calls.{Call, OutcomeOf, identity_for, sizes_for, kept_for}
 use Rattle.vlbi_core.specs.Texts.{epochs_for}
 use Rattle.vlbi_core.specs.Restart.{IsHonest, StaysHonest}
 use Rattle.vlbi_core.specs.Histories.{IsRunBy, IsSameJob, End, Answered, Crashed, Step, stop, Left, IsEnd, IsStep, IsHistory, IsLater, Holds, AreAlike}
-use Rattle.vlbi_core.proofs.TopLemmas.{OneOutcome}
-use Rattle.vlbi_core.proofs.CommandLemmas.{not_both}
+use Rattle.vlbi_core.proofs.TopLemmas.{OneOutcome, plan-at}
 
 -- ---- calls for one job
-
--- the plan of a call of `run`
-plan-at : (files : Files) (order : Order) (call : Call) → TaskFor files order (Ok (OfJob call)) → call.sums ≡ true → PlanOf files call.job call.vex (Ok call.plan)
-plan-at files (Run job vex workers piece) call there run = subst (λ (c : Call). PlanOf files c.job c.vex (Ok call.plan)) (sym there.0) there.1
-plan-at files (Status job vex) call there run = absurd (not_both false (subst (λ (c : Call). c.sums ≡ true) there.0 run) refl)
-plan-at files (Plain job vex) call there run = absurd there
-plan-at files (Check job vex) call there run = absurd there
-plan-at files (Dump file) call there run = absurd there
-plan-at files (Gen seed seconds workers piece) call there run = absurd there
-plan-at files (Fringe file rates divide) call there run = absurd there
-plan-at files (Verify file certificate) call there run = absurd there
 
 plan-by : (files : Files) (words : List (List ℕ)) (call : Call) → IsRunBy files words call → PlanOf files call.job call.vex (Ok call.plan)
 plan-by files words call by = plan-at files by.outcome.0 call by.outcome.2 by.run

@@ -41,7 +41,7 @@ use Rattle.vlbi_core.specs.Run.{IsVerdictStatus, IsDueStatus, IsStatus, IsUsable
 use Rattle.vlbi_core.specs.Restart.{IsHonest, Continues, Restarts, IsGenOf}
 use Rattle.vlbi_core.specs.Steps.{OutcomeFrom, IsWordedBy, IsOpened, IsCauseOf, IsOtherCause, IsPartly, IsDone, IsUnnumbered, IsOfSample, Goes, MatchDue, MatchEarly, MatchVerdict}
 use Rattle.vlbi_core.proofs.ExtendLemmas.{some_bodies, AreFrom-append, Extends-stays, Extends-counts}
-use Rattle.vlbi_core.proofs.CommandLemmas.{one-job}
+use Rattle.vlbi_core.proofs.CommandLemmas.{one-job, not_both}
 
 -- ---- outcomes, of which there is one
 
@@ -148,6 +148,17 @@ task-one laws files (Gen seed seconds workers piece) =
     (laws.outcome (sample_shelf seed seconds) (recordings_answer (sample_shelf seed seconds)) (codes "job") None)
 task-one laws files (Fringe file rates divide) = text-one (FringeOf files file rates divide) lines_text (laws.search_is files file rates divide)
 task-one laws files (Verify file certificate) = text-one (VerifyOf files file certificate) right_text (laws.verdict files file certificate)
+
+-- the plan of a call of `run`
+pub plan-at : (files : Files) (order : Order) (call : Call) → TaskFor files order (Ok (OfJob call)) → call.sums ≡ true → PlanOf files call.job call.vex (Ok call.plan)
+plan-at files (Run job vex workers piece) call there run = subst (λ (c : Call). PlanOf files c.job c.vex (Ok call.plan)) (sym there.0) there.1
+plan-at files (Status job vex) call there run = absurd (not_both false (subst (λ (c : Call). c.sums ≡ true) there.0 run) refl)
+plan-at files (Plain job vex) call there run = absurd there
+plan-at files (Check job vex) call there run = absurd there
+plan-at files (Dump file) call there run = absurd there
+plan-at files (Gen seed seconds workers piece) call there run = absurd there
+plan-at files (Fringe file rates divide) call there run = absurd there
+plan-at files (Verify file certificate) call there run = absurd there
 
 pub outcome-one : AreLaws → (wanted : Result Order WordsFault) (files : Files) → AreOne (OutcomeFrom wanted files)
 outcome-one laws wanted files =

@@ -1,8 +1,26 @@
-//! What follows from the contract of `run` for calls one after another. The functions do nothing: a call brings its law.
+//! What follows from the definitions, and from the contract of `run` for calls one after another. The functions do nothing: a call brings
+//! its law.
+ghost use Rattle.std.specs.Prelude.{◌≡◌, ℕ, List, Result};
+ghost use Rattle.corr_model.specs.Files.{Files};
+ghost use Rattle.run_notes.specs.Answers.{Answer};
+ghost use Rattle.vlbi_core.specs.Calls.{Task, OutcomeOf};
 ghost use Rattle.vlbi_core.specs.Histories.{HoldsOver, AlikeByJob};
 
 use dev_traits::Disk;
+use run_dump::laws::one_shown;
+use run_fringe::laws::{one_search, one_verdict};
 use run_ready::laws::one_outcome;
+
+/// Words and files come to one thing, and never to two: a job and its journal, the text that a command appends, or the answer of the first
+/// thing that is wrong.
+pub fn one_task()
+    ensures { (texts : List (List ℕ)) (files : Files) (a b : Result Task Answer) → OutcomeOf texts files a → OutcomeOf texts files b → a ≡ b }
+{
+    one_outcome();
+    one_shown();
+    one_search();
+    one_verdict();
+}
 
 /// Calls of `run` for one job, on a disk that tells its content, as often as one likes, each of which ends in its answer or in a crash at
 /// any of its moments: where the first begins on a journal each image of which is blank or honest, each image of each moment of each call

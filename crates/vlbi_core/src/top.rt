@@ -12,17 +12,15 @@ ghost use Rattle.vlbi_core.specs.Steps.{IsWorded, IsBehindWords, IsShort, IsUnnu
 
 use crate::check::check_job;
 use crate::correlation::correlate_job;
+use crate::laws::one_task;
 use crate::order::read_order;
 use crate::plain::plain_job;
 use crate::sample::total_sample;
 use crate::status::journal_status;
 use dev_traits::{Disk, Gate, Shelf, Sink};
-use run_dump::laws::one_shown;
 use run_dump::show_records;
-use run_fringe::laws::{one_search, one_verdict};
 use run_fringe::{verify_peaks, write_peaks};
 use run_notes::{Refusal, status, write_note};
-use run_ready::laws::one_outcome;
 use run_words::Order;
 use std::alloc::Global;
 use std::thread::Threads;
@@ -107,10 +105,7 @@ pub fn run<R: Threads + Sync, F: Shelf + Send, D: Disk + Send, S: Sink, N: Sink,
         (D.seen journal.old) (D.seen journal.new) (S.told out.old) (S.told out.new)
         (N.told notes.old) (N.told notes.new) (HasRisen (N.faults notes.old) (N.faults notes.new)) }
 {
-    one_outcome();
-    one_shown();
-    one_search();
-    one_verdict();
+    one_task();
     match call(rt, alloc, words, shelf, journal, out, gate) {
         Ok(()) => 0,
         Err(refusal) => {

@@ -11,15 +11,14 @@ use Rattle.run_words.specs.declared.order.Order.{Order}
 use Rattle.run_words.specs.declared.order.Order.TheVariants.{Run, Plain, Check, Status, Dump, Gen, Fringe, Verify}
 use Rattle.run_ready.specs.Outcome.{PlanOf}
 use Rattle.sample_job.specs.Sample.{SampleOf}
-use Rattle.vis_writer.proofs.WritesLemmas.{where_then, where_always}
-use Rattle.run_notes.proofs.CommandLemmas.{shows-tells}
+use Rattle.vis_writer.proofs.WritesLemmas.{where_always}
 use Rattle.fringe_search.specs.Certificates.{lines_text}
 use Rattle.run_fringe.specs.Searched.{FringeOf, VerifyOf, right_text}
 use Rattle.vlbi_core.specs.Calls.{is_run}
 use Rattle.vlbi_core.specs.Restart.{IsGenOf}
 use Rattle.vlbi_core.specs.Sample.{sample_text}
 use Rattle.vlbi_core.specs.Steps.{Does, Leaves}
-use Rattle.vlbi_core.proofs.CommandLemmas.{reads-beside, not_both, files-unnumbered, does-text}
+use Rattle.vlbi_core.proofs.CommandLemmas.{reads-beside, not_both, files-unnumbered, does-text, does-shown}
 use Rattle.vlbi_core.proofs.SampleLemmas.{of-files, reads-same}
 use Rattle.vlbi_core.proofs.top.command.Goals as goal
 
@@ -63,33 +62,21 @@ returns-in-Plain-clause-does g c =
 
 pub returns-in-Dump-clause-does : goal.returns-in-Dump-clause-does
 returns-in-Dump-clause-does g c =
-    let told = g.F.Shelf.told c.args.shelf.now in
-    let outcomes = λ (files : Files). RecordsOf files c.in-Dump.file in
-    does-text g.D.Disk.seen g.D.Disk.moment g.D.Disk.may_leave told c.args.order.now _ outcomes (λ (files : Files). dump_text) c.in-Dump.is (λ files o p. p)
-    c.args.journal.now (g.S.Sink.told c.args.out.now) (g.S.Sink.told c.show_records.new.out) c.show_records.result c.show_records.ensures.stage
-    (where_then told _ _
-    (λ files shows. shows-tells (outcomes files) dump_text (g.S.Sink.told c.args.out.now) (g.S.Sink.told c.show_records.new.out) c.show_records.result c.show_records.ensures.stage shows)
-    c.show_records.ensures.shows)
+    does-shown g.D.Disk.seen g.D.Disk.moment g.D.Disk.may_leave (g.F.Shelf.told c.args.shelf.now) c.args.order.now _
+    (λ (files : Files). RecordsOf files c.in-Dump.file) dump_text c.in-Dump.is (λ files o p. p)
+    c.args.journal.now (g.S.Sink.told c.args.out.now) (g.S.Sink.told c.show_records.new.out) c.show_records.result c.show_records.ensures.stage c.show_records.ensures.shows
 
 pub returns-in-Fringe-clause-does : goal.returns-in-Fringe-clause-does
 returns-in-Fringe-clause-does g c =
-    let told = g.F.Shelf.told c.args.shelf.now in
-    let outcomes = λ (files : Files). FringeOf files c.in-Fringe.file c.in-Fringe.rates c.in-Fringe.divide in
-    does-text g.D.Disk.seen g.D.Disk.moment g.D.Disk.may_leave told c.args.order.now _ outcomes (λ (files : Files). lines_text) c.in-Fringe.is (λ files o p. p)
-    c.args.journal.now (g.S.Sink.told c.args.out.now) (g.S.Sink.told c.write_peaks.new.out) c.write_peaks.result c.write_peaks.ensures.stage
-    (where_then told _ _
-    (λ files shows. shows-tells (outcomes files) lines_text (g.S.Sink.told c.args.out.now) (g.S.Sink.told c.write_peaks.new.out) c.write_peaks.result c.write_peaks.ensures.stage shows)
-    c.write_peaks.ensures.shows)
+    does-shown g.D.Disk.seen g.D.Disk.moment g.D.Disk.may_leave (g.F.Shelf.told c.args.shelf.now) c.args.order.now _
+    (λ (files : Files). FringeOf files c.in-Fringe.file c.in-Fringe.rates c.in-Fringe.divide) lines_text c.in-Fringe.is (λ files o p. p)
+    c.args.journal.now (g.S.Sink.told c.args.out.now) (g.S.Sink.told c.write_peaks.new.out) c.write_peaks.result c.write_peaks.ensures.stage c.write_peaks.ensures.shows
 
 pub returns-in-Verify-clause-does : goal.returns-in-Verify-clause-does
 returns-in-Verify-clause-does g c =
-    let told = g.F.Shelf.told c.args.shelf.now in
-    let outcomes = λ (files : Files). VerifyOf files c.in-Verify.file c.in-Verify.certificate in
-    does-text g.D.Disk.seen g.D.Disk.moment g.D.Disk.may_leave told c.args.order.now _ outcomes (λ (files : Files). right_text) c.in-Verify.is (λ files o p. p)
-    c.args.journal.now (g.S.Sink.told c.args.out.now) (g.S.Sink.told c.verify_peaks.new.out) c.verify_peaks.result c.verify_peaks.ensures.stage
-    (where_then told _ _
-    (λ files shows. shows-tells (outcomes files) right_text (g.S.Sink.told c.args.out.now) (g.S.Sink.told c.verify_peaks.new.out) c.verify_peaks.result c.verify_peaks.ensures.stage shows)
-    c.verify_peaks.ensures.shows)
+    does-shown g.D.Disk.seen g.D.Disk.moment g.D.Disk.may_leave (g.F.Shelf.told c.args.shelf.now) c.args.order.now _
+    (λ (files : Files). VerifyOf files c.in-Verify.file c.in-Verify.certificate) right_text c.in-Verify.is (λ files o p. p)
+    c.args.journal.now (g.S.Sink.told c.args.out.now) (g.S.Sink.told c.verify_peaks.new.out) c.verify_peaks.result c.verify_peaks.ensures.stage c.verify_peaks.ensures.shows
 
 pub returns-in-Gen-clause-does : goal.returns-in-Gen-clause-does
 returns-in-Gen-clause-does g c =

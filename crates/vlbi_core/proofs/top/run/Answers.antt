@@ -5,7 +5,7 @@ use Rattle.vis_writer.proofs.WritesLemmas.{where_then, where_always}
 use Rattle.vlbi_core.specs.Calls.{texts_of, order_in}
 use Rattle.vlbi_core.specs.Restart.{IsNoRun}
 use Rattle.vlbi_core.specs.Steps.{OutcomeFrom, IsShort}
-use Rattle.vlbi_core.proofs.TopLemmas.{outcome-one, verdict-done, verdict-refused, appended-done, appended-refused, read-risen, read-kept, read-no_fall, stays-honest, all-done, headline-done, headline-refused, refusal-not-zero, line-refused, words-line, unnumbered-line, sample-status, noted-nothing, noted-appends, due-nothing, early-nothing, verdict-fact, other-fact, verdict-not}
+use Rattle.vlbi_core.proofs.TopLemmas.{verdict-done, verdict-refused, appended-done, appended-refused, read-risen, read-kept, read-no_fall, stays-honest, all-done, headline-done, headline-refused, refusal-not-zero, line-refused, words-line, unnumbered-line, sample-status, noted-nothing, noted-appends, due-nothing, early-nothing, verdict-fact, other-fact, verdict-not}
 use Rattle.vlbi_core.proofs.NoteLemmas.{nothing-other, other-says, refused-says}
 use Rattle.vlbi_core.proofs.top.run.Goals as goal
 
@@ -13,7 +13,7 @@ pub returns-in-Ok-clause-verdict : goal.returns-in-Ok-clause-verdict
 returns-in-Ok-clause-verdict g c =
     let wanted = order_in (texts_of c.args.words.now) in
     where_then (g.F.Shelf.told c.args.shelf.now) _ _
-    (λ files does. verdict-done (OutcomeFrom wanted files) (outcome-one (record { outcome = c.one_outcome.ensures; shown = c.one_shown.ensures; search_is = c.one_search.ensures; verdict = c.one_verdict.ensures }) wanted files) files g.D.Disk.seen g.D.Disk.moment g.D.Disk.may_leave
+    (λ files does. verdict-done (OutcomeFrom wanted files) (c.one_task.ensures (texts_of c.args.words.now) files) files g.D.Disk.seen g.D.Disk.moment g.D.Disk.may_leave
     c.args.journal.now c.call.new.journal (g.S.Sink.told c.args.out.now) (g.S.Sink.told c.call.new.out) _ _ _ does.done)
     c.in-Ok.ensures.does
 
@@ -21,7 +21,7 @@ pub returns-in-Err-clause-verdict : goal.returns-in-Err-clause-verdict
 returns-in-Err-clause-verdict g c =
     let wanted = order_in (texts_of c.args.words.now) in
     rw c.status.ensures (where_then (g.F.Shelf.told c.args.shelf.now) _ _
-    (λ files does. verdict-refused (OutcomeFrom wanted files) (outcome-one (record { outcome = c.one_outcome.ensures; shown = c.one_shown.ensures; search_is = c.one_search.ensures; verdict = c.one_verdict.ensures }) wanted files) files
+    (λ files does. verdict-refused (OutcomeFrom wanted files) (c.one_task.ensures (texts_of c.args.words.now) files) files
     (g.D.Disk.may_leave c.call.new.journal (g.D.Disk.moment c.call.new.journal)) (g.D.Disk.seen c.args.journal.now) (g.D.Disk.seen c.call.new.journal)
     (g.S.Sink.told c.args.out.now) (g.S.Sink.told c.call.new.out)
     (HasRisen (g.F.Shelf.faults c.args.shelf.now) (g.F.Shelf.faults c.call.new.shelf)) (HasRisen (g.D.Disk.faults c.args.journal.now) (g.D.Disk.faults c.call.new.journal))
@@ -47,9 +47,9 @@ pub returns-in-Ok-clause-restart : goal.returns-in-Ok-clause-restart
 returns-in-Ok-clause-restart g c =
     let wanted = order_in (texts_of c.args.words.now) in
     where_then (g.F.Shelf.told c.args.shelf.now) _ _
-    (λ files does. stays-honest g.D.Disk.seen g.D.Disk.moment g.D.Disk.may_leave (OutcomeFrom wanted files) (outcome-one (record { outcome = c.one_outcome.ensures; shown = c.one_shown.ensures; search_is = c.one_search.ensures; verdict = c.one_verdict.ensures }) wanted files) files
+    (λ files does. stays-honest g.D.Disk.seen g.D.Disk.moment g.D.Disk.may_leave (OutcomeFrom wanted files) (c.one_task.ensures (texts_of c.args.words.now) files) files
     c.args.journal.now c.call.new.journal 0 does.goes
-    (all-done g.D.Disk.seen g.D.Disk.moment g.D.Disk.may_leave (OutcomeFrom wanted files) (outcome-one (record { outcome = c.one_outcome.ensures; shown = c.one_shown.ensures; search_is = c.one_search.ensures; verdict = c.one_verdict.ensures }) wanted files) files
+    (all-done g.D.Disk.seen g.D.Disk.moment g.D.Disk.may_leave (OutcomeFrom wanted files) (c.one_task.ensures (texts_of c.args.words.now) files) files
     c.args.journal.now c.call.new.journal (g.S.Sink.told c.args.out.now) (g.S.Sink.told c.call.new.out) does.done))
     c.in-Ok.ensures.does
 
@@ -57,7 +57,7 @@ pub returns-in-Err-clause-restart : goal.returns-in-Err-clause-restart
 returns-in-Err-clause-restart g c =
     let wanted = order_in (texts_of c.args.words.now) in
     rw c.status.ensures (where_then (g.F.Shelf.told c.args.shelf.now) _ _
-    (λ files does. stays-honest g.D.Disk.seen g.D.Disk.moment g.D.Disk.may_leave (OutcomeFrom wanted files) (outcome-one (record { outcome = c.one_outcome.ensures; shown = c.one_shown.ensures; search_is = c.one_search.ensures; verdict = c.one_verdict.ensures }) wanted files) files
+    (λ files does. stays-honest g.D.Disk.seen g.D.Disk.moment g.D.Disk.may_leave (OutcomeFrom wanted files) (c.one_task.ensures (texts_of c.args.words.now) files) files
     c.args.journal.now c.call.new.journal (answer_of c.in-Err.refusal).status does.goes
     (λ call there run zero image now. absurd (refusal-not-zero c.in-Err.refusal zero)))
     c.in-Err.ensures.does)
@@ -67,7 +67,7 @@ returns-in-Ok-clause-headline g c =
     let wanted = order_in (texts_of c.args.words.now) in
     let laws = g.met.D.Disk g.world.𝓛 g.world.𝓜 g.world.𝓡 ((λ s x. x), (λ x. x), (λ x. x), λ x. x) in
     where_then (g.F.Shelf.told c.args.shelf.now) _ _
-    (λ files does. headline-done g.D.Disk.seen g.D.Disk.moment g.D.Disk.may_leave (OutcomeFrom wanted files) (outcome-one (record { outcome = c.one_outcome.ensures; shown = c.one_shown.ensures; search_is = c.one_search.ensures; verdict = c.one_verdict.ensures }) wanted files) files
+    (λ files does. headline-done g.D.Disk.seen g.D.Disk.moment g.D.Disk.may_leave (OutcomeFrom wanted files) (c.one_task.ensures (texts_of c.args.words.now) files) files
     c.args.journal.now c.call.new.journal (g.S.Sink.told c.args.out.now) (g.S.Sink.told c.call.new.out) (laws.seen_is_image c.args.journal.now) does.done)
     c.in-Ok.ensures.does
 
@@ -139,7 +139,7 @@ returns-in-Err-clause-note g c =
           c.in-Err.ensures.does;
       says = where_then (g.F.Shelf.told c.args.shelf.now) _ _
           (λ files does. refused-says files (g.D.Disk.may_leave c.call.new.journal (g.D.Disk.moment c.call.new.journal)) (g.D.Disk.seen c.args.journal.now) (g.D.Disk.seen c.call.new.journal)
-          (g.S.Sink.told c.args.out.now) (g.S.Sink.told c.call.new.out) (OutcomeFrom wanted files) (outcome-one (record { outcome = c.one_outcome.ensures; shown = c.one_shown.ensures; search_is = c.one_search.ensures; verdict = c.one_verdict.ensures }) wanted files) c.in-Err.refusal short does.cause)
+          (g.S.Sink.told c.args.out.now) (g.S.Sink.told c.call.new.out) (OutcomeFrom wanted files) (c.one_task.ensures (texts_of c.args.words.now) files) c.in-Err.refusal short does.cause)
           c.in-Err.ensures.does;
       noted = noted-appends (answer_of c.in-Err.refusal).note _ _ _ _ c.write_note.result c.write_note.ensures;
     })

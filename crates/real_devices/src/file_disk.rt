@@ -168,7 +168,8 @@ impl<R: Files<File = File> + Drop> Disk for FileDisk<R> {
     }
 }
 
-// Opens a regular file for reading and writing, or makes it, and tells whether it was made.
+// Opens a regular file for reading and writing, or makes it, and tells whether it was made. It is looked for once more where
+// it could not be made, since another process may have made it in between.
 fn open_or_make<R: Files<File = File>>(
     rt: &R,
     path: &str,
@@ -176,14 +177,12 @@ fn open_or_make<R: Files<File = File>>(
 ) -> Option<(File, bool)> {
     let mut options = OpenOptions::new();
     options.read(true).write(true);
-    if let Ok(file) = options.open(rt, path) {
-        return Some((clear_of_streams(&file, output)?, false));
+    for is_new in [false, true, false] {
+        if let Ok(file) = options.create_new(is_new).open(rt, path) {
+            return Some((clear_of_streams(&file, output)?, is_new));
+        }
     }
-    options.create_new(true);
-    match options.open(rt, path) {
-        Ok(file) => Some((clear_of_streams(&file, output)?, true)),
-        Err(_) => None,
-    }
+    None
 }
 
 // A regular file that is not the output's, under a descriptor from 3 on. A process that was started

@@ -1,7 +1,6 @@
 -- Slots that are met in pieces.
-use Rattle.std.proofs.Common.{◌≡◌, ◌∙◌, refl, sym, ap, ap₂, subst, ⊎_elim, ℕ, zero, suc, add-one, zero-add, get_or, Some, None, ◌+◌, ◌-◌, ◌*◌, ◌/◌, ◌≤◌, ◌<◌, min, List, [], ◌∷◌, ◌++◌, Option, length, take, drop, add-zero, arith}
-use Rattle.std.proofs.Math.Seq.{take-add}
-use Rattle.std.proofs.lemmas.List.{append-nil, append_assoc, map-append, take-take, drop-take, drop-drop, length-drop, length-take-le, take_at, drop_at, take-append-le, take_all, take_more, length-take, length-map}
+use Rattle.std.proofs.Common.{◌≡◌, ◌∙◌, refl, sym, ap, subst, ⊎_elim, ℕ, zero, suc, add-one, zero-add, get_or, Some, None, ◌+◌, ◌-◌, ◌*◌, ◌/◌, ◌≤◌, ◌<◌, min, List, [], ◌∷◌, ◌++◌, Option, length, take, drop, add-zero, arith}
+use Rattle.std.proofs.lemmas.List.{append-nil, append_assoc, map-append, take-take, drop-take, drop-drop, length-take-le, take_all, take_more, length-take, length-map}
 use Rattle.std.proofs.Math.Nat.{div-mul-le_self}
 use Rattle.std.proofs.lemmas.Bool.{cases_lt}
 use Rattle.std.proofs.lemmas.List.Sums.{sum_by_more}
@@ -9,7 +8,7 @@ use Rattle.std.proofs.lemmas.List.Elements.{All-get_or}
 use Rattle.std.specs.Str.{IsUtf8}
 use Rattle.std.proofs.lemmas.List.FromFn.{map-range_with_len_more}
 use Rattle.std.proofs.lemmas.Nat.{mul-le}
-use Rattle.dev_traits.specs.Files.{size_of, bytes_of, ReadsAt}
+use Rattle.dev_traits.specs.Files.{size_of, bytes_of}
 use Rattle.dev_traits.specs.Told.{WhereTold}
 use Rattle.vdif_frame.specs.Shape.{ShapeFields}
 use Rattle.corr_model.specs.Slots.{Slot, slot_at, placed_slot, placed_in, placed_from}
@@ -20,7 +19,9 @@ use Rattle.frame_index.specs.Layouts.{IsLayoutOf}
 use Rattle.frame_index.specs.Recording.{Shelved, IsOnShelf, AreOnShelf, bytes_on, slot_total}
 use Rattle.frame_index.specs.Building.{Holds, Extends}
 use Rattle.frame_index.proofs.ToldLemmas.{WhereTold-both}
-use Rattle.frame_index.specs.Pieces.{ReadsOn, placed_run, IsPieceOf}
+use Rattle.frame_index.specs.Pieces.{placed_run, IsPieceOf}
+use Rattle.shelf_stretch.specs.Stretch.{stretch}
+use Rattle.shelf_stretch.proofs.StretchLemmas.{stretch-inside}
 
 -- ---- builders that stand for more and more slots
 
@@ -106,19 +107,19 @@ heads-step shape layout file k n j heads a b c is long below so_far next bytes p
 -- what was read is a piece of the file
 pub IsPieceOf-read : (shape : ShapeFields) (layout : Layout) (k n : ℕ) (bytes old new : List ℕ) → IsLayoutOf shape layout → 1 ≤ n
     → length old ≡ (n - 1) * layout.size + layout.head → length new ≡ length old
-    → (length old ≤ length (drop (k * layout.size) bytes) → new ≡ take (length old) (drop (k * layout.size) bytes))
+    → new ≡ stretch (k * layout.size) (length old) bytes
     → k + n ≤ length bytes / shape.frame_bytes
     → IsPieceOf shape.frame_bytes bytes k n new
-IsPieceOf-read shape layout k n bytes old new is some long same filled within =
+IsPieceOf-read shape layout k n bytes old new is some long same read within =
     let size : layout.size ≡ shape.frame_bytes = is.size in
     let all : (k + n) * layout.size ≤ length bytes =
     rw size (omega (arith, mul-le (k + n) shape.frame_bytes (length bytes / shape.frame_bytes) shape.frame_bytes within (omega arith), div-mul-le_self (length bytes) shape.frame_bytes)) in
     let parts : (k + n) * layout.size ≡ k * layout.size + ((n - 1) * layout.size + layout.size) = split_product k n layout.size some in
     let head : layout.head ≤ layout.size = omega (arith, is.head) in
-    let fits : length old ≤ length (drop (k * layout.size) bytes) = omega (arith, length-drop (k * layout.size) bytes) in
+    let inside : k * layout.size + length old ≤ length bytes = omega arith in
     record {
       within = within;
-      is = filled fits ∙ ap (λ (m : ℕ). take m (drop (k * layout.size) bytes)) (sym same) ∙ ap (λ (m : ℕ). take (length new) (drop (k * m) bytes)) size;
+      is = read ∙ stretch-inside (k * layout.size) (length old) bytes inside ∙ ap (λ (m : ℕ). take m (drop (k * layout.size) bytes)) (sym same) ∙ ap (λ (m : ℕ). take (length new) (drop (k * m) bytes)) size;
     }
 
 -- ---- a file's slots, piece by piece
@@ -210,27 +211,3 @@ pub slot_total-more : (shape : ShapeFields) (files : List FileRef) (f : FileRef)
 slot_total-more shape files f i h is =
     sum_by_more (λ (file : FileRef). file.size / shape.frame_bytes) files i f h
     ∙ ap (λ (file : FileRef). slot_total shape (take i files) + file.size / shape.frame_bytes) (sym is)
-
--- ---- a read into the rest of a buffer
-
--- what a buffer has where a part from `done` on was written
-take-written : (done n : ℕ) (old part rest : List ℕ) → done ≤ length old → n ≤ length part
-    → take (done + n) (take done old ++ (part ++ rest)) ≡ take done old ++ take n part
-take-written done n old part rest inside within =
-    let front : length (take done old) ≡ done = length-take-le done old inside in
-    take-add done n (take done old ++ (part ++ rest))
-    ∙ ap₂ (λ (x : List ℕ) (y : List ℕ). x ++ y)
-    (take_at (take done old) (part ++ rest) done front)
-    (ap (take n) (drop_at (take done old) (part ++ rest) done front) ∙ take-append-le n part rest within)
-
-pub ReadsOn-from : (file : Option (List ℕ)) (at done n : ℕ) (old mid part rest : List ℕ)
-    → done ≤ length old → length mid ≡ length old - done → length part ≡ length mid
-    → ReadsAt file (at + done) mid n part
-    → ReadsOn (drop at (bytes_of file)) done old n (take done old ++ (part ++ rest))
-ReadsOn-from file at done n old mid part rest inside middle same read = record {
-  count = omega (arith, read.count, length-drop at (bytes_of file));
-  front = λ before.
-      take-written done n old part rest inside (omega (arith, read.count))
-      ∙ ap₂ (λ (x : List ℕ) (y : List ℕ). x ++ y) before (read.front ∙ ap (take n) (sym (drop-drop done at (bytes_of file))))
-      ∙ sym (take-add done n (drop at (bytes_of file)));
-}

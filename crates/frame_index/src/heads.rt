@@ -1,20 +1,20 @@
 //! The headers of a file's slots, read in pieces.
 ghost use Rattle.std.specs.Prelude.{◌≡◌, ◌≤◌, ◌<◌, ◌+◌, ◌-◌, ◌*◌, ◌/◌, ◌^◌, ◌∷◌, [], List, ℕ, length, take, drop, IfOk, OnOk, IfErr, min};
 ghost use Rattle.std.specs.Str.{IsUtf8};
-ghost use Rattle.dev_traits.specs.Fault.{Counts};
 ghost use Rattle.dev_traits.specs.Files.{bytes_of};
 ghost use Rattle.dev_traits.specs.Told.{WhereTold};
 ghost use Rattle.corr_model.specs.Slots.{slot_at, placed_slot, placed_in};
 ghost use Rattle.frame_index.specs.Layouts.{IsLayoutOf};
 ghost use Rattle.frame_index.specs.Faults.{CountsReads, IsReadOrMemory};
 ghost use Rattle.frame_index.specs.Building.{Extends};
-ghost use Rattle.frame_index.specs.Pieces.{ReadsOn, ReadsFront, placed_run, IsPieceOf};
+ghost use Rattle.frame_index.specs.Pieces.{placed_run, IsPieceOf};
 
 use crate::builder::Builder;
 use crate::fault::IndexFault;
 use crate::frame::SlotAt;
 use crate::recording::{Layout, PIECE};
-use dev_traits::{Failed, Shelf};
+use dev_traits::Shelf;
+use shelf_stretch::read_stretch;
 use std::alloc::AllocError;
 use vdif_frame::Shape;
 
@@ -68,65 +68,6 @@ fn meet_heads(
     Ok(())
 }
 
-// Reads a file's bytes from byte `at + done` on into `buf` from place `done` on, where it has those from byte `at`
-// on before that place.
-fn read_on<F: Shelf>(
-    shelf: &mut F,
-    name: &str,
-    at: u64,
-    done: usize,
-    buf: &mut [u8],
-) -> Result<usize, Failed>
-    requires inside { done ≤ length buf.old }
-    requires fits { at + length buf.old < 2 ^ 64 }
-    ensures same { F.told shelf.new ≡ F.told shelf.old }
-    ensures within { IfOk result (λ n. done + n ≤ length buf.old) }
-    ensures read { IfOk result (λ n. WhereTold (F.told shelf.old)
-        (λ files. ReadsOn (drop at (bytes_of (files name.now))) done buf.old n buf.new)) }
-    ensures counts { Counts (F.faults shelf.old) (F.faults shelf.new) result }
-{
-    shelf.read_at(name, at + done as u64, &mut buf[done..])
-}
-
-// Reads a file's bytes from byte `at` on into the front of `buf`, and answers how many: less than fit only
-// where the shelf gives no more.
-fn read_front<F: Shelf>(shelf: &mut F, name: &str, at: u64, buf: &mut [u8]) -> Result<usize, Failed>
-    requires { at + length buf.old < 2 ^ 64 }
-    ensures same { F.told shelf.new ≡ F.told shelf.old }
-    ensures within { IfOk result (λ n. n ≤ length buf.old) }
-    ensures read { IfOk result (λ n. WhereTold (F.told shelf.old)
-        (λ files. ReadsFront (drop at (bytes_of (files name.now))) (length buf.old) n buf.new)) }
-    ensures counts { Counts (F.faults shelf.old) (F.faults shelf.new) result }
-{
-    let mut done = 0;
-    while done < buf.len() {
-        let n = read_on(shelf, name, at, done, buf)?;
-        if n == 0 {
-            return Ok(done);
-        }
-        done += n;
-    }
-    Ok(done)
-}
-
-// Fills `buf` with a file's bytes from byte `at` on; those that the shelf does not give are zero.
-fn fill<F: Shelf>(shelf: &mut F, name: &[u8], at: u64, buf: &mut [u8]) -> Result<(), Failed>
-    requires { at + length buf.old < 2 ^ 64 }
-    ensures same { F.told shelf.new ≡ F.told shelf.old }
-    ensures filled { OnOk result (IsUtf8 name.now → WhereTold (F.told shelf.old)
-        (λ files. length buf.old ≤ length (drop at (bytes_of (files name.now)))
-        → buf.new ≡ take (length buf.old) (drop at (bytes_of (files name.now))))) }
-    ensures counts { Counts (F.faults shelf.old) (F.faults shelf.new) result }
-{
-    let Ok(text) = str::from_utf8(name) else {
-        buf.fill(0);
-        return Ok(());
-    };
-    let n = read_front(shelf, text, at, buf)?;
-    buf[n..].fill(0);
-    Ok(())
-}
-
 // Reads and meets `n` slots of a file from slot `k` on.
 fn meet_piece<F: Shelf>(
     shelf: &mut F,
@@ -155,7 +96,7 @@ fn meet_piece<F: Shelf>(
 {
     let len = layout.heads_len(n);
     let heads = &mut buf[..len];
-    fill(shelf, name, k * layout.size as u64, heads)?;
+    read_stretch(shelf, name, k * layout.size as u64, heads)?;
     meet_heads(builder, shape, layout, file, k, n, heads)?;
     Ok(())
 }

@@ -48,6 +48,7 @@ impl Cases {
             "failing" => self.failing.push(rest.parse::<u64>()?)?,
             "memory" => self.index_in_memory(rt, rest)?,
             "short" => self.index_of_short(rt, rest)?,
+            "slow" => self.index_by_slow_reads(rt, rest)?,
             "find" => self.find(rt, rest)?,
             _ => bail!("no such line"),
         }
@@ -70,13 +71,39 @@ impl Cases {
         self.build(rt, "memory", &mut shelf, rest)
     }
 
-    // The index of one file of 120 bytes, of which a read gives the first so many.
+    // The index of the files, of the last of which reads give the first so many bytes.
     fn index_of_short(&mut self, rt: &impl Print, rest: &str) -> Result<()> {
+        let (gives, rest) = rest.split_once(' ').context("a number")?;
+        let gives = gives.parse::<usize>()?;
+        self.build_short(rt, "short", gives, usize::MAX, rest)
+    }
+
+    // The index of the files, of which a read gives so many bytes at most.
+    fn index_by_slow_reads(&mut self, rt: &impl Print, rest: &str) -> Result<()> {
+        let (most, rest) = rest.split_once(' ').context("a number")?;
+        let most = most.parse::<usize>()?;
+        self.build_short(rt, "slow", usize::MAX, most, rest)
+    }
+
+    // The index of the files on a shelf that gives little.
+    fn build_short(
+        &mut self,
+        rt: &impl Print,
+        word: &str,
+        gives: usize,
+        most: usize,
+        rest: &str,
+    ) -> Result<()> {
+        let files = mem::replace(&mut self.files, Vec::new(self.alloc));
+        let (_, cut) = rest.rsplit_once(' ').context("a file")?;
+        let cut = String::from_str(self.alloc, cut)?;
         let mut shelf = ShortShelf {
-            says: 120,
-            gives: rest.parse::<u64>()?,
+            files,
+            cut,
+            gives,
+            most,
         };
-        self.build(rt, "short", &mut shelf, "small any")
+        self.build(rt, word, &mut shelf, rest)
     }
 
     /// The index of files of the folder in which the program runs.

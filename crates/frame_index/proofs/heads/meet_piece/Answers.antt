@@ -8,9 +8,9 @@ use Rattle.frame_index.proofs.heads.meet_piece.Goals as goal
 pub returns-clause-extends : goal.returns-clause-extends
 returns-clause-extends g c = λ utf8.
     WhereTold-weaker (g.F.Shelf.told c.args.shelf.now) _ _
-    (λ files filled within. c.in_ok-meet_heads.ensures.extends (bytes_of (files c.args.name.now))
-    (IsPieceOf-read c.args.shape.now c.args.layout.now c.args.k c.args.n (bytes_of (files c.args.name.now)) (take c.heads_len-len.result c.args.buf.now) c.fill.new.buf
+    (λ files read within. c.in_ok-meet_heads.ensures.extends (bytes_of (files c.args.name.now))
+    (IsPieceOf-read c.args.shape.now c.args.layout.now c.args.k c.args.n (bytes_of (files c.args.name.now)) (take c.heads_len-len.result c.args.buf.now) c.read_stretch.new.buf
     c.requires.layout c.requires.some
     (length-take-le c.heads_len-len.result c.args.buf.now (omega (arith, c.heads_len-len.ensures.fits, c.requires.long)) ∙ c.heads_len-len.ensures.value)
-    c.fill.auto.buf filled within))
-    (c.in_ok-fill.ensures.filled utf8)
+    c.read_stretch.auto.buf read within))
+    (c.in_ok-read_stretch.ensures.stretch utf8)

@@ -1,9 +1,9 @@
 use Rattle.std.proofs.Common.{length, drop, arith, ◌-◌}
 use Rattle.std.proofs.lemmas.Result.{IfOk-weaker}
 use Rattle.std.proofs.lemmas.List.{length-drop, length-take-le}
-use Rattle.frame_index.proofs.ToldLemmas.{WhereTold-weaker}
-use Rattle.frame_index.proofs.PieceLemmas.{ReadsOn-from}
-use Rattle.frame_index.proofs.heads.read_on.Goals as goal
+use Rattle.dev_traits.proofs.ToldLemmas.{WhereTold-weaker}
+use Rattle.shelf_stretch.proofs.FrontLemmas.{ReadsOn-from}
+use Rattle.shelf_stretch.proofs.front.read_on.Goals as goal
 
 pub returns-clause-read : goal.returns-clause-read
 returns-clause-read g c =

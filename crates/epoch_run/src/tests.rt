@@ -11,7 +11,7 @@ use atomic_sums::EpochSums;
 use corr_model::Pair;
 use delay_poly::{Poly, PolyEntry, PolyList};
 use delay_track::{StationModel, Track};
-use dev_traits::{Gate, Shelf};
+use dev_traits::{Failed, Gate, Shelf};
 use frame_index::{FileRef, Index};
 use mem_devices::{HoldGate, MemShelf, OpenGate};
 use num_time::Name;
@@ -73,14 +73,23 @@ fn frame(number: u8, four: u8) -> [u8; 40] {
     bytes
 }
 
-// A shelf with one file of all frames, with `four` for each four samples of the first two and `rest` for those of the others.
-fn shelf_with(alloc: Global, four: u8, rest: u8) -> Result<MemShelf, AllocError> {
+// All frames, with `four` for each four samples of the first two and `rest` for those of the others.
+fn slots_with(alloc: Global, four: u8, rest: u8) -> Result<Vec<u8>, AllocError> {
     let (first, second) = (frame(0, four), frame(1, four));
     let (third, fourth) = (frame(2, rest), frame(3, rest));
     let slots: [&[u8]; 4] = [&first, &second, &third, &fourth];
+    slots.concat(alloc)
+}
+
+// A shelf with one file of these bytes, of which the calls of these numbers fail.
+fn shelf_failing(alloc: Global, bytes: Vec<u8>, failing: Vec<u64>) -> Result<MemShelf, AllocError> {
     let name = String::from_str(alloc, "a.vdif")?;
-    let files = vec![in alloc; (name, slots.concat(alloc)?)]?;
-    Ok(MemShelf::new(files, Vec::new(alloc)))
+    Ok(MemShelf::new(vec![in alloc; (name, bytes)]?, failing))
+}
+
+// A shelf with one file of all frames, with `four` for each four samples of the first two and `rest` for those of the others.
+fn shelf_with(alloc: Global, four: u8, rest: u8) -> Result<MemShelf, AllocError> {
+    shelf_failing(alloc, slots_with(alloc, four, rest)?, Vec::new(alloc))
 }
 
 // The same with one byte for each four samples of the scan.
@@ -100,12 +109,12 @@ fn file_of<F: Shelf>(alloc: Global, shelf: &mut F, name: &str) -> Result<FileRef
     })
 }
 
-// One polynomial, of no delay.
-fn polys_of(alloc: Global) -> Result<PolyList, Fail>
+// One polynomial.
+fn polys_of(alloc: Global, coeffs: &[i64]) -> Result<PolyList, Fail>
     ensures { IfOk result (λ polys. All (λ e. IsSecond e.second) polys) }
 {
     let mut polys = PolyList::new(alloc);
-    let poly = Poly::new(&[0]).ok_or("no polynomial")?;
+    let poly = Poly::new(coeffs).ok_or("no polynomial")?;
     polys.add(PolyEntry {
         second: SECOND,
         poly,
@@ -125,7 +134,7 @@ fn track_of<'a>(polys: &'a PolyList, clocks: &'a ClockList) -> Option<Track<'a>>
         clocks,
         second: SECOND,
         rate: 128,
-        knot: 128,
+        knot: 16,
         samples: 128,
     };
     if !model.has_model() || !model.has_clock() {
@@ -134,8 +143,15 @@ fn track_of<'a>(polys: &'a PolyList, clocks: &'a ClockList) -> Option<Track<'a>>
     Some(model.track())
 }
 
-// The stream of a recording, from sample `from` up to, not including, `to`.
-fn part_of<F: Shelf>(alloc: Global, shelf: &mut F, from: i64, to: i64) -> Result<Stream, Fail>
+// The stream of a recording with this delay, from sample `from` up to, not including, `to`, in the room of spare lists.
+fn delayed_part<F: Shelf>(
+    alloc: Global,
+    spare: &mut Vec<Vec<u8>>,
+    shelf: &mut F,
+    coeffs: &[i64],
+    from: i64,
+    to: i64,
+) -> Result<Stream, Fail>
     requires begin { pos 0 ≤ℤ from }
     requires order { from ≤ℤ to }
     requires end { to ≤ℤ pos 128 }
@@ -143,7 +159,7 @@ fn part_of<F: Shelf>(alloc: Global, shelf: &mut F, from: i64, to: i64) -> Result
 {
     let files = [file_of(alloc, shelf, "a.vdif")?];
     let index = Index::build(alloc, shelf, &files, &SHAPE)?;
-    let polys = polys_of(alloc)?;
+    let polys = polys_of(alloc, coeffs)?;
     let clocks = ClockList::new(alloc);
     let track = track_of(&polys, &clocks).ok_or("no track")?;
     let chan = StationChan {
@@ -160,7 +176,17 @@ fn part_of<F: Shelf>(alloc: Global, shelf: &mut F, from: i64, to: i64) -> Result
         to: 128,
         chans: &[Some(chan)],
     };
-    Ok(Stream::load(alloc, shelf, &index, &part, from, to)?)
+    Ok(Stream::load_in(alloc, spare, shelf, &index, &part, from, to)?)
+}
+
+// The same without a delay.
+fn part_of<F: Shelf>(alloc: Global, shelf: &mut F, from: i64, to: i64) -> Result<Stream, Fail>
+    requires begin { pos 0 ≤ℤ from }
+    requires order { from ≤ℤ to }
+    requires end { to ≤ℤ pos 128 }
+    ensures window { IfOk result (λ s. (s.from ≡ from) × ((s.to ≡ to) × (length s.values ≡ 1))) }
+{
+    delayed_part(alloc, &mut Vec::new(alloc), shelf, &[0], from, to)
 }
 
 // The same from the first sample on.
@@ -321,5 +347,68 @@ fn planes_filled_by_halves(rt: HostRuntime) -> Result<(), Fail> {
     for n in 0..4 {
         assert_eq!(rt; halves.cell(n), whole.cell(n));
     }
+    Ok(())
+}
+
+// A shelf whose file has these bytes by its size, of which reads give the first so many. It tells nothing.
+#[derive(Drop)]
+struct CutShelf {
+    bytes: Vec<u8>,
+    gives: usize,
+}
+
+impl Shelf for CutShelf {
+    ghost use Rattle.std.specs.Prelude.{None};
+
+    ghost told = { λ _. None };
+
+    ghost faults = { λ _. 0 };
+
+    fn size(&mut self, _name: &str) -> Result<Option<u64>, Failed> {
+        Ok(Some(self.bytes.len() as u64))
+    }
+
+    fn read_at(&mut self, _name: &str, at: u64, buf: &mut [u8]) -> Result<usize, Failed> {
+        let given = self.bytes.get(..self.gives).unwrap_or(&self.bytes);
+        let left = given.get(at as usize..).unwrap_or(&[]);
+        let n = left.len().min(buf.len());
+        buf[..n].copy_from_slice(&left[..n]);
+        Ok(n)
+    }
+}
+
+// The data of frame 2 and the whole of frame 3 are not given, in room where they stood before.
+#[test]
+fn bytes_that_are_not_given_are_zero(rt: HostRuntime) -> Result<(), Fail> {
+    let alloc = rt.alloc();
+    let mut spare = Vec::new(alloc);
+    let mut shelf = CutShelf {
+        bytes: slots_with(alloc, HIGH, HIGH)?,
+        gives: 160,
+    };
+    delayed_part(alloc, &mut spare, &mut shelf, &[0], 0, 128)?.leave(&mut spare);
+    shelf.gives = 112;
+    let stream = delayed_part(alloc, &mut spare, &mut shelf, &[0], 0, 128)?;
+    for (n, value) in [
+        (63, Some((3, 0))),
+        (64, Some((-3, 0))),
+        (95, Some((-3, 0))),
+        (96, None),
+    ] {
+        assert_eq!(rt; stream.value(0, n), value);
+    }
+    Ok(())
+}
+
+// The delay rises by one sample each eight. The size of the file is asked, its headers are read, and its frames are read once:
+// a fourth call would fail.
+#[test]
+fn frames_are_read_once_for_a_rising_delay(rt: HostRuntime) -> Result<(), Fail> {
+    let alloc = rt.alloc();
+    let slots = slots_with(alloc, HIGH, HIGH)?;
+    let mut shelf = shelf_failing(alloc, slots, vec![in alloc; 3]?)?;
+    let mut spare = Vec::new(alloc);
+    let stream = delayed_part(alloc, &mut spare, &mut shelf, &[0, 1 << 57], 0, 112)?;
+    assert_eq!(rt; stream.value(0, 111), Some((3, 0)));
     Ok(())
 }

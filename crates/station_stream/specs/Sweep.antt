@@ -1,4 +1,4 @@
--- Stretches of a scan whose recorded samples lie side by side.
+-- Stretches of a scan whose recorded samples lie close together.
 use Rattle.std.specs.Prelude.{◌≡◌, ℕ, ◌≤◌, ◌<◌, ℤ, pos, ◌+ℤ◌, ◌≤ℤ◌, ◌<ℤ◌}
 use Rattle.corr_model.specs.Delay.{whole_at}
 use Rattle.delay_track.specs.declared.track.Track.{Track}

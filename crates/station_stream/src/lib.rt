@@ -1,12 +1,13 @@
 //! The values of a station's channels in a window of a scan: its recorded samples, taken as many samples on as the whole
 //! delay says and turned by the sector of the delay. It stands on `frame_index` for the places of frames, on `delay_track`
-//! for delays and sectors, on `value_codes` for levels and values in bytes, on `job_plan` for plans, and on a `Shelf` for the files.
+//! for delays and sectors, on `value_codes` for levels and values in bytes, on `job_plan` for plans, and on a `Shelf` for the files,
+//! whose stretches `shelf_stretch` reads.
 //!
-//! A `Stream` keeps one byte for a sample, a code. It is loaded sweep by sweep, a sweep being samples whose recorded ones lie side by
-//! side: a window's slots of a thread are read one behind the other, once, for all its channels. The bytes of a stream that is done with
-//! are room for those of another. `stay_stream` loads that of a station's part in a scan of a plan. Where the shelf tells its
-//! content, the values are those of the definition in `specs/Part`, which are those of the plan's; a fault of a read comes only where
-//! the shelf had one. (Thompson, Moran and Swenson, chapters 8 and 9.)
+//! A `Stream` keeps one byte for a sample, a code. It is loaded sweep by sweep, a sweep being samples whose recorded ones lie close
+//! together, with less than a frame between them: a window's slots of a thread are read one behind the other, once, for all its
+//! channels. The bytes of a stream that is done with are room for those of another. `stay_stream` loads that of a station's part
+//! in a scan of a plan. Where the shelf tells its content, the values are those of the definition in `specs/Part`, which are those
+//! of the plan's; a fault of a read comes only where the shelf had one. (Thompson, Moran and Swenson, chapters 8 and 9.)
 #![tactic(auto)]
 
 mod chan;

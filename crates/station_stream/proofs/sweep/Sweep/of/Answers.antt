@@ -3,7 +3,7 @@ use Rattle.std.proofs.lemmas.Int.{ints}
 use Rattle.delay_track.specs.Runs.{RunsFields}
 use Rattle.station_stream.proofs.SweepLemmas.{Goes, Goes-run, LieIn-run, Grown, grown, recorded_is, some-before}
 use Rattle.station_stream.proofs.sweep.Sweep.of.Goals as goal
-use Rattle.station_stream.proofs.sweep.Sweep.of.Goals.{in-Some+then-begins-last, then-begins-last-via-then-begins-last, then-begins-last-via-else-begins-last+then-ends-first, in_default}
+use Rattle.station_stream.proofs.sweep.Sweep.of.Goals.{in-Some+then-far, then-far-via-then-far, then-far-via-else-far+then-far-2, in_default}
 
 pub loop-run-preserved : goal.loop-run-preserved
 loop-run-preserved c =
@@ -45,7 +45,7 @@ returns c = record {
   within = c.loop-run.invariant.within;
   lie = c.loop-run.invariant.lie;
   some = elim c.match-next.branch [
-    | in-Some+then-begins-last w ↦
+    | in-Some+then-far w ↦
         let run = w.in-Some.ensures.steps.0 in
         let whole = w.whole-whole.result in
         let goes : Goes c.args.part.now.track c.loop-run.end w.in-Some.run'.to whole =
@@ -58,9 +58,9 @@ returns c = record {
         let ends = recorded_is w.in-Some.run'.to w.in-Some.run'.to whole few refl w.whole-whole.ensures.bound in
         some-before c.args.part.now.track c.args.from c.loop-run.end w.in-Some.run'.to whole (to_z w64 c.loop-run.first-bits) (to_z w64 c.loop-run.last-bits) c.loop-run.invariant.begun goes
         c.loop-run.invariant.first c.loop-run.invariant.last
-        (elim w.then-begins-last.branch [
-          | then-begins-last-via-then-begins-last v ↦ inl (let is = v.if-begins-last.true in omega (arith, ints, is, begins))
-          | then-begins-last-via-else-begins-last+then-ends-first v ↦ inr (let is = v.if-ends-first.true in omega (arith, ints, is, ends))
+        (elim w.then-far.branch [
+          | then-far-via-then-far v ↦ inl (let is = w.far.ensures.0 v.if-far.true in omega (arith, ints, is, begins, c.samples_per_frame-frame.ensures.some))
+          | then-far-via-else-far+then-far-2 v ↦ inr (let is = v.far-else-far.ensures.0 v.if-far-2.true in omega (arith, ints, is, ends, c.samples_per_frame-frame.ensures.some))
         ])
     | in_default w ↦ let left = w.in_default.ensures.steps.0 in omega (arith, left, c.loop-run.invariant.at, c.loop-run.invariant.to, c.requires.order)
   ];

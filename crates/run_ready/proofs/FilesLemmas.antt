@@ -8,6 +8,9 @@ use Rattle.std.proofs.lemmas.List.Elements.{All-tail, All-append, All-cons}
 use Rattle.std.proofs.lemmas.List.Sums.{sum_by_more_le, sum_by-cons}
 use Rattle.std.proofs.lemmas.Slice.Zip.{AllZip-left, AllZip-long, all_zipped_more}
 use Rattle.dev_traits.specs.Files.{size_of, bytes_of}
+use Rattle.dev_traits.specs.Told.{WhereTold}
+use Rattle.shelf_stretch.specs.Stretch.{stretch}
+use Rattle.shelf_stretch.proofs.StretchLemmas.{stretch-whole}
 use Rattle.corr_model.specs.Files.{Files, bytes_under}
 use Rattle.corr_model.specs.Slots.{slots_of}
 use Rattle.vdif_frame.specs.declared.shape.Field.{Field}
@@ -130,3 +133,17 @@ AreNamed-zip stations list all = record {
 
 pub AreRecorded-zip : (files : Files) (stations : List StationPlan) (list : List Recording) → AllZip (IsRecordingOf files) stations list → AreRecorded files stations list
 AreRecorded-zip files stations list all i s r at there = AllZip-at (IsRecordingOf files) stations list i s r all at there
+
+-- a stretch of a file's length from its first byte on is the file
+file-stretch : (file : Option (List ℕ)) (size : ℕ) (read : List ℕ) → read ≡ stretch 0 size (bytes_of file) → size_of file ≡ Some size → file ≡ Some read
+file-stretch None size read is e = cc
+file-stretch (Some bytes) size read is e =
+    let long : length bytes ≡ size = cc in
+    ap (λ (l : List ℕ). Some l) (sym (is ∙ ap (λ (n : ℕ). stretch 0 n bytes) (sym long) ∙ stretch-whole bytes))
+
+pub read_file : (told : Option Files) (name : List ℕ) (n size : ℕ) (read : List ℕ) → n ≡ size
+    → WhereTold told (λ files. read ≡ stretch 0 n (bytes_of (files name)))
+    → WhereTold told (λ files. size_of (files name) ≡ Some size → files name ≡ Some read)
+read_file None name n size read same is = tt
+read_file (Some files) name n size read same is = λ e.
+    file-stretch (files name) size read (is ∙ ap (λ (m : ℕ). stretch 0 m (bytes_of (files name))) same) e

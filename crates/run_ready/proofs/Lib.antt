@@ -1,4 +1,3 @@
-pub mod ReadingLemmas
 pub mod JobLemmas
 pub mod JoinLemmas
 pub mod ToldLemmas

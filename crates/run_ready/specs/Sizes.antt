@@ -1,5 +1,5 @@
--- Files that are there or not, and how much of one is read at once.
-use Rattle.std.specs.Prelude.{◌≡◌, ℕ, ◌+◌, ◌-◌, ◌^◌, ◌<◌, min, List, length, map, flat_map, sum_by, take, find, is_none, Option, None, Some, option_map, if◌then◌else◌}
+-- Files that are there or not, and their sizes.
+use Rattle.std.specs.Prelude.{◌≡◌, ℕ, ◌^◌, ◌<◌, List, length, map, flat_map, sum_by, find, is_none, Option, None, Some, option_map, if◌then◌else◌}
 use Rattle.std.specs.List.{All}
 use Rattle.std.specs.Str.{IsUtf8}
 use Rattle.corr_model.specs.Files.{Files}
@@ -48,11 +48,6 @@ sizes_in sized = flat_map (λ (z : StationFiles). map (λ (f : FileRef). f.size)
 -- the slots of all stations
 abbrev pub slots_together : List StationFiles → ℕ
 slots_together sized = sum_by (λ (z : StationFiles). z.slots) sized
-
--- n more bytes of the file stand in the buffer from place `at` on, as many as there are and fit
-pub record ReadsOn (file : List ℕ) (at : ℕ) (old : List ℕ) (n : ℕ) (new : List ℕ) : Type 0 where
-  pub count : n ≡ min (length old - at) (length file - at)
-  pub front : take at old ≡ take at file → take (at + n) new ≡ take (at + n) file
 
 -- less than 2^32 files
 abbrev pub HasFewFiles : StationFields → Type 0

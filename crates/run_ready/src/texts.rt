@@ -1,21 +1,21 @@
 //! Files by their names: their sizes, and those that are read whole.
-ghost use Rattle.std.specs.Prelude.{◌≡◌, ◌≤◌, ◌+◌, length, IfOk, IfErr, OnOk, Some, Ok};
+ghost use Rattle.std.specs.Prelude.{◌≡◌, ◌≤◌, length, IfOk, IfErr, Some, Ok};
 ghost use Rattle.std.specs.Str.{IsUtf8};
-ghost use Rattle.dev_traits.specs.Fault.{Counts};
-ghost use Rattle.dev_traits.specs.Files.{size_of, bytes_of};
+ghost use Rattle.dev_traits.specs.Files.{size_of};
 ghost use Rattle.dev_traits.specs.Told.{WhereTold};
 ghost use Rattle.run_notes.specs.Refusals.{IsCause, IsNoVerdict};
 ghost use Rattle.run_notes.specs.Counted.{CountsReads};
 ghost use Rattle.run_ready.specs.Steps.{Is};
 ghost use Rattle.run_ready.specs.Due.{IsDue};
-ghost use Rattle.run_ready.specs.Sizes.{no_file, ReadsOn};
+ghost use Rattle.run_ready.specs.Sizes.{no_file};
 ghost use Rattle.run_ready.specs.Outcome.{text_under};
 ghost use Rattle.run_ready.specs.Stage.{IsOfFiles};
 
 use crate::refusals::{there, within};
-use dev_traits::{Failed, Shelf};
+use dev_traits::Shelf;
 use num_time::Name;
 use run_notes::{Measure, Refusal};
+use shelf_stretch::read_stretch;
 use std::alloc::Global;
 
 // A name, as the text that it is.
@@ -67,6 +67,7 @@ pub fn load_text<F: Shelf>(
 }
 
 // The bytes of a file of this length; those that the shelf does not give are zero.
+#[tactic(auto, using(crate::proofs::FilesLemmas::read_file))]
 fn read_whole<F: Shelf>(
     alloc: Global,
     shelf: &mut F,
@@ -82,36 +83,8 @@ fn read_whole<F: Shelf>(
     ensures counts { CountsReads (F.faults shelf.old) (F.faults shelf.new) result }
 {
     let mut bytes = vec![in alloc; 0u8; size as usize]?;
-    match fill(shelf, text_of(name), &mut bytes) {
-        Ok(()) => Ok(bytes),
+    match read_stretch(shelf, name.bytes(), 0, &mut bytes) {
+        Ok(_) => Ok(bytes),
         Err(_) => Err(Refusal::Read),
     }
-}
-
-// Fills the buffer from a file's front on, as far as the shelf gives bytes.
-fn fill<F: Shelf>(shelf: &mut F, name: &str, buf: &mut [u8]) -> Result<(), Failed>
-    ensures same { F.told shelf.new ≡ F.told shelf.old }
-    ensures filled { OnOk result (WhereTold (F.told shelf.old) (λ files. length (bytes_of (files name.now)) ≡ length buf.old → buf.new ≡ bytes_of (files name.now))) }
-    ensures counts { Counts (F.faults shelf.old) (F.faults shelf.new) result }
-{
-    let mut at = 0;
-    while at < buf.len() {
-        let n = read_on(shelf, name, at, buf)?;
-        if n == 0 {
-            break;
-        }
-        at += n;
-    }
-    Ok(())
-}
-
-// Reads into the buffer from place `at` on, where it has the file's front before that place.
-fn read_on<F: Shelf>(shelf: &mut F, name: &str, at: usize, buf: &mut [u8]) -> Result<usize, Failed>
-    requires { at ≤ length buf.old }
-    ensures same { F.told shelf.new ≡ F.told shelf.old }
-    ensures within { IfOk result (λ n. at + n ≤ length buf.old) }
-    ensures read { IfOk result (λ n. WhereTold (F.told shelf.old) (λ files. ReadsOn (bytes_of (files name.now)) at buf.old n buf.new)) }
-    ensures counts { Counts (F.faults shelf.old) (F.faults shelf.new) result }
-{
-    shelf.read_at(name, at as u64, &mut buf[at..])
 }

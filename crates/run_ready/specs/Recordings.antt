@@ -1,5 +1,5 @@
 -- The recordings of a plan's stations.
-use Rattle.std.specs.Prelude.{◌≡◌, ℕ, ◌/◌, nat_lt, if◌then◌else◌, List, [], ◌∷◌, length, map, flat_map, find, sum_by, is_none, Option, None, Some, option_map}
+use Rattle.std.specs.Prelude.{ℕ, ◌/◌, nat_lt, if◌then◌else◌, List, [], ◌∷◌, length, map, flat_map, find, sum_by, is_none, Option, None, Some, option_map}
 use Rattle.corr_model.specs.Files.{Files, bytes_under}
 use Rattle.corr_model.specs.Slots.{slots_of}
 use Rattle.frame_index.specs.Foreign.{foreign_field}

@@ -1,7 +1,7 @@
 -- What reading and joining may be refused for.
 use Rattle.std.specs.Prelude.{⊤}
 use Rattle.run_notes.specs.declared.refusal.Refusal.{Refusal}
-use Rattle.run_notes.specs.declared.refusal.Refusal.TheVariants.{Words, Due as DueRefusal, Other, Read, Journal, Write}
+use Rattle.run_notes.specs.declared.refusal.Refusal.TheVariants.{Words, Other, Read, Journal, Write}
 
 -- anything but a fault of the words, another journal, and a fault of the journal or of the output
 abbrev pub IsOfFiles : Refusal → Type 0

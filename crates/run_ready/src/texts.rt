@@ -67,7 +67,6 @@ pub fn load_text<F: Shelf>(
 }
 
 // The bytes of a file of this length; those that the shelf does not give are zero.
-#[tactic(auto, using(crate::proofs::FilesLemmas::read_file))]
 fn read_whole<F: Shelf>(
     alloc: Global,
     shelf: &mut F,

@@ -74,6 +74,24 @@ fn four_pieces_by_two_seats(rt: HostRuntime) -> Result<(), Fail> {
     Ok(())
 }
 
+// One group of three pieces with one sum. Each amount is the greatest that there may be, and the total the greatest number of 64 bits.
+#[test]
+fn the_greatest_amounts(rt: HostRuntime) -> Result<(), Fail> {
+    let alloc = rt.alloc();
+    let most = 6_148_914_691_236_517_205;
+    let (board, mut seat) = SumBoard::new(alloc, 1, 3, 1, most, 1)?;
+    draws(&rt, &board, &mut seat, 0);
+    posts(&board, &mut seat, most);
+    draws(&rt, &board, &mut seat, 1);
+    posts(&board, &mut seat, most);
+    draws(&rt, &board, &mut seat, 2);
+    posts(&board, &mut seat, most);
+    ends(&rt, &board, &mut seat);
+    let sums = board.close(alloc, seat)?;
+    assert_eq!(rt; sums.totals(), [u64::MAX].as_slice());
+    Ok(())
+}
+
 // A seat for each share of a board, from its first seat.
 fn seats_of(
     alloc: Global,

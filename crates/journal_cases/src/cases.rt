@@ -3,6 +3,7 @@
 use crate::answer::{print_brought, print_fault, print_file, print_kept, print_look};
 use crate::epoch::Epoch;
 use crate::job::Job;
+use crate::machine::sum_of;
 use crate::table::{print_fails, print_stops};
 use crate::texts::{append_line, append_runs, numbers_of, set_byte};
 use anyhow::{Context, Result, bail};
@@ -37,6 +38,8 @@ impl Cases {
     pub fn read(&mut self, rt: &impl Print, word: &str, rest: &str) -> Result<()> {
         match word {
             "case" => self.begin(rt, rest)?,
+            "plan" => self.plan(rt)?,
+            "machine" => self.machine(rt, rest)?,
             "show" => print_file(rt, self.alloc, &self.file)?,
             "look" => self.look(rt)?,
             "open" => self.open(rt)?,
@@ -100,6 +103,27 @@ impl Cases {
     // The file is what a disk holds.
     fn keep(&mut self, disk: &MemDisk) -> Result<()> {
         self.file = disk.bytes().to_vec(self.alloc)?;
+        Ok(())
+    }
+
+    // The number of the job's epochs, and of the first one's cells.
+    fn plan(&self, rt: &impl Print) -> Result<()> {
+        let plan = &self.job()?.plan;
+        let count = plan.epochs();
+        if count == 0 {
+            bail!("no epoch");
+        }
+        let cells = plan.epoch(0).cells();
+        println!(rt; "plan: {count} epochs, {cells} cells in the first")?;
+        Ok(())
+    }
+
+    // The sum of a board without threads.
+    fn machine(&self, rt: &impl Print, rest: &str) -> Result<()> {
+        match sum_of(self.alloc, &numbers_of(self.alloc, rest)?)? {
+            Some(sum) => println!(rt; "machine: {sum}")?,
+            None => println!(rt; "machine: not allowed")?,
+        }
         Ok(())
     }
 

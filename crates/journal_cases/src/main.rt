@@ -8,6 +8,7 @@ mod board;
 mod cases;
 mod epoch;
 mod job;
+mod machine;
 mod plan;
 mod table;
 mod texts;

@@ -1,13 +1,43 @@
 //! Calls of the program over files and a journal in memory.
 
 use crate::answer::Answer;
-use anyhow::Result;
+use anyhow::{Result, bail};
 use dev_traits::{Disk, Gate, Shelf};
-use meet_devices::meet;
+use meet_devices::{NotingGate, Told, meet};
 use mem_devices::{CountingGate, MemDisk, MemShelf, MemSink};
 use std::alloc::Global;
 use std::thread::Threads;
+use std::time::Clock;
 use vlbi_core::run;
+
+/// A device that may fail: the shelf, the journal's disk, or the output.
+#[derive(Clone, Copy, PartialEq, Eq)]
+pub enum Device {
+    Shelf,
+    Disk,
+    Output,
+}
+
+impl Device {
+    /// The device of that name.
+    pub fn named(name: &str) -> Result<Device> {
+        match name {
+            "shelf" => Ok(Device::Shelf),
+            "disk" => Ok(Device::Disk),
+            "output" => Ok(Device::Output),
+            _ => bail!("no such device"),
+        }
+    }
+
+    /// What one of its calls is named.
+    pub fn call_name(self) -> &'static str {
+        match self {
+            Device::Shelf => "read",
+            Device::Disk => "disk call",
+            Device::Output => "write",
+        }
+    }
+}
 
 /// The calls of the devices that fail: those of the shelf, of the journal's disk, and the writes of the output, of which one
 /// takes so many bytes; and after how many calls the disk stops, if it does.
@@ -30,6 +60,17 @@ impl Faults {
             most,
             stop: None,
         }
+    }
+
+    /// That one call of a device, with such an output.
+    pub fn one(alloc: Global, most: usize, device: Device, number: u64) -> Result<Faults> {
+        let mut faults = Faults::none(alloc, most);
+        match device {
+            Device::Shelf => faults.reads.push(number)?,
+            Device::Disk => faults.disk.push(number)?,
+            Device::Output => faults.writes.push(number)?,
+        }
+        Ok(faults)
     }
 }
 
@@ -75,6 +116,24 @@ pub fn call_meeting<R: Threads + Sync>(
     let mut out = MemSink::new(alloc, 1_000_000, Vec::new(alloc));
     let answer = answered(rt, alloc, words, &mut shelf, &mut disk, &mut out, &gate)?;
     Ok((answer, gate.met()))
+}
+
+/// Calls the program with these words, over these files and an empty journal. The first pieces are held until so many have come.
+/// Answers what the call answers, and what the gate was told, up to a thousand pieces.
+pub fn call_noted<R: Threads + Clock + Sync>(
+    rt: &R,
+    alloc: Global,
+    words: &[String],
+    files: Vec<(String, Vec<u8>)>,
+    together: u64,
+) -> Result<(Answer, Vec<Told>)> {
+    let mut disk = MemDisk::new(alloc, Vec::new(alloc), Vec::new(alloc), None)?;
+    let mut shelf = MemShelf::new(files, Vec::new(alloc));
+    let mut out = MemSink::new(alloc, 1_000_000, Vec::new(alloc));
+    let gate = NotingGate::new(alloc, rt, together, 1000)?;
+    let answer = answered(rt, alloc, words, &mut shelf, &mut disk, &mut out, &gate)?;
+    let told = gate.told(alloc)?;
+    Ok((answer, told))
 }
 
 // What a call over these devices answers.

@@ -1,13 +1,15 @@
 //! What the lines ask.
 
 use crate::answer::{Answer, print_journal};
-use crate::calls::{Called, Faults, call, call_meeting};
+use crate::calls::{Called, Device, Faults, call, call_meeting, call_noted};
 use crate::frames::Frame;
 use crate::texts::{append_numbered, append_runs, bytes_of, replaced};
+use crate::told::print_told;
 use anyhow::{Context, Result, bail};
 use std::alloc::Global;
 use std::mem;
 use std::thread::Threads;
+use std::time::Clock;
 
 /// The bytes that the lines have described since the last file or piece, the pieces, the files of all cases, and what the
 /// last case has besides: its name, its files, its journal and the bytes that the output takes in one write.
@@ -38,7 +40,7 @@ impl Cases {
     }
 
     /// Reads a line, and prints the answer where it asks for a call.
-    pub fn read<R: Print + Threads + Sync>(
+    pub fn read<R: Print + Threads + Clock + Sync>(
         &mut self,
         rt: &R,
         word: &str,
@@ -50,6 +52,7 @@ impl Cases {
             "call" => self.call_once(rt, rest)?,
             "count" => self.call_counted(rt, rest)?,
             "meets" => self.call_meeting(rt, rest)?,
+            "told" => self.call_noted(rt, rest)?,
             "show" => print_journal(rt, self.alloc, &self.name, &self.journal)?,
             "keep" => self.keep_journal(rest)?,
             "reads" => self.call_with_reads_failing(rt, rest)?,
@@ -57,8 +60,10 @@ impl Cases {
             "disk" => self.call_with_disk_failing(rt, rest)?,
             "stops" => self.call_stopped(rt, rest)?,
             "runs" => self.call_as_plain(rt, rest)?,
-            "stop" => self.call_with_one_failing(rt, rest)?,
-            "fail" => self.call_with_one_disk_call_failing(rt, rest)?,
+            "left" => self.call_with_journals_left(rt, rest)?,
+            "stop" => self.call_with_one_failing(rt, Device::Output, rest)?,
+            "fail" => self.call_with_one_failing(rt, Device::Disk, rest)?,
+            "broken" => self.call_on_broken_shelf(rt, rest)?,
             _ => self.describe(word, rest)?,
         }
         Ok(())
@@ -221,25 +226,40 @@ impl Cases {
         answer.print(rt, self.alloc)
     }
 
-    // A call with one write failing, whose number stands before the words.
-    fn call_with_one_failing<R: Print + Threads + Sync>(&self, rt: &R, rest: &str) -> Result<()> {
-        let (number, line) = rest.split_once(' ').context("a number and words")?;
-        let mut faults = Faults::none(self.alloc, self.most);
-        faults.writes.push(number.parse::<u64>()?)?;
-        print!(rt; "{}, write {number} failing:", self.name)?;
-        self.answer(rt, line, faults)?.print(rt, self.alloc)
+    // A call over a journal of its own, with a gate that holds as many pieces as the number before the words, and before its answer
+    // what the gate was told.
+    fn call_noted<R: Print + Threads + Clock + Sync>(&self, rt: &R, rest: &str) -> Result<()> {
+        let (together, line) = rest.split_once(' ').context("a number and words")?;
+        let together = together.parse::<u64>()?;
+        let words = words_of(self.alloc, line)?;
+        let (answer, told) = call_noted(rt, self.alloc, &words, self.all_files()?, together)?;
+        print!(rt; "{}, told", self.name)?;
+        print_told(rt, self.alloc, &told)?;
+        print!(rt; ":")?;
+        answer.print(rt, self.alloc)
     }
 
-    // A call with one call of the disk failing, whose number stands before the words.
-    fn call_with_one_disk_call_failing<R: Print + Threads + Sync>(
+    // A call with one call of a device failing, whose number stands before the words.
+    fn call_with_one_failing<R: Print + Threads + Sync>(
         &self,
         rt: &R,
+        device: Device,
         rest: &str,
     ) -> Result<()> {
         let (number, line) = rest.split_once(' ').context("a number and words")?;
+        let faults = Faults::one(self.alloc, self.most, device, number.parse::<u64>()?)?;
+        print!(rt; "{}, {} {number} failing:", self.name, device.call_name())?;
+        self.answer(rt, line, faults)?.print(rt, self.alloc)
+    }
+
+    // A call with all calls of the shelf failing from that on whose number stands before the words, up to the thousandth.
+    fn call_on_broken_shelf<R: Print + Threads + Sync>(&self, rt: &R, rest: &str) -> Result<()> {
+        let (number, line) = rest.split_once(' ').context("a number and words")?;
         let mut faults = Faults::none(self.alloc, self.most);
-        faults.disk.push(number.parse::<u64>()?)?;
-        print!(rt; "{}, disk call {number} failing:", self.name)?;
+        for number in number.parse::<u64>()?..1000 {
+            faults.reads.push(number)?;
+        }
+        print!(rt; "{}, reads from {number} on failing:", self.name)?;
         self.answer(rt, line, faults)?.print(rt, self.alloc)
     }
 
@@ -313,6 +333,41 @@ impl Cases {
             }
         }
         bail!("too many calls of the disk")
+    }
+
+    // The first call with one call of a device failing after the other until it is done, and behind each fault the second call over
+    // the journal that is left, and then the first one. What the second ones answer is printed, each answer once.
+    fn call_with_journals_left<R: Print + Threads + Sync>(&self, rt: &R, rest: &str) -> Result<()> {
+        let (device, rest) = rest.split_once(' ').context("a device and calls")?;
+        let (line, second) = rest.split_once(" => ").context("two calls")?;
+        let device = Device::named(device)?;
+        let whole = self.whole(rt, line)?;
+        let mut seen = Vec::new(self.alloc);
+        for number in 0..MOST_CALLS {
+            let faults = Faults::one(self.alloc, self.most, device, number)?;
+            let called = self.called_on(rt, line, &self.journal, faults)?;
+            if called.answer == whole {
+                return self.print_end(rt, device.call_name(), number, &whole);
+            }
+            let none = Faults::none(self.alloc, self.most);
+            let left = self
+                .called_on(rt, second, called.disk.bytes(), none)?
+                .answer;
+            if !seen.contains(&left) {
+                print!(rt; "{}, left by a {} failing:", self.name, device.call_name())?;
+                left.print(rt, self.alloc)?;
+                seen.push(left)?;
+            }
+            let none = Faults::none(self.alloc, self.most);
+            let again = self.called_on(rt, line, called.disk.bytes(), none)?.answer;
+            if !is_fault_of(device, &called.answer, &whole) || again != whole {
+                print!(rt; "{}, {} {number} failing:", self.name, device.call_name())?;
+                called.answer.print(rt, self.alloc)?;
+                print!(rt; "{}, and then:", self.name)?;
+                again.print(rt, self.alloc)?;
+            }
+        }
+        bail!("too many calls of a device")
     }
 
     // The first call with the disk stopped after each number of its calls until it is done, and for each what a crash may leave:
@@ -405,6 +460,15 @@ impl Cases {
 
 // More calls of a device than a case makes.
 const MOST_CALLS: u64 = 100_000;
+
+// Whether a call of `run` is answered as a fault of this device.
+fn is_fault_of(device: Device, answer: &Answer, whole: &Answer) -> bool {
+    match device {
+        Device::Shelf => answer.is_fault(7, b"vlbi: read fault\n", &[]),
+        Device::Disk => answer.is_journal_fault(&whole.output),
+        Device::Output => answer.is_fault(9, b"vlbi: write fault\n", &whole.output),
+    }
+}
 
 // The words of a call, each behind a bar.
 fn words_of(alloc: Global, line: &str) -> Result<Vec<String>> {

@@ -7,6 +7,7 @@ mod calls;
 mod cases;
 mod frames;
 mod texts;
+mod told;
 
 use crate::cases::Cases;
 use anyhow::{Result, bail};

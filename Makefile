@@ -2,6 +2,7 @@
 # make demo    correlate the recordings of demo/ by its two jobs, unproved: the same source with checks at run time, in some two minutes
 # make example the same by the proved program
 # make test    prove everything, try the edits that must fail, run the tests and the programs
+# make refused refuse each allocation of a call in turn, of every command and kind of journal, unproved
 # make fringe  simulate two stations, correlate them, draw the fringe in fringe/ and compare it with theory
 # make sky    three stations and two sources that move as on the sky: from a schedule to FITS-IDI and pictures in sky/, compared with theory
 # make install PREFIX=/usr/local DESTDIR=    install the program, its manual pages, the Python tools and modules, completion and the documents
@@ -29,7 +30,7 @@ ZSH = share/zsh/$(if $(filter /usr,$(PREFIX)),vendor-completions,site-functions)
 COMMANDS = $(shell sed -n 's/^vlbi-\([a-z]*\) = .*/\1/p' tools/pyproject.toml)
 PACKAGE = bin/vlbi_$(VERSION)_$(ARCH).deb
 
-.PHONY: program demo example test fringe sky install deb
+.PHONY: program demo example test refused fringe sky install deb
 
 program: bin/vlbi
 
@@ -54,6 +55,9 @@ endef
 
 test:
 	bash .ci/run
+
+refused:
+	.ci/refused
 
 fringe: bin/vlbi
 	@$(PYTHON) tools/tests/fringe.py bin/vlbi fringe

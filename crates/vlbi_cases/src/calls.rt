@@ -103,6 +103,74 @@ pub fn call<R: Threads + Sync>(
     })
 }
 
+/// Where the refusal came, in a program one of whose allocations is refused: before a call or behind it, with how often memory was
+/// taken there until then; or in it, or nowhere, with whether the journal's disk and the output say that their last call found no memory,
+/// and the disk.
+#[derive(Drop)]
+pub enum Refused {
+    Before(u64),
+    Behind(u64, Answer),
+    Elsewhere {
+        answer: Answer,
+        journal: bool,
+        output: bool,
+        disk: MemDisk,
+    },
+}
+
+/// Takes memory so many times, calls the program with these words, over these files and a journal that begins with these bytes, and
+/// takes memory again. So an allocation that is refused by its number is one of the call, whichever the numbers are that go before.
+pub fn call_refused<R: Threads + Sync>(
+    rt: &R,
+    alloc: Global,
+    words: &[String],
+    files: Vec<(String, Vec<u8>)>,
+    journal: &[u8],
+    times: u64,
+) -> Result<Refused> {
+    let mut disk = MemDisk::new(alloc, journal.to_vec(alloc)?, Vec::new(alloc), None)?;
+    let mut shelf = MemShelf::new(files, Vec::new(alloc));
+    let mut out = MemSink::new(alloc, 1_000_000, Vec::new(alloc));
+    let mut notes = MemSink::new(alloc, 4096, Vec::new(alloc));
+    let gate = CountingGate::new();
+    let before = take_memory(alloc, times);
+    if before < times {
+        return Ok(Refused::Before(before));
+    }
+    let status = run(
+        rt, alloc, words, &mut shelf, &mut disk, &mut out, &mut notes, &gate,
+    );
+    let behind = take_memory(alloc, MOST_BEHIND);
+    let answer = Answer {
+        status,
+        note: notes.bytes().to_vec(alloc)?,
+        output: out.bytes().to_vec(alloc)?,
+    };
+    if behind < MOST_BEHIND {
+        return Ok(Refused::Behind(behind, answer));
+    }
+    Ok(Refused::Elsewhere {
+        answer,
+        journal: disk.refused(),
+        output: out.refused(),
+        disk,
+    })
+}
+
+// More than the number of an allocation that is refused.
+const MOST_BEHIND: u64 = 10_000;
+
+// Takes memory and gives it back so many times, or until it is refused; answers how often there was some.
+fn take_memory(alloc: Global, times: u64) -> u64 {
+    for number in 0..times {
+        let mut block = Vec::new(alloc);
+        if block.push(0u8).is_err() {
+            return number;
+        }
+    }
+    times
+}
+
 /// Calls the program with these words, over these files and an empty journal. Once the journal is written to, the first read
 /// past byte `from` of a file and the first piece wait for one another. Answers what the call answers, and whether they met.
 pub fn call_meeting<R: Threads + Sync>(

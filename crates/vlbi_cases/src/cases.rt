@@ -1,7 +1,7 @@
 //! What the lines ask.
 
 use crate::answer::{Answer, print_journal};
-use crate::calls::{Called, Device, Faults, call, call_meeting, call_noted};
+use crate::calls::{Called, Device, Faults, Refused, call, call_meeting, call_noted, call_refused};
 use crate::frames::Frame;
 use crate::texts::{append_numbered, append_runs, bytes_of, replaced};
 use crate::told::print_told;
@@ -64,6 +64,7 @@ impl Cases {
             "stop" => self.call_with_one_failing(rt, Device::Output, rest)?,
             "fail" => self.call_with_one_failing(rt, Device::Disk, rest)?,
             "broken" => self.call_on_broken_shelf(rt, rest)?,
+            "refused" => self.call_with_one_refused(rt, rest)?,
             _ => self.describe(word, rest)?,
         }
         Ok(())
@@ -261,6 +262,44 @@ impl Cases {
         }
         print!(rt; "{}, reads from {number} on failing:", self.name)?;
         self.answer(rt, line, faults)?.print(rt, self.alloc)
+    }
+
+    // A call behind so many allocations, in a program one of which is refused: where that came, and where not before or behind the
+    // call the second one over what it left.
+    fn call_with_one_refused<R: Print + Threads + Sync>(&self, rt: &R, rest: &str) -> Result<()> {
+        let (times, rest) = rest.split_once(' ').context("a number and words")?;
+        let (first, then) = rest.split_once(" => ").unwrap_or((rest, ""));
+        let times = times.parse::<u64>()?;
+        let words = words_of(self.alloc, first)?;
+        let files = self.all_files()?;
+        match call_refused(rt, self.alloc, &words, files, &self.journal, times)? {
+            Refused::Before(times) => println!(rt; "{}, before {times}", self.name)?,
+            Refused::Behind(times, answer) => {
+                print!(rt; "{}, behind {times}:", self.name)?;
+                answer.print(rt, self.alloc)?;
+            }
+            Refused::Elsewhere {
+                answer,
+                journal,
+                output,
+                disk,
+            } => {
+                print!(rt; "{}, journal {journal}, output {output}:", self.name)?;
+                answer.print(rt, self.alloc)?;
+                if !then.is_empty() {
+                    self.call_then(rt, then, disk.bytes())?;
+                }
+            }
+        }
+        Ok(())
+    }
+
+    // The call over what another left of the journal.
+    fn call_then<R: Print + Threads + Sync>(&self, rt: &R, line: &str, left: &[u8]) -> Result<()> {
+        let faults = Faults::none(self.alloc, self.most);
+        let called = self.called_on(rt, line, left, faults)?;
+        print!(rt; "{}, and then:", self.name)?;
+        called.answer.print(rt, self.alloc)
     }
 
     // The call again and again, with one call of the shelf failing after the other, until the answer is that without. Of a call

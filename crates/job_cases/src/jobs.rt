@@ -79,10 +79,9 @@ fn put_lists(alloc: Global, out: &mut String, job: &Job) -> Result<(), AllocErro
 /// What a job says: its numbers, its stations, each with what is said of it, and its lists.
 pub fn put_job(alloc: Global, out: &mut String, job: &Job) -> Result<(), AllocError> {
     let (lags, integration, epoch, knot) = (job.lags, job.integration, job.epoch, job.knot);
-    out.push_str(
-        format!(in alloc; "lags {lags} integration {integration} epoch {epoch} knot {knot}")?
-            .as_str(),
-    )?;
+    out.push_str(format!(in alloc;
+        "lags {lags} integration {integration} epoch {epoch} knot {knot}"
+    )?.as_str())?;
     if job.auto {
         out.push_str(" auto")?;
     }

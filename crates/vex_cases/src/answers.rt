@@ -2,24 +2,29 @@
 
 ghost use Rattle.std.specs.Prelude.{◌+◌, ◌≤◌, length, All};
 
-use crate::files::{put_file, put_places, put_text};
-use crate::pieces::Marked;
+use crate::files::{put_file, put_places};
 use crate::scans::put_scans;
 use anyhow::{Result, bail};
+use case_texts::{Answers, Marked, put_text};
 use std::alloc::{AllocError, Global};
 use vex_lex::{Token, tokens};
 use vex_reader::read;
 use vex_schedule::schedule;
 
-/// The answer to a text.
-pub fn answer(alloc: Global, word: &str, text: &Marked) -> Result<String> {
-    match word {
-        "tokens" => told_tokens(alloc, text),
-        "texts" => told_texts(alloc, text),
-        "read" => told_file(alloc, text),
-        "places" => told_places(alloc, text),
-        "schedule" => told_schedule(alloc, text),
-        _ => bail!("no such line"),
+/// What is asked of texts of schedules.
+#[derive(Clone, Copy)]
+pub struct Schedules;
+
+impl Answers for Schedules {
+    fn answer(&self, alloc: Global, word: &str, text: &Marked) -> Result<String> {
+        match word {
+            "tokens" => told_tokens(alloc, text),
+            "texts" => told_texts(alloc, text),
+            "read" => told_file(alloc, text),
+            "places" => told_places(alloc, text),
+            "schedule" => told_schedule(alloc, text),
+            _ => bail!("no such line"),
+        }
     }
 }
 
@@ -108,7 +113,13 @@ fn told_places(alloc: Global, text: &Marked) -> Result<String> {
 }
 
 fn told_schedule(alloc: Global, text: &Marked) -> Result<String> {
-    let file = read(alloc, &text.bytes)?;
+    let file = match read(alloc, &text.bytes) {
+        Ok(file) => file,
+        Err(fault) => {
+            let kind = format!(in alloc; "{:?}", fault.kind)?;
+            return told_fault(alloc, kind, fault.at, text);
+        }
+    };
     match schedule(alloc, &file) {
         Ok(list) => {
             let mut out = String::new(alloc);

@@ -1,20 +1,9 @@
 //! Files, as they are printed.
 
+use case_texts::put_text;
 use named_list::Named;
 use std::alloc::{AllocError, Global};
 use vex_reader::{Item, Statement, VexFile};
-
-/// A text, with bytes that are no printable ASCII as `\x` and two digits.
-pub fn put_text(alloc: Global, out: &mut String, text: &[u8]) -> Result<(), AllocError> {
-    for byte in text {
-        if 0x20 <= *byte && *byte < 0x7f {
-            out.push(*byte as char)?;
-        } else {
-            out.push_str(format!(in alloc; "\\x{byte:02x}")?.as_str())?;
-        }
-    }
-    Ok(())
-}
 
 // `key>target=[word word][word];`, with no `>target` for an assignment.
 fn put_entry(alloc: Global, out: &mut String, entry: &Statement) -> Result<(), AllocError> {

@@ -4,12 +4,11 @@
 
 mod answers;
 mod files;
-mod pieces;
 mod scans;
 
-use crate::answers::answer;
-use crate::pieces::Pieces;
+use crate::answers::Schedules;
 use anyhow::{Result, bail};
+use case_texts::{Pieces, told};
 use std::alloc::Global;
 use std::io::{BufRead, BufReader};
 
@@ -27,13 +26,8 @@ fn main(rt: HostRuntime) -> Result<()> {
 
 // Keeps a piece, or prints a case with its answer.
 fn read_line(rt: &impl Print, alloc: Global, line: &str, pieces: &mut Pieces) -> Result<()> {
-    if line.is_empty() || line.starts_with('#') || pieces.keep(alloc, line)? {
-        return Ok(());
+    if let Some(told) = told(alloc, pieces, line, &Schedules)? {
+        println!(rt; "{line}: {told}")?;
     }
-    let (word, rest) = line.split_once(' ').unwrap_or((line, ""));
-    println!(rt;
-        "{line}: {}",
-        answer(alloc, word, &pieces.text(alloc, rest)?)?
-    )?;
     Ok(())
 }

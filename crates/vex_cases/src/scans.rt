@@ -1,6 +1,6 @@
 //! Scans, as they are printed.
 
-use crate::files::put_text;
+use case_texts::put_text;
 use scan_list::{Chan, Pass, Scan, ScanList};
 use std::alloc::{AllocError, Global};
 

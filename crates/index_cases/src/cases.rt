@@ -1,11 +1,14 @@
 //! What the lines ask.
+use crate::broken::BrokenRecording;
 use crate::bytes::{FrameLine, append_hex};
 use crate::shapes::shape_of;
 use crate::short::ShortShelf;
 use crate::sizes::with_sizes;
 use anyhow::{Context, Result, bail};
+use broken_texts::print_broken;
 use dev_traits::Shelf;
 use frame_index::Index;
+use hex::decode;
 use mem_devices::MemShelf;
 use real_devices::{FileShelf, SystemFiles};
 use std::alloc::Global;
@@ -50,6 +53,7 @@ impl Cases {
             "short" => self.index_of_short(rt, rest)?,
             "slow" => self.index_by_slow_reads(rt, rest)?,
             "find" => self.find(rt, rest)?,
+            "broken" => self.broken(rt, rest)?,
             _ => bail!("no such line"),
         }
         Ok(())
@@ -142,6 +146,17 @@ impl Cases {
             }
         }
         Ok(())
+    }
+
+    // The indexes of recordings of a shape that are a good one broken.
+    fn broken(&self, rt: &impl Print, rest: &str) -> Result<()> {
+        let (shape, text) = rest.split_once(' ').context("a shape and bytes")?;
+        let good = decode(self.alloc, text)?;
+        let mut reader = BrokenRecording {
+            shape: shape_of(shape).context("such a shape")?,
+            good: &good,
+        };
+        print_broken(rt, self.alloc, &mut reader, shape, &good)
     }
 
     // Where the last index has a frame.

@@ -3,6 +3,7 @@
 //! each answer is printed behind its line. The head of the file `stdin` says what the lines mean.
 #![tactic(auto)]
 
+mod broken;
 mod bytes;
 mod cases;
 mod shapes;

@@ -1,12 +1,15 @@
 //! What the lines ask.
 
 use crate::answer::{print_brought, print_fault, print_file, print_kept, print_look};
+use crate::broken::BrokenJournal;
 use crate::epoch::Epoch;
 use crate::job::Job;
 use crate::machine::sum_of;
 use crate::table::{print_fails, print_stops};
 use crate::texts::{append_line, append_runs, numbers_of, set_byte};
 use anyhow::{Context, Result, bail};
+use broken_texts::print_broken;
+use hex::decode;
 use mem_devices::MemDisk;
 use std::alloc::Global;
 use std::mem;
@@ -46,6 +49,7 @@ impl Cases {
             "run" => self.run(rt)?,
             "stops" => print_stops(rt, self.alloc, self.job()?, &self.file)?,
             "fails" => print_fails(rt, self.alloc, self.job()?, &self.file)?,
+            "broken" => self.broken(rt, rest)?,
             _ => self.describe(word, rest)?,
         }
         Ok(())
@@ -88,6 +92,14 @@ impl Cases {
     fn add_epoch(&mut self, rest: &str) -> Result<()> {
         let epoch = Epoch::read(self.alloc, rest)?;
         self.job.as_mut().context("no job")?.add(epoch)
+    }
+
+    // What journals of the job are that are a good one broken.
+    fn broken(&self, rt: &impl Print, rest: &str) -> Result<()> {
+        let (name, text) = rest.split_once(' ').context("a name and bytes")?;
+        let text = decode(self.alloc, text)?;
+        let mut reader = BrokenJournal::new(self.alloc, self.job()?)?;
+        print_broken(rt, self.alloc, &mut reader, name, &text)
     }
 
     fn job(&self) -> Result<&Job> {

@@ -5,6 +5,7 @@
 
 mod answer;
 mod board;
+mod broken;
 mod cases;
 mod epoch;
 mod job;

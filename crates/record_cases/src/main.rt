@@ -2,7 +2,11 @@
 //! printed with what the text is read to, or the fault. The head of the file `stdin` says what the lines mean.
 #![tactic(auto)]
 
+mod broken;
+
+use crate::broken::BrokenFile;
 use anyhow::{Context, Result, bail};
+use broken_texts::print_broken;
 use hex::{decode, encode};
 use mem_devices::MemSink;
 use std::alloc::Global;
@@ -26,9 +30,9 @@ fn read_line(rt: &impl Print, alloc: Global, line: &str, text: &mut Vec<u8>) -> 
         "text" => *text = decode(alloc, rest)?,
         "more" => text.extend_from_slice(&decode(alloc, rest)?)?,
         "whole" => print_answer(rt, alloc, line, text)?,
-        "fronts" => print_fronts(rt, alloc, text)?,
         "dump" => print_lines(rt, alloc, line, text)?,
         "byte" => print_changed(rt, alloc, line, rest, text)?,
+        "broken" => print_breaks(rt, alloc, rest)?,
         _ => bail!("no such line: {line}"),
     }
     Ok(())
@@ -87,18 +91,6 @@ fn print_lines(rt: &impl Print, alloc: Global, line: &str, text: &[u8]) -> Resul
     Ok(())
 }
 
-// The fault of each front of the text that is shorter than the text.
-fn print_fronts(rt: &impl Print, alloc: Global, text: &[u8]) -> Result<()> {
-    for n in 0..text.len() {
-        let front = text.get(..n).context("no such front")?;
-        match read_all(alloc, front) {
-            Ok(_) => println!(rt; "{n} bytes: a file")?,
-            Err(fault) => println!(rt; "{n} bytes: {fault}")?,
-        }
-    }
-    Ok(())
-}
-
 // The answer to the text with another byte at a place.
 fn print_changed(
     rt: &impl Print,
@@ -114,4 +106,12 @@ fn print_changed(
         .context("no such place")?;
     *there = u8::from_str_radix(byte, 16)?;
     print_answer(rt, alloc, line, &changed)
+}
+
+// The answers to a file that is broken in all ways.
+fn print_breaks(rt: &impl Print, alloc: Global, rest: &str) -> Result<()> {
+    let (kind, text) = rest.split_once(' ').context("a kind and a text")?;
+    let text = decode(alloc, text)?;
+    let mut reader = BrokenFile::new(alloc, &text)?;
+    print_broken(rt, alloc, &mut reader, kind, &text)
 }

@@ -2,10 +2,13 @@
 //! gives, or the fault. The head of the file `stdin` says how the words stand in a line.
 #![tactic(auto)]
 
-use anyhow::{Result, bail};
+use anyhow::{Context, Result, bail};
+use broken_texts::{Reader, print_broken};
+use hex::decode;
 use num_time::Name;
 use run_words::{Order, read_words};
 use std::alloc::Global;
+use std::fmt::Write;
 use std::io::{BufRead, BufReader};
 
 fn main(rt: HostRuntime) -> Result<()> {
@@ -19,14 +22,34 @@ fn read_line(rt: &impl Print, alloc: Global, line: &str) -> Result<()> {
     if line.is_empty() || line.starts_with('#') {
         return Ok(());
     }
-    let words = words_of(alloc, line)?;
-    print!(rt; "{line} = ")?;
-    match read_words(alloc, &words) {
-        Ok(order) => print_order(rt, &order),
-        Err(fault) => {
-            println!(rt; "{fault}")?;
-            Ok(())
+    if let Some(rest) = line.strip_prefix("broken ") {
+        let (name, text) = rest.split_once(' ').context("a name and a text")?;
+        let text = decode(alloc, text)?;
+        return print_broken(rt, alloc, &mut BrokenWords, name, &text);
+    }
+    let answer = answer_of(alloc, line)?;
+    println!(rt; "{line} = {answer}")?;
+    Ok(())
+}
+
+/// The reader of lines of words that are a good one broken.
+#[derive(Drop)]
+struct BrokenWords;
+
+impl Reader for BrokenWords {
+    fn answer(&mut self, alloc: Global, text: &[u8]) -> Result<String> {
+        match str::from_utf8(text) {
+            Ok(line) => answer_of(alloc, line),
+            Err(_) => Ok(String::from_str(alloc, "no UTF-8")?),
         }
+    }
+}
+
+// The order that the words of a line give, or the fault.
+fn answer_of(alloc: Global, line: &str) -> Result<String> {
+    match read_words(alloc, &words_of(alloc, line)?) {
+        Ok(order) => order_of(alloc, &order),
+        Err(fault) => Ok(format!(in alloc; "{fault}")?),
     }
 }
 
@@ -39,7 +62,8 @@ fn words_of(alloc: Global, line: &str) -> Result<Vec<String>> {
     Ok(words)
 }
 
-fn print_order(rt: &impl Print, order: &Order) -> Result<()> {
+// An order in words.
+fn order_of(alloc: Global, order: &Order) -> Result<String> {
     match order {
         Order::Run {
             job,
@@ -47,53 +71,53 @@ fn print_order(rt: &impl Print, order: &Order) -> Result<()> {
             workers,
             piece,
         } => {
-            print_names(rt, "run", job, vex)?;
-            println!(rt; " workers {workers} piece {piece}")?;
+            let names = names_of(alloc, "run", job, vex)?;
+            Ok(format!(in alloc; "{names} workers {workers} piece {piece}")?)
         }
-        Order::Plain { job, vex } => print_job(rt, "plain", job, vex)?,
-        Order::Check { job, vex } => print_job(rt, "check", job, vex)?,
-        Order::Status { job, vex } => print_job(rt, "status", job, vex)?,
-        Order::Dump { file } => println!(rt; "dump file \"{}\"", text_of(file)?)?,
+        Order::Plain { job, vex } => names_of(alloc, "plain", job, vex),
+        Order::Check { job, vex } => names_of(alloc, "check", job, vex),
+        Order::Status { job, vex } => names_of(alloc, "status", job, vex),
+        Order::Dump { file } => Ok(format!(in alloc;
+            "dump file \"{}\"",
+            text_of(file)?.escape_debug()
+        )?),
         Order::Gen {
             seed,
             seconds,
             workers,
             piece,
-        } => println!(rt; "gen seed {seed} seconds {seconds} workers {workers} piece {piece}")?,
+        } => Ok(format!(in alloc;
+            "gen seed {seed} seconds {seconds} workers {workers} piece {piece}"
+        )?),
         Order::Fringe {
             file,
             rates,
             divide,
-        } => println!(rt;
-            "fringe file \"{}\" rates {rates} divide {divide}",
-            text_of(file)?
-        )?,
+        } => {
+            let file = text_of(file)?.escape_debug();
+            Ok(format!(in alloc; "fringe file \"{file}\" rates {rates} divide {divide}")?)
+        }
         Order::Verify { file, certificate } => {
-            let (file, certificate) = (text_of(file)?, text_of(certificate)?);
-            println!(rt; "verify file \"{file}\" certificate \"{certificate}\"")?;
+            let (file, certificate) = (
+                text_of(file)?.escape_debug(),
+                text_of(certificate)?.escape_debug(),
+            );
+            Ok(format!(in alloc; "verify file \"{file}\" certificate \"{certificate}\"")?)
         }
     }
-    Ok(())
-}
-
-// A command on a job alone.
-fn print_job(rt: &impl Print, command: &str, job: &Name, vex: &Option<Name>) -> Result<()> {
-    print_names(rt, command, job, vex)?;
-    println!(rt; "")?;
-    Ok(())
 }
 
 // A command with the names of a job's file and of its schedule's.
-fn print_names(rt: &impl Print, command: &str, job: &Name, vex: &Option<Name>) -> Result<()> {
-    print!(rt; "{command} job \"{}\"", text_of(job)?)?;
+fn names_of(alloc: Global, command: &str, job: &Name, vex: &Option<Name>) -> Result<String> {
+    let mut words = format!(in alloc; "{command} job \"{}\"", text_of(job)?.escape_debug())?;
     if let Some(vex) = vex {
-        print!(rt; " vex \"{}\"", text_of(vex)?)?;
+        write!(words, " vex \"{}\"", text_of(vex)?.escape_debug())?;
     }
-    Ok(())
+    Ok(words)
 }
 
 fn text_of(name: &Name) -> Result<&str> {
-    match std::str::from_utf8(name.bytes()) {
+    match str::from_utf8(name.bytes()) {
         Ok(text) => Ok(text),
         Err(_) => bail!("a name that is no text"),
     }

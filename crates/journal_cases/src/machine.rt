@@ -27,7 +27,7 @@ fn events_of(alloc: Global, amounts: &[u64]) -> Result<Vec<Event>> {
     for &amount in amounts {
         events.push(Event::Draw { seat })?;
         events.push(Event::Post { seat, amount })?;
-        seat = 1 - seat;
+        seat = if seat == 0 { 1 } else { 0 };
     }
     events.push(Event::Draw { seat: 0 })?;
     events.push(Event::Draw { seat: 1 })?;

@@ -1,10 +1,10 @@
 -- The phase at a knot: a phase has no clock.
-use Rattle.std.proofs.Common.{◌≡◌, ℕ, ◌+◌, ◌^◌, ◌≤◌, ◌<◌, ◌⊎◌, true, [], ◌∷◌, None, Some, ℤ, pos, ◌+ℤ◌, sym, ap, ◌∙◌, arith}
+use Rattle.std.proofs.Common.{◌≡◌, ℕ, ◌+◌, ◌^◌, ◌≤◌, ◌<◌, ◌⊎◌, true, [], ◌∷◌, None, Some, ℤ, pos, ◌+ℤ◌, ap, ◌∙◌, arith}
 use Rattle.std.proofs.lemmas.Int.{ints}
 use Rattle.entry_list.specs.Latest.{in_force}
 use Rattle.delay_poly.specs.Nested.{nested}
 use Rattle.delay_poly.specs.declared.entry.PolyEntry.{PolyEntry}
-use Rattle.corr_model.specs.Delay.{DelayModel, IsDelayModel, poly_at, clock_of, clock_second, clock_at_knot, knot_before, knot_delay, is_modelled, has_model}
+use Rattle.corr_model.specs.Delay.{DelayModel, IsDelayModel, poly_at, clock_of, clock_second, knot_before, knot_delay, is_modelled, has_model}
 use Rattle.delay_track.proofs.AllSamples.{each_from_all}
 use Rattle.delay_track.proofs.Clocks.{clock_of-entries, clock_at_knot-none}
 use Rattle.delay_track.proofs.Knots.{IsKnot-at}

@@ -1,10 +1,11 @@
 //! The entries of a station, and the delays by them.
-ghost use Rattle.std.specs.Prelude.{◌≡◌, IfSome};
+ghost use Rattle.std.specs.Prelude.{◌≡◌, ◌≤◌, IfOk, IfSome};
 
 use crate::text::numbers;
 use anyhow::{Context, Result, bail};
 use delay_poly::{Poly, PolyEntry, PolyList};
 use delay_track::{StationModel, Track};
+use pulsar_bins::{bin, bin_runs};
 use station_clock::{ClockEntry, ClockList};
 use std::alloc::Global;
 use std::io;
@@ -55,6 +56,8 @@ impl Entries {
                 let (side, values) = rest.split_once(' ').context("a sideband")?;
                 self.print_turns(rt, side == "U", &numbers(alloc, values)?)?;
             }
+            "bin" => self.print_bin(rt, alloc, &numbers(alloc, rest)?)?,
+            "bins" => self.print_bins(rt, alloc, &numbers(alloc, rest)?)?,
             _ => return Ok(false),
         }
         Ok(true)
@@ -180,6 +183,55 @@ impl Entries {
         println!(rt; "end")?;
         Ok(())
     }
+
+    // The bin of a sample, where the polynomials are those of a phase.
+    fn print_bin(&self, rt: &impl Print, alloc: Global, values: &[i64]) -> Result<()> {
+        let [count, n] = values else {
+            bail!("the number of bins and a sample");
+        };
+        let (count, n) = (bin_count(*count)?, u64::try_from(*n)?);
+        let clocks = ClockList::new(alloc);
+        let track = track(&self.polys, &clocks, self.rate, self.knot, self.samples).context(
+            "no phase",
+        )?;
+        if n >= self.samples {
+            bail!("no such sample");
+        }
+        println!(rt; "{}", bin(&track, count, n))?;
+        Ok(())
+    }
+
+    // The runs of one bin through these samples.
+    fn print_bins(&self, rt: &impl Print, alloc: Global, values: &[i64]) -> Result<()> {
+        let [count, from, to] = values else {
+            bail!("the number of bins, from and to");
+        };
+        let count = bin_count(*count)?;
+        let (from, to) = (u64::try_from(*from)?, u64::try_from(*to)?);
+        let clocks = ClockList::new(alloc);
+        let track = track(&self.polys, &clocks, self.rate, self.knot, self.samples).context(
+            "no phase",
+        )?;
+        if from > to || to > self.samples {
+            bail!("no such samples");
+        }
+        for run in bin_runs(&track, count, from, to) {
+            print!(rt; "{} to {} of {}, ", run.from, run.to, run.bin)?;
+        }
+        println!(rt; "end")?;
+        Ok(())
+    }
+}
+
+// A number of bins.
+fn bin_count(count: i64) -> Result<u32>
+    ensures { IfOk result (λ n. (2 ≤ n) × (n ≤ 64)) }
+{
+    if 2 <= count && count <= 64 {
+        Ok(count as u32)
+    } else {
+        bail!("no such number of bins")
+    }
 }
 
 // The model of these entries in a scan from `START` on, None where something is out of its range.
@@ -190,7 +242,8 @@ fn model<'a>(
     knot: u32,
     samples: u64,
 ) -> Option<StationModel<'a>>
-    ensures { IfSome result (λ m. m.samples ≡ samples) }
+    ensures samples { IfSome result (λ m. m.samples ≡ samples) }
+    ensures clocks { IfSome result (λ m. m.clocks.now ≡ clocks.now) }
 {
     let in_years = |second: i64| 0 <= second && second < 4_102_444_800;
     let polys_fit = polys.entries().iter().all(|e| in_years(e.second));
@@ -226,7 +279,8 @@ fn track<'a>(
     knot: u32,
     samples: u64,
 ) -> Option<Track<'a>>
-    ensures { IfSome result (λ t. t.samples ≡ samples) }
+    ensures samples { IfSome result (λ t. t.samples ≡ samples) }
+    ensures clocks { IfSome result (λ t. t.clocks.now ≡ clocks.now) }
 {
     let model = model(polys, clocks, rate, knot, samples)?;
     if !model.has_model() || !model.has_clock() {

@@ -1,5 +1,7 @@
 pub mod BinLemmas
 pub mod CellLemmas
+pub mod EdgeLemmas
 pub mod EntryLemmas
 pub mod FirstLemmas
+pub mod KnotLemmas
 pub mod ReadLemmas

@@ -10,7 +10,7 @@ const TURN: u64 = 1 << 32;
 
 // The bin of a phase, in units of 2^-32 turn.
 #[tactic(auto, unfolding(crate::specs::Bin::bin_of))]
-fn bin_of(phase: i64, count: u32) -> u32
+pub(crate) fn bin_of(phase: i64, count: u32) -> u32
     requires some { 2 ≤ count }
     requires few { count ≤ 64 }
     ensures value { result ≡ bin_of count phase }

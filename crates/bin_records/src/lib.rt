@@ -1,0 +1,12 @@
+//! The text of the cells of a pulse's bins: a head, the records in their order, an end. A record is one of a record file, and
+//! has the number of its bin besides. It stands on `vis_records` for what a head says, on `corr_model` for the texts of names,
+//! baselines and cells, on `byteorder` for numbers in bytes, and on `sink_text` for the bytes on their way to a sink. Each call
+//! appends its text, or a first part of it where the sink fails, and takes no memory.
+#![tactic(auto)]
+
+mod head;
+mod numbers;
+mod record;
+
+pub use head::write_bin_head;
+pub use record::{write_bin_end, write_bin_record};

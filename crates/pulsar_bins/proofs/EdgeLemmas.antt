@@ -1,0 +1,174 @@
+-- The edges of a bin, and the samples on one side of an edge.
+use Rattle.std.proofs.Common.{◌≡◌, ℕ, zero, suc, ◌-◌, ◌*◌, ◌/◌, ◌%◌, ◌^◌, ◌≤◌, ◌<◌, ℤ, pos, negsuc, neg_ℤ, ◌+ℤ◌, ◌-ℤ◌, ◌*ℤ◌, ◌≤ℤ◌, ◌<ℤ◌, unsigned_abs, sym, ap, ◌∙◌, arith}
+use Rattle.std.specs.Int.{int_div_euclid, int_rem_euclid}
+use Rattle.std.proofs.Math.Nat.{mul_comm}
+use Rattle.std.proofs.lemmas.Int.{ints, by_lt_z}
+use Rattle.std.proofs.lemmas.Nat.{le-div, mul-le}
+use Rattle.corr_model.specs.Delay.{between, nearest}
+use Rattle.delay_line.specs.Interval.{IsIn, IsIntervalOf}
+use Rattle.delay_line.proofs.Floors.{floor_neg-falls, floor_split, floor_unique, rest_below}
+use Rattle.delay_line.proofs.Intervals.{rising_interval}
+use Rattle.delay_track.proofs.Samples.{product_sum}
+use Rattle.pulsar_bins.specs.Bin.{past_turn, bin_of}
+use Rattle.pulsar_bins.proofs.BinLemmas.{bin_of-below}
+
+-- bins counted through all turns
+abbrev bins_in : ℕ → ℤ → ℤ
+bins_in count x = int_div_euclid (x *ℤ pos count) (pos (2 ^ 32))
+
+neg-product : (a b : ℕ) → neg_ℤ (pos a) *ℤ pos b ≡ neg_ℤ (pos (a * b))
+neg-product zero b = omega (arith, ints)
+neg-product (suc a) b = omega (arith, ints)
+
+swap : (k : ℤ) (count : ℕ) → k *ℤ pos (2 ^ 32) *ℤ pos count ≡ k *ℤ pos count *ℤ pos (2 ^ 32)
+swap (pos a) count = omega (arith, ints)
+swap (negsuc a) count =
+    let same : suc a * 2 ^ 32 * count ≡ suc a * count * 2 ^ 32 = omega arith in
+    ap (λ (z : ℤ). z *ℤ pos count) (neg-product (suc a) (2 ^ 32)) ∙ neg-product (suc a * 2 ^ 32) count
+    ∙ ap (λ (n : ℕ). neg_ℤ (pos n)) same
+    ∙ sym (ap (λ (z : ℤ). z *ℤ pos (2 ^ 32)) (neg-product (suc a) count) ∙ neg-product (suc a * count) (2 ^ 32))
+
+-- the turns that are past, and the bin in this one
+bins_in-turns : (count : ℕ) (x : ℤ) → bins_in count x ≡ int_div_euclid x (pos (2 ^ 32)) *ℤ pos count +ℤ pos (bin_of count x)
+unfolding bin_of
+bins_in-turns count x =
+    let k = int_div_euclid x (pos (2 ^ 32)) in
+    let rest = rest_below x (2 ^ 32) (omega arith) in
+    let past : past_turn x ≡ rest.0 = ap unsigned_abs rest.1 in
+    let split : x ≡ k *ℤ pos (2 ^ 32) +ℤ pos (past_turn x) = floor_split x (2 ^ 32) (omega arith) ∙ ap (λ r. k *ℤ pos (2 ^ 32) +ℤ r) (rest.1 ∙ ap pos (sym past)) in
+    let product = ap (λ (z : ℤ). z *ℤ pos count) split ∙ product_sum (k *ℤ pos (2 ^ 32)) (pos (past_turn x)) count in
+    floor_unique (x *ℤ pos count) (k *ℤ pos count +ℤ pos (count * past_turn x / 2 ^ 32)) (2 ^ 32) (count * past_turn x % 2 ^ 32) (omega arith)
+    (whole (x *ℤ pos count) (k *ℤ pos count) (count * past_turn x) (product ∙ ap (λ (z : ℤ). z +ℤ pos (past_turn x) *ℤ pos count) (swap k count) ∙ ap (λ (n : ℕ). k *ℤ pos count *ℤ pos (2 ^ 32) +ℤ pos n) (mul_comm (past_turn x) count)))
+  where
+    whole : (z q : ℤ) (n : ℕ) → z ≡ q *ℤ pos (2 ^ 32) +ℤ pos n → z ≡ (q +ℤ pos (n / 2 ^ 32)) *ℤ pos (2 ^ 32) +ℤ pos (n % 2 ^ 32)
+    whole z q n e = omega (arith, ints)
+
+-- as many bins through all turns are one bin
+same_bin : (count : ℕ) (x y : ℤ) → 0 < count → bins_in count y ≡ bins_in count x → bin_of count y ≡ bin_of count x
+same_bin count x y some e =
+    let here = bins_in-turns count x in
+    let there = bins_in-turns count y in
+    let k = floor_unique (bins_in count x) (int_div_euclid x (pos (2 ^ 32))) count (bin_of count x) (bin_of-below count x some) here in
+    let j = floor_unique (bins_in count y) (int_div_euclid y (pos (2 ^ 32))) count (bin_of count y) (bin_of-below count y some) there in
+    let turns : int_div_euclid y (pos (2 ^ 32)) ≡ int_div_euclid x (pos (2 ^ 32)) = sym j ∙ ap (λ (z : ℤ). int_div_euclid z (pos count)) e ∙ k in
+    left (bins_in count x) (bins_in count y) (int_div_euclid x (pos (2 ^ 32)) *ℤ pos count) (int_div_euclid y (pos (2 ^ 32)) *ℤ pos count) (bin_of count x) (bin_of count y)
+    here there e (ap (λ (z : ℤ). z *ℤ pos count) turns)
+  where
+    left : (a b p q : ℤ) (m n : ℕ) → a ≡ p +ℤ pos m → b ≡ q +ℤ pos n → b ≡ a → q ≡ p → n ≡ m
+    left a b p q m n one two same turns = omega (arith, ints)
+
+later : (count : ℕ) (x : ℤ) (j : ℕ) → (x +ℤ pos j) *ℤ pos count ≡ x *ℤ pos count +ℤ pos (count * j)
+later count x j = product_sum x (pos j) count ∙ ap (λ (n : ℕ). x *ℤ pos count +ℤ pos n) (mul_comm j count)
+
+earlier : (count : ℕ) (x : ℤ) (j : ℕ) → (x -ℤ pos j) *ℤ pos count ≡ x *ℤ pos count -ℤ pos (count * j)
+earlier count x j =
+    let back : (x -ℤ pos j) +ℤ pos j ≡ x = omega (arith, ints) in
+    less (x *ℤ pos count) ((x -ℤ pos j) *ℤ pos count) (rw back at (later count (x -ℤ pos j) j))
+  where
+    less : (p q : ℤ) → p ≡ q +ℤ pos (count * j) → q ≡ p -ℤ pos (count * j)
+    less p q e = omega (arith, ints)
+
+-- the phases of a bin about one of them that is so far past the bin's edge
+bin_interval : (count : ℕ) (x : ℤ) (r : ℕ) → 0 < count → r < 2 ^ 32 → int_rem_euclid (x *ℤ pos count) (pos (2 ^ 32)) ≡ pos r
+    → IsIntervalOf (bins_in count) x (x -ℤ pos (r / count)) (x +ℤ pos ((2 ^ 32 - 1 - r) / count) +ℤ pos 1)
+bin_interval count x r some small rest = rising_interval (λ y. y *ℤ pos count) x count (2 ^ 32) r small some (later count x) (earlier count x) rest
+
+pub same-before : (count : ℕ) (x first : ℤ) (r : ℕ) → 0 < count → r < 2 ^ 32 → int_rem_euclid (x *ℤ pos count) (pos (2 ^ 32)) ≡ pos r
+    → first ≡ x -ℤ pos (r / count)
+    → (y : ℤ) → first ≤ℤ y → y ≤ℤ x → bin_of count y ≡ bin_of count x
+same-before count x first r some small rest is y begun before =
+    let interval = bin_interval count x r some small rest in
+    let within : IsIn (x -ℤ pos (r / count)) (x +ℤ pos ((2 ^ 32 - 1 - r) / count) +ℤ pos 1) y = record {
+      not_before = omega (arith, ints, is, begun);
+      before_end = omega (arith, ints, before);
+    } in
+    same_bin count x y some (interval.same y within)
+
+pub same-behind : (count : ℕ) (x next : ℤ) (r : ℕ) → 0 < count → r < 2 ^ 32 → int_rem_euclid (x *ℤ pos count) (pos (2 ^ 32)) ≡ pos r
+    → next ≡ x +ℤ pos ((2 ^ 32 - 1 - r) / count) +ℤ pos 1
+    → (y : ℤ) → x ≤ℤ y → y <ℤ next → bin_of count y ≡ bin_of count x
+same-behind count x next r some small rest is y begun before =
+    let interval = bin_interval count x r some small rest in
+    let within : IsIn (x -ℤ pos (r / count)) (x +ℤ pos ((2 ^ 32 - 1 - r) / count) +ℤ pos 1) y = record {
+      not_before = omega (arith, ints, begun);
+      before_end = omega (arith, ints, is, before);
+    } in
+    same_bin count x y some (interval.same y within)
+
+-- a line moved as a whole
+moved-between : (first next by : ℤ) (n k : ℕ) → between (first +ℤ by) (next +ℤ by) n k ≡ between first next n k +ℤ by
+moved-between first next by n k =
+    let rise : (next +ℤ by) -ℤ (first +ℤ by) ≡ next -ℤ first = omega (arith, ints) in
+    rw rise (moves (int_div_euclid ((next -ℤ first) *ℤ pos n) (pos k)))
+  where
+    moves : (part : ℤ) → (first +ℤ by) +ℤ part ≡ (first +ℤ part) +ℤ by
+    moves part = omega (arith, ints)
+
+-- The nearest whole turn steps at an edge that is half a turn past one.
+nearest-before : (edge by x : ℤ) → by ≡ pos (2 ^ 31) -ℤ int_rem_euclid edge (pos (2 ^ 32)) → x <ℤ edge
+    → nearest (x +ℤ by) ≤ℤ int_div_euclid edge (pos (2 ^ 32))
+nearest-before edge by x is before =
+    let rest = rest_below (x +ℤ by +ℤ pos (2 ^ 31)) (2 ^ 32) (omega arith) in
+    low (int_div_euclid edge (pos (2 ^ 32))) (nearest (x +ℤ by)) (int_rem_euclid edge (pos (2 ^ 32))) (int_rem_euclid (x +ℤ by +ℤ pos (2 ^ 31)) (pos (2 ^ 32))) rest.0
+    (floor_split edge (2 ^ 32) (omega arith)) (floor_split (x +ℤ by +ℤ pos (2 ^ 31)) (2 ^ 32) (omega arith)) is rest.1
+  where
+    low : (q p t u : ℤ) (r : ℕ) → edge ≡ q *ℤ pos (2 ^ 32) +ℤ t → x +ℤ by +ℤ pos (2 ^ 31) ≡ p *ℤ pos (2 ^ 32) +ℤ u → by ≡ pos (2 ^ 31) -ℤ t → u ≡ pos r → p ≤ℤ q
+    low q p t u r a b c d = omega (arith, ints, before)
+
+nearest-behind : (edge by x : ℤ) → by ≡ pos (2 ^ 31) -ℤ int_rem_euclid edge (pos (2 ^ 32)) → edge ≤ℤ x
+    → int_div_euclid edge (pos (2 ^ 32)) <ℤ nearest (x +ℤ by)
+nearest-behind edge by x is behind =
+    let rest = rest_below (x +ℤ by +ℤ pos (2 ^ 31)) (2 ^ 32) (omega arith) in
+    high (int_div_euclid edge (pos (2 ^ 32))) (nearest (x +ℤ by)) (int_rem_euclid edge (pos (2 ^ 32))) (int_rem_euclid (x +ℤ by +ℤ pos (2 ^ 31)) (pos (2 ^ 32))) rest.0
+    (floor_split edge (2 ^ 32) (omega arith)) (floor_split (x +ℤ by +ℤ pos (2 ^ 31)) (2 ^ 32) (omega arith)) is rest.1 rest.2
+  where
+    high : (q p t u : ℤ) (r : ℕ) → edge ≡ q *ℤ pos (2 ^ 32) +ℤ t → x +ℤ by +ℤ pos (2 ^ 31) ≡ p *ℤ pos (2 ^ 32) +ℤ u → by ≡ pos (2 ^ 31) -ℤ t → u ≡ pos r → r < 2 ^ 32 → q <ℤ p
+    high q p t u r a b c d e = omega (arith, ints, behind)
+
+-- two phases of one nearest turn are on one side
+apart : (p p' q : ℤ) → p' ≡ p → p ≤ℤ q → q <ℤ p' → ⊥
+apart p p' q same low high = omega (arith, ints)
+
+step-before : (edge by x y : ℤ) → by ≡ pos (2 ^ 31) -ℤ int_rem_euclid edge (pos (2 ^ 32)) → nearest (y +ℤ by) ≡ nearest (x +ℤ by) → x <ℤ edge → y <ℤ edge
+step-before edge by x y is same before =
+    by_lt_z y edge (λ less. less)
+    (λ more. absurd (apart (nearest (x +ℤ by)) (nearest (y +ℤ by)) (int_div_euclid edge (pos (2 ^ 32))) same (nearest-before edge by x is before) (nearest-behind edge by y is more)))
+
+step-behind : (edge by x y : ℤ) → by ≡ pos (2 ^ 31) -ℤ int_rem_euclid edge (pos (2 ^ 32)) → nearest (y +ℤ by) ≡ nearest (x +ℤ by) → edge ≤ℤ x → edge ≤ℤ y
+step-behind edge by x y is same behind =
+    by_lt_z y edge
+    (λ less. absurd (apart (nearest (y +ℤ by)) (nearest (x +ℤ by)) (int_div_euclid edge (pos (2 ^ 32))) (sym same) (nearest-before edge by y is less) (nearest-behind edge by x is behind)))
+    (λ more. more)
+
+pub side-before : (first next edge by : ℤ) (k from n : ℕ) → by ≡ pos (2 ^ 31) -ℤ int_rem_euclid edge (pos (2 ^ 32))
+    → nearest (between (first +ℤ by) (next +ℤ by) n k) ≡ nearest (between (first +ℤ by) (next +ℤ by) from k)
+    → between first next from k <ℤ edge → between first next n k <ℤ edge
+side-before first next edge by k from n is e before =
+    step-before edge by (between first next from k) (between first next n k) is
+    (sym (ap nearest (moved-between first next by n k)) ∙ e ∙ ap nearest (moved-between first next by from k)) before
+
+pub side-behind : (first next edge by : ℤ) (k from n : ℕ) → by ≡ pos (2 ^ 31) -ℤ int_rem_euclid edge (pos (2 ^ 32))
+    → nearest (between (first +ℤ by) (next +ℤ by) n k) ≡ nearest (between (first +ℤ by) (next +ℤ by) from k)
+    → edge ≤ℤ between first next from k → edge ≤ℤ between first next n k
+side-behind first next edge by k from n is e behind =
+    step-behind edge by (between first next from k) (between first next n k) is
+    (sym (ap nearest (moved-between first next by n k)) ∙ e ∙ ap nearest (moved-between first next by from k)) behind
+
+-- a line that does not fall rises, and one that does not rise falls
+pub between-rises : (first next : ℤ) (k m n : ℕ) → 0 < k → first ≤ℤ next → m ≤ n → between first next m k ≤ℤ between first next n k
+between-rises first next k m n some up order = goes (unsigned_abs (next -ℤ first)) (omega (arith, ints))
+  where
+    goes : (rise : ℕ) → next -ℤ first ≡ pos rise → between first next m k ≤ℤ between first next n k
+    goes rise e =
+        let more : rise * m ≤ rise * n = mul-le rise m rise n (omega arith) order in
+        let high = le-div (rise * m / k) (rise * n) k some (omega arith) in
+        rw e (omega (arith, ints, high))
+
+pub between-falls : (first next : ℤ) (k m n : ℕ) → 0 < k → next ≤ℤ first → m ≤ n → between first next n k ≤ℤ between first next m k
+between-falls first next k m n some down order = goes (unsigned_abs (next -ℤ first)) (omega (arith, ints))
+  where
+    goes : (fall : ℕ) → next -ℤ first ≡ neg_ℤ (pos fall) → between first next n k ≤ℤ between first next m k
+    goes fall e =
+        let more : fall * m ≤ fall * n = mul-le fall m fall n (omega arith) order in
+        let low = floor_neg-falls (fall * m) (fall * n) k some more in
+        rw (e, neg-product fall m, neg-product fall n) (omega (arith, ints, low))

@@ -1,7 +1,7 @@
 //! Recordings that are a good one broken.
 
-use crate::sizes::with_sizes;
-use anyhow::{Result, bail};
+use crate::sizes::index_of;
+use anyhow::Result;
 use broken_texts::Reader;
 use frame_index::Index;
 use mem_devices::MemShelf;
@@ -22,11 +22,7 @@ impl Reader for BrokenRecording<'_> {
         let names = vec![in alloc; String::from_str(alloc, "a")?]?;
         let files = vec![in alloc; (String::from_str(alloc, "a")?, text.to_vec(alloc)?)]?;
         let mut shelf = MemShelf::new(files, Vec::new(alloc));
-        let files = with_sizes(alloc, &mut shelf, &names)?;
-        if files.len() != 1 {
-            bail!("another number of files");
-        }
-        match Index::build(alloc, &mut shelf, &files, &self.shape) {
+        match index_of(alloc, &mut shelf, &names, &self.shape)? {
             Ok(index) => self.found(alloc, &index, text),
             Err(fault) => Ok(format!(in alloc; "{fault}")?),
         }

@@ -3,7 +3,7 @@ use crate::broken::BrokenRecording;
 use crate::bytes::{FrameLine, append_hex};
 use crate::shapes::shape_of;
 use crate::short::ShortShelf;
-use crate::sizes::with_sizes;
+use crate::sizes::index_of;
 use anyhow::{Context, Result, bail};
 use broken_texts::print_broken;
 use dev_traits::Shelf;
@@ -130,20 +130,17 @@ impl Cases {
         for name in words {
             names.push(String::from_str(self.alloc, name)?)?;
         }
-        let files = with_sizes(self.alloc, shelf, &names)?;
         self.index = None;
-        if files.len() < 100 {
-            match Index::build(self.alloc, shelf, &files, &shape) {
-                Ok(index) => {
-                    let c = index.counts();
-                    println!(rt;
-                        "{word} {rest}: slots {} doubled {} invalid {} foreign {} late {}",
-                        c.slots, c.doubled, c.invalid, c.foreign, c.late
-                    )?;
-                    self.index = Some(index);
-                }
-                Err(fault) => println!(rt; "{word} {rest}: {fault}")?,
+        match index_of(self.alloc, shelf, &names, &shape)? {
+            Ok(index) => {
+                let c = index.counts();
+                println!(rt;
+                    "{word} {rest}: slots {} doubled {} invalid {} foreign {} late {}",
+                    c.slots, c.doubled, c.invalid, c.foreign, c.late
+                )?;
+                self.index = Some(index);
             }
+            Err(fault) => println!(rt; "{word} {rest}: {fault}")?,
         }
         Ok(())
     }

@@ -45,7 +45,7 @@ impl Shelf for ShortShelf {
 
     fn read_at(&mut self, name: &str, at: u64, buf: &mut [u8]) -> Result<usize, Failed> {
         let bytes = self.bytes(name);
-        let given = &bytes[..self.given(name, bytes.len())];
+        let given = bytes.get(..self.given(name, bytes.len())).unwrap_or(bytes);
         let left = given.get(at as usize..).unwrap_or(&[]);
         let n = left.len().min(buf.len()).min(self.most);
         buf[..n].copy_from_slice(&left[..n]);

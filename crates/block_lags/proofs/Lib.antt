@@ -1,5 +1,8 @@
 pub mod Sums
+pub mod IntFactors
+pub mod Units
 pub mod Products
+pub mod Levels
 pub mod PairCounts
 pub mod Blocks
 pub mod Bounds

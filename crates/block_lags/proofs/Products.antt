@@ -1,13 +1,13 @@
 -- The products of two rows of values, by sums of products of their components.
-use Rattle.std.proofs.Common.{◌≡◌, ℕ, ◌+◌, ◌*◌, ◌<◌, ◌≤◌, ℤ, pos, ◌+ℤ◌, ◌-ℤ◌, ◌*ℤ◌, negsuc, neg_ℤ, Some, None, refl, sym, subst, ap, ap₂, ◌∙◌, arith}
-use Rattle.std.proofs.Math.IntN.{*ℤ-zero, zero-*ℤ, *ℤ_comm}
+use Rattle.std.proofs.Common.{◌≡◌, ℕ, ◌+◌, ◌*◌, ◌<◌, ℤ, pos, ◌+ℤ◌, ◌-ℤ◌, ◌*ℤ◌, negsuc, Some, None, refl, subst, ◌∙◌, arith}
+use Rattle.std.proofs.Math.IntN.{*ℤ-zero, zero-*ℤ}
 use Rattle.std.proofs.lemmas.Int.{ints}
-use Rattle.corr_model.specs.declared.cell.Cell.{Cell}
-use Rattle.corr_model.specs.Cell.{Value, product_of, sum_from}
+use Rattle.corr_model.specs.Cell.{Value, product_of}
 use Rattle.byte_lags.specs.declared.cell.LagCell.{LagCell}
 use Rattle.byte_lags.specs.declared.product.Weights.{Weights}
-use Rattle.byte_lags.specs.Streams.{int_sum, product_sum, IsAdded}
-use Rattle.byte_lags.proofs.IntProducts.{int_mul-add, int_add-mul}
+use Rattle.byte_lags.specs.Streams.{int_sum, IsAdded}
+use Rattle.byte_lags.proofs.IntProducts.{int_add-mul}
+use Rattle.block_lags.proofs.IntFactors.{int_mul-sub, int_sub-mul}
 use Rattle.byte_streams.specs.Values.{re_of, im_of, there_of}
 use Rattle.block_lags.specs.Cells.{pair_at, lag_cell, HasProducts}
 use Rattle.block_lags.proofs.Sums.{int_sum-plus, int_sum-times, sum-re, sum-im}
@@ -27,16 +27,6 @@ product-count (Some a) (Some b) = refl
 product-count (Some a) None = refl
 product-count None (Some b) = refl
 product-count None None = refl
-
-int_mul-sub : (a b c : ℤ) → a *ℤ (b -ℤ c) ≡ a *ℤ b -ℤ a *ℤ c
-int_mul-sub a b c =
-    let back : b -ℤ c +ℤ c ≡ b = omega (arith, ints) in
-    let whole = int_mul-add a (b -ℤ c) c in
-    let same = ap (λ (x : ℤ). a *ℤ x) back in
-    omega (arith, ints, whole, same)
-
-int_sub-mul : (a b c : ℤ) → (a -ℤ b) *ℤ c ≡ a *ℤ c -ℤ b *ℤ c
-int_sub-mul a b c = *ℤ_comm (a -ℤ b) c ∙ int_mul-sub c a b ∙ ap₂ (λ (x y : ℤ). x -ℤ y) (*ℤ_comm c a) (*ℤ_comm c b)
 
 -- Gauss: a product of complex numbers by three products of real ones
 gauss-re : (a b c d : ℤ) → a *ℤ (c -ℤ d) +ℤ (a +ℤ b) *ℤ d ≡ a *ℤ c +ℤ b *ℤ d
@@ -62,18 +52,58 @@ same-length f x y lag m n old new e h = subst (λ (k : ℕ). IsAdded f x y lag k
 -- what three products add to a cell, where their terms are the pairs'
 pub added-three : (v w : ℕ → Value) (lag n : ℕ) (f g h : Weights) (x y z t u s : ℕ → ℤ) (old a b c : LagCell)
     → IsAdded f x y lag n old a → IsAdded g z t lag n a b → IsAdded h u s lag n b c
-    → ((k : ℕ) → f.re *ℤ (x k *ℤ y (lag + k)) +ℤ g.re *ℤ (z k *ℤ t (lag + k)) +ℤ h.re *ℤ (u k *ℤ s (lag + k)) ≡ (pair_at v w lag k).re)
-    → ((k : ℕ) → f.im *ℤ (x k *ℤ y (lag + k)) +ℤ g.im *ℤ (z k *ℤ t (lag + k)) +ℤ h.im *ℤ (u k *ℤ s (lag + k)) ≡ (pair_at v w lag k).im)
+    → ((k : ℕ) → k < n → f.re *ℤ (x k *ℤ y (lag + k)) +ℤ g.re *ℤ (z k *ℤ t (lag + k)) +ℤ h.re *ℤ (u k *ℤ s (lag + k)) ≡ (pair_at v w lag k).re)
+    → ((k : ℕ) → k < n → f.im *ℤ (x k *ℤ y (lag + k)) +ℤ g.im *ℤ (z k *ℤ t (lag + k)) +ℤ h.im *ℤ (u k *ℤ s (lag + k)) ≡ (pair_at v w lag k).im)
     → HasProducts (lag_cell v w lag n) old c
 unfolding lag_cell
 added-three v w lag n f g h x y z t u s old a b c one two three re im =
     record {
       re = added old.re a.re b.re c.re _ _ _ _ one.re two.re three.re
-          (three-sums f.re g.re h.re _ _ _ n ∙ sum-re (pair_at v w lag) _ n (λ k _. re k));
+          (three-sums f.re g.re h.re _ _ _ n ∙ sum-re (pair_at v w lag) _ n re);
       im = added old.im a.im b.im c.im _ _ _ _ one.im two.im three.im
-          (three-sums f.im g.im h.im _ _ _ n ∙ sum-im (pair_at v w lag) _ n (λ k _. im k));
+          (three-sums f.im g.im h.im _ _ _ n ∙ sum-im (pair_at v w lag) _ n im);
       count = three.count ∙ two.count ∙ one.count;
     }
+
+-- the same of two products, and of one
+no_weights : Weights
+no_weights = record { re = pos 0; im = pos 0 }
+
+added-none : (x y : ℕ → ℤ) (lag n : ℕ) (cell : LagCell) → IsAdded no_weights x y lag n cell cell
+unfolding no_weights
+added-none x y lag n cell = record {
+  re = omega (arith, ints);
+  im = omega (arith, ints);
+  count = refl;
+}
+
+and_none : (p q s r : ℤ) → p +ℤ q ≡ s → p +ℤ q +ℤ pos 0 *ℤ r ≡ s
+and_none p q s r e = omega (arith, ints, e)
+
+pub added-two : (v w : ℕ → Value) (lag n : ℕ) (f g : Weights) (x y z t : ℕ → ℤ) (old a b : LagCell)
+    → IsAdded f x y lag n old a → IsAdded g z t lag n a b
+    → ((k : ℕ) → k < n → f.re *ℤ (x k *ℤ y (lag + k)) +ℤ g.re *ℤ (z k *ℤ t (lag + k)) ≡ (pair_at v w lag k).re)
+    → ((k : ℕ) → k < n → f.im *ℤ (x k *ℤ y (lag + k)) +ℤ g.im *ℤ (z k *ℤ t (lag + k)) ≡ (pair_at v w lag k).im)
+    → HasProducts (lag_cell v w lag n) old b
+unfolding no_weights
+added-two v w lag n f g x y z t old a b one two re im =
+    added-three v w lag n f g no_weights x y z t x y old a b b one two (added-none x y lag n b)
+    (λ k lt. and_none (f.re *ℤ (x k *ℤ y (lag + k))) (g.re *ℤ (z k *ℤ t (lag + k))) (pair_at v w lag k).re (x k *ℤ y (lag + k)) (re k lt))
+    (λ k lt. and_none (f.im *ℤ (x k *ℤ y (lag + k))) (g.im *ℤ (z k *ℤ t (lag + k))) (pair_at v w lag k).im (x k *ℤ y (lag + k)) (im k lt))
+
+just_one : (p s r : ℤ) → p ≡ s → p +ℤ pos 0 *ℤ r ≡ s
+just_one p s r e = omega (arith, ints, e)
+
+pub added-one : (v w : ℕ → Value) (lag n : ℕ) (f : Weights) (x y : ℕ → ℤ) (old a : LagCell)
+    → IsAdded f x y lag n old a
+    → ((k : ℕ) → k < n → f.re *ℤ (x k *ℤ y (lag + k)) ≡ (pair_at v w lag k).re)
+    → ((k : ℕ) → k < n → f.im *ℤ (x k *ℤ y (lag + k)) ≡ (pair_at v w lag k).im)
+    → HasProducts (lag_cell v w lag n) old a
+unfolding no_weights
+added-one v w lag n f x y old a one re im =
+    added-two v w lag n f no_weights x y x y old a a one (added-none x y lag n a)
+    (λ k lt. just_one (f.re *ℤ (x k *ℤ y (lag + k))) (pair_at v w lag k).re (x k *ℤ y (lag + k)) (re k lt))
+    (λ k lt. just_one (f.im *ℤ (x k *ℤ y (lag + k))) (pair_at v w lag k).im (x k *ℤ y (lag + k)) (im k lt))
 
 -- the terms of Gauss' three products
 pub turning-re : (v w : Value)

@@ -1,9 +1,9 @@
 -- Sums of numbers, and parts of sums of cells.
-use Rattle.std.proofs.Common.{◌≡◌, ℕ, zero, suc, ◌+◌, ◌*◌, ◌<◌, ◌≤◌, ℤ, pos, ◌+ℤ◌, ◌-ℤ◌, ◌*ℤ◌, refl, sym, ap, ap₂, ◌∙◌, arith, zero-add}
+use Rattle.std.proofs.Common.{◌≡◌, ℕ, zero, suc, ◌+◌, ◌<◌, ℤ, ◌+ℤ◌, ◌*ℤ◌, refl, ap, ◌∙◌, arith, zero-add}
 use Rattle.std.proofs.Math.IntN.{*ℤ-zero}
 use Rattle.std.proofs.lemmas.Int.{ints}
 use Rattle.corr_model.specs.declared.cell.Cell.{Cell}
-use Rattle.corr_model.specs.Cell.{no_cell, cell_plus, sum_from}
+use Rattle.corr_model.specs.Cell.{sum_from}
 use Rattle.byte_sums.specs.Sums.{nat_sum}
 use Rattle.byte_lags.specs.Streams.{int_sum}
 use Rattle.byte_lags.proofs.IntProducts.{int_mul-add}

@@ -1,5 +1,5 @@
 -- The cell of two rows of values at a lag (Thompson, Moran and Swenson, chapter 8).
-use Rattle.std.specs.Prelude.{◌≡◌, ℕ, ◌+◌, ℤ, ◌+ℤ◌}
+use Rattle.std.specs.Prelude.{◌≡◌, ℕ, ◌+◌, ◌+ℤ◌}
 use Rattle.corr_model.specs.declared.cell.Cell.{Cell}
 use Rattle.corr_model.specs.Cell.{Value, product_of, sum_from}
 use Rattle.byte_lags.specs.declared.cell.LagCell.{LagCell}

@@ -8,7 +8,8 @@ ghost use Rattle.block_lags.specs.Cells.{IsGrown, lag_cell};
 ghost use Rattle.block_lags.specs.Scans.{AreRows};
 
 use crate::counts::add_counts;
-use crate::turning::{BLOCK, add_turning};
+use crate::pairs::add_pairs;
+use crate::turning::BLOCK;
 use byte_lags::LagCell;
 use byte_streams::Streams;
 
@@ -32,7 +33,7 @@ fn add_block(
         → IsGrown (lag_cell (value_in first.now) (value_in second.now) i (length first.now.there.now)) (slice_index_or cells.old i no_cell) (slice_index_or cells.new i no_cell) }
     ensures within { (most : ℕ) → AreWithin most cells.old → AreWithin (most + 2 ^ 36) cells.new }
 {
-    add_turning(
+    add_pairs(
         first,
         second,
         &mut numbers[..second.there.len()],

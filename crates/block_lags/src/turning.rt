@@ -10,25 +10,18 @@ use byte_streams::{Streams, component_differences, component_sums};
 /// The samples of a block.
 pub(crate) const BLOCK: usize = 4096;
 
-// What a sum of two components is at most, of either.
-#[inline(always)]
-fn greatest(first: u8, second: u8) -> u8
-    requires { (first ≤ 15) × (second ≤ 15) }
-    ensures small { result ≤ 60 }
-    ensures first { 4 * first ≤ result }
-    ensures second { 4 * second ≤ result }
-{
-    4 * first.max(second)
-}
-
 /// Adds to each cell the products of the values of a block and those of the second row, as many places on as the cell's number.
 pub(crate) fn add_turning(
     first: &Streams,
     second: &Streams,
+    greatest: u8,
     numbers: &mut [u8],
     sums: &mut [u32],
     cells: &mut [LagCell],
 )
+    requires greatest { greatest ≤ 60 }
+    requires first { 4 * first.now.bias ≤ greatest }
+    requires second { 4 * second.now.bias ≤ greatest }
     requires size { length first.now.there.now ≤ BLOCK }
     requires room { length first.now.there.now + length cells.old ≤ length second.now.there.now }
     requires numbers { length numbers.old ≡ length second.now.there.now }
@@ -41,7 +34,6 @@ pub(crate) fn add_turning(
         → HasProducts (lag_cell (value_in first.now) (value_in second.now) i (length first.now.there.now)) (slice_index_or cells.old i no_cell) (slice_index_or cells.new i no_cell) }
     ensures within { (most : ℕ) → AreWithin most cells.old → AreWithin (most + 3 * 2 ^ 34) cells.new }
 {
-    let greatest = greatest(first.bias, second.bias);
     let mut space = [0; BLOCK];
     let mine = &mut space[..first.there.len()];
     component_differences(second, numbers);

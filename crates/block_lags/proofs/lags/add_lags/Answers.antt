@@ -1,4 +1,4 @@
-use Rattle.std.proofs.Common.{◌≡◌, ◌+◌, ◌*◌, ◌^◌, ◌<◌, ◌≤◌, ℕ, refl, subst, ◌∙◌, min, length, arith, slice_index_or}
+use Rattle.std.proofs.Common.{◌≡◌, ◌+◌, ◌*◌, ◌^◌, ◌<◌, ℕ, refl, subst, ◌∙◌, min, length, arith, slice_index_or}
 use Rattle.std.proofs.lemmas.Grind.{div_ceil_times}
 use Rattle.corr_model.specs.declared.cell.Cell.{Cell}
 use Rattle.byte_lags.specs.Streams.{no_cell}

@@ -1,5 +1,5 @@
 -- The cells have the pairs of the blocks so far.
-use Rattle.std.proofs.Common.{◌≡◌, ◌<◌, ◌≤◌, ◌+◌, ◌*◌, ◌^◌, ℕ, min, length, slice_index_or}
+use Rattle.std.proofs.Common.{◌≡◌, ◌<◌, ◌+◌, ◌*◌, ◌^◌, ℕ, min, length, slice_index_or}
 use Rattle.byte_lags.specs.Streams.{AreWithin, no_cell}
 use Rattle.byte_streams.specs.Streams.{value_in}
 use Rattle.block_lags.specs.Cells.{IsGrown, lag_cell}

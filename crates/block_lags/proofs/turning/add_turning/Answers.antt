@@ -1,4 +1,4 @@
-use Rattle.std.proofs.Common.{◌+◌, ◌*◌, ◌^◌, ◌<◌, ◌+ℤ◌, ◌-ℤ◌, length, arith}
+use Rattle.std.proofs.Common.{◌+◌, ◌*◌, ◌^◌, ◌+ℤ◌, ◌-ℤ◌, length, arith}
 use Rattle.byte_streams.specs.Values.{re_of, im_of}
 use Rattle.byte_streams.specs.Streams.{value_in}
 use Rattle.block_lags.proofs.Bounds.{within-more}
@@ -31,7 +31,7 @@ returns-clause-products c = λ i lt.
     (same-length _ _ _ i _ n _ _ c.reals.ensures.len one)
     (same-length _ _ _ i _ n _ _ c.component_differences-2.ensures.len two)
     (same-length _ _ _ i _ n _ _ c.component_sums.ensures.len three)
-    (λ k. turning-re (v k) (w (i + k))) (λ k. turning-im (v k) (w (i + k)))
+    (λ k _. turning-re (v k) (w (i + k))) (λ k _. turning-im (v k) (w (i + k)))
 
 pub returns-clause-within : goal.returns-clause-within
 returns-clause-within c = λ most h.

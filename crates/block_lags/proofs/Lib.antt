@@ -1,0 +1,9 @@
+pub mod Sums
+pub mod IntFactors
+pub mod Units
+pub mod Products
+pub mod Levels
+pub mod PairCounts
+pub mod Blocks
+pub mod Bounds
+pub mod ScanCells

@@ -1,0 +1,15 @@
+-- The cells so far have their pairs, and the others are as they were.
+use Rattle.std.proofs.Common.{◌≡◌, ◌<◌, ◌≤◌, ◌+◌, ◌^◌, ℕ, length, slice_index_or}
+use Rattle.byte_sums.specs.Sums.{lag_sum}
+use Rattle.byte_lags.specs.Streams.{AreWithin, no_cell}
+use Rattle.block_lags.specs.Counts.{IsCounted}
+use Rattle.block_lags.proofs.counts.add_counts.Given as goal
+
+abbrev pub invariant-loop-i : goal.invariant-loop-i
+invariant-loop-i l = record {
+  len : length l.cells ≡ length l.fn.cells;
+  counted : (i : ℕ) → i < l.i
+      → IsCounted (lag_sum l.first l.second i (length l.first)) (slice_index_or l.fn.cells i no_cell) (slice_index_or l.cells i no_cell);
+  rest : (i : ℕ) → l.i ≤ i → slice_index_or l.cells i no_cell ≡ slice_index_or l.fn.cells i no_cell;
+  within : (most : ℕ) → AreWithin most l.fn.cells → AreWithin (most + 2 ^ 34) l.cells;
+}

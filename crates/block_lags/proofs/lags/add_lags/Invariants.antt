@@ -1,0 +1,16 @@
+-- The cells have the pairs of the blocks so far.
+use Rattle.std.proofs.Common.{◌≡◌, ◌<◌, ◌+◌, ◌*◌, ◌^◌, ℕ, min, length, slice_index_or}
+use Rattle.byte_lags.specs.Streams.{AreWithin, no_cell}
+use Rattle.byte_streams.specs.Streams.{value_in}
+use Rattle.block_lags.specs.Cells.{IsGrown, lag_cell}
+use Rattle.block_lags.proofs.lags.add_lags.Given as goal
+
+abbrev pub invariant-loop-q : goal.invariant-loop-q
+invariant-loop-q l = record {
+  len : length l.cells ≡ length l.fn.cells;
+  work : length l.sums ≡ length l.fn.sums;
+  numbers : length l.numbers ≡ length l.fn.numbers;
+  grown : (i : ℕ) → i < length l.fn.cells
+      → IsGrown (lag_cell (value_in l.first) (value_in l.second) i (min (4096 * l.q) (length l.first.there.now))) (slice_index_or l.fn.cells i no_cell) (slice_index_or l.cells i no_cell);
+  within : AreWithin (2 ^ 62 + 2 ^ 36 * l.q) l.cells;
+}

@@ -1,0 +1,4 @@
+pub mod Cells
+pub mod Counts
+pub mod Scans
+pub mod Sides

@@ -7,6 +7,7 @@ import subprocess
 from collections.abc import Iterator
 from pathlib import Path
 
+import broken_texts
 import numpy
 import program
 import pytest
@@ -44,6 +45,24 @@ def shown(file: bytes) -> list[str]:
         return ["dump:", lines.hex()]
 
 
+def escaped(line: bytes) -> str:
+    """A line as the table writes one that may be no text."""
+    signs = {9: "\\t", 10: "\\n", 13: "\\r", 34: '\\"', 39: "\\'", 92: "\\\\"}
+    return "".join(signs.get(byte) or (chr(byte) if 32 <= byte < 127 else f"\\x{byte:02x}") for byte in line)
+
+
+def beside(good: bytes, file: bytes) -> str:
+    """What the table prints of a good file that is broken: where it cannot be read, or the lines that are others."""
+    try:
+        lines = b"".join(records.text(records.from_bytes(file))).split(b"\n")
+    except records.RecordFault as fault:
+        return f"{fault.kind} at {'the end' if fault.at == len(file) else f'byte {fault.at}'}"
+    there = b"".join(records.text(records.from_bytes(good))).split(b"\n")
+    others = " and ".join(escaped(line) for place, line in enumerate(lines) if there[place : place + 1] != [line])
+    told = f"with {others}" if others else ""
+    return told + (" and no more" if len(there) > len(lines) else "") or "the same"
+
+
 def answers(lines: list[str]) -> Iterator[str]:
     """What the table of record files prints for its lines, which the head of its file `stdin` explains."""
     text = b""
@@ -57,8 +76,11 @@ def answers(lines: list[str]) -> Iterator[str]:
             yield f"{line}: {answer(text)}"
         elif word == "dump":
             yield from shown(text)
-        elif word == "fronts":
-            yield from (f"{size} bytes: {answer(text[:size])}" for size in range(len(text)))
+        elif word == "broken":
+            name, good = rest.split()[0], bytes.fromhex(rest.split()[1])
+            yield f"broken {name}, {len(good)} bytes"
+            ways = [*broken_texts.fronts(good), ("prefix", len(good), good), *broken_texts.changed(good)]
+            yield from broken_texts.runs((words, place, beside(good, file)) for words, place, file in ways)
         elif word == "byte":
             place, byte = rest.split()
             yield f"{line}: {answer(text[:int(place)] + bytes.fromhex(byte) + text[int(place) + 1:])}"

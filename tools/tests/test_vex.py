@@ -1,11 +1,13 @@
 """`vlbi.vex` against what the proved program reads, on every text of its cases, and the blocks that the program does not read."""
 from __future__ import annotations
 
+import itertools
 import math
 import re
 from collections.abc import Iterator
 from pathlib import Path
 
+import broken_texts
 import pytest
 
 from vlbi import vex
@@ -104,15 +106,54 @@ def answer(word: str, text: bytes, mark: int | None) -> str:
         schedule = vex.from_bytes(text)
         return {"read": told_file, "places": told_places}[word](schedule.blocks) if word != "schedule" else told_schedule(schedule)
     except vex.VexFault as fault:
-        kind = f"Lex({fault.kind})" if word == "read" and fault.kind in ("OpenQuote", "OpenLiteral", "BadByte") else fault.kind
+        kind = f"Lex({fault.kind})" if word in ("read", "schedule") and fault.kind in ("OpenQuote", "OpenLiteral", "BadByte") else fault.kind
         return f"{kind} at {'@' if fault.at == mark else f'byte {fault.at}'}"
 
 
+def difference(whole: str, told: str) -> str:
+    """An answer to a broken text, by the words in which it differs from that to the whole text."""
+    old, new = whole.split(" "), told.split(" ")
+    if old == new:
+        return "the same"
+
+    def alike(one: list[str], other: list[str]) -> int:
+        return len(list(itertools.takewhile(lambda pair: pair[0] == pair[1], zip(one, other))))
+
+    front = alike(old, new)
+    back = min(alike(old[::-1], new[::-1]), min(len(old), len(new)) - front)
+    if front + back == 0:
+        return told
+    end = len(old) - back
+    return f"without {front}..{end}" if front + back == len(new) else f"{front}..{end} is {' '.join(new[front : len(new) - back])}"
+
+
+def broken(word: str, text: bytes) -> Iterator[str]:
+    """What the table prints for a text, and below it for the text broken."""
+    whole = answer(word, text, None)
+    yield whole
+    ways = itertools.chain(broken_texts.fronts(text), broken_texts.changed(text))
+    for line in broken_texts.runs((words, place, difference(whole, answer(word, file, place))) for words, place, file in ways):
+        yield f"  {line}"
+
+
+def lines_of(line: str, word: str, text: bytes, mark: int | None, pieces: Pieces) -> Iterator[str]:
+    """What the table prints for a case."""
+    if word != "broken":
+        yield f"{line}: {answer(word, text, mark)}"
+        return
+    asked, _, rest = line.removeprefix("broken ").partition(" ")
+    first, *more = broken(asked, pieces.text(rest)[0])
+    yield f"{line}: {first}"
+    yield from more
+
+
 def test_every_text_of_the_cases() -> None:
-    cases = list(Pieces().cases((CASES / "stdin").read_text().splitlines()))
+    pieces = Pieces()
     told = (CASES / "stdout").read_text().splitlines()
-    assert len(cases) == len(told) > 300
-    assert [f"{line}: {answer(word, text, mark)}" for line, word, text, mark in cases] == told
+    cases = pieces.cases((CASES / "stdin").read_text().splitlines())
+    answers = [one for case in cases for one in lines_of(*case, pieces)]
+    assert len(told) > 1000
+    assert answers == told
 
 
 SKY = b"""VEX_rev = 1.5;

@@ -21,3 +21,4 @@ pub mod Certified
 pub mod Named
 pub mod Putting
 pub mod Checking
+pub mod Gathered

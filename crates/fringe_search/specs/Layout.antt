@@ -1,5 +1,5 @@
 -- Which cells of a record file belong to a scan, a product and a baseline.
-use Rattle.std.specs.Prelude.{ℕ, ◌+◌, ◌*◌, ◌^◌, ◌<◌, ◌≤◌, List, [], length, take, drop, map, flat_map, sum_by, slice_index_or, pos}
+use Rattle.std.specs.Prelude.{◌≡◌, ℕ, ◌+◌, ◌*◌, ◌^◌, ◌<◌, ◌≤◌, List, [], length, take, drop, map, flat_map, sum_by, slice_index_or, pos}
 use Rattle.std.specs.Int.{div_ceil}
 use Rattle.std.specs.List.{range_with_len}
 use Rattle.corr_model.specs.declared.cell.Cell.{Cell}
@@ -66,6 +66,12 @@ pub record IsWithin (s : Series) : Type 0 where
   pub lags : s.lags ≤ 1024
   pub integrations : s.integrations ≤ 2 ^ 40
   pub cells : (m : ℕ) → m < s.integrations → s.first + m * s.stride + s.lags ≤ length s.cells
+
+-- the cells of a lag of one series are those of a lag of another
+pub record IsLagOf (s : Series) (lag : ℕ) (t : Series) (number : ℕ) : Type 0 where
+  pub within : number < t.lags
+  pub integrations : t.integrations ≡ s.integrations
+  pub cells : (m : ℕ) → m < s.integrations → cell_at t m number ≡ cell_at s m lag
 
 -- all scans, products and baselines of a head, in this order
 abbrev pub product_series : Head → ℕ → ℕ → List SeriesAt

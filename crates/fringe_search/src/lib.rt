@@ -5,7 +5,7 @@
 //! A rate turns the cells of a lag back by sixteenths of a turn, integration by integration, before they are added
 //! (`specs/Sums.antt`); the peak is the point of greatest power, among equals that at the least lag, then at the least
 //! rate (`specs/Peaks.antt`). A right certificate names the peaks (`specs/Certificates.antt`, `laws`). Which cells these are,
-//! `specs/Layout.antt` says and a law ties to the records. No call takes memory.
+//! `specs/Layout.antt` says and a law ties to the records. No call takes memory; the cells of a lag are gathered in a room of fixed size.
 #![tactic(auto)]
 
 mod check;

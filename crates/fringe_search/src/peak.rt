@@ -1,7 +1,7 @@
 //! The search for the peak.
-ghost use Rattle.std.specs.Prelude.{◌≡◌, ◌+◌, ◌*◌, ◌<◌, ◌≤◌, ◌-ℤ◌, pos};
+ghost use Rattle.std.specs.Prelude.{◌≡◌, ◌+◌, ◌*◌, ◌<◌, ◌≤◌, ◌-ℤ◌, pos, length};
 ghost use Rattle.corr_model.specs.Lags.{lag_of};
-ghost use Rattle.fringe_search.specs.Layout.{IsSeriesAt, series_of};
+ghost use Rattle.fringe_search.specs.Layout.{IsSeriesAt, IsLagOf, series_of};
 ghost use Rattle.fringe_search.specs.Peaks.{IsRate, IsPeak, IsSmall, AreSmall};
 ghost use Rattle.fringe_search.specs.Best.{IsPoint, IsBest};
 
@@ -9,6 +9,7 @@ use crate::grid::{Grid, Peak};
 use crate::places::SeriesAt;
 use crate::series::CellSeries;
 use crate::sums::{Sum, bound_of, power, sum_at};
+use corr_model::Cell;
 use vis_records::Vis;
 
 // A lag, by its number, and a rate, with the sum and its power.
@@ -39,6 +40,20 @@ pub(crate) fn lag_at(lags: u32, number: u32) -> i32
     number as i32 - (lags / 2) as i32
 }
 
+// How many integrations of a lag are gathered.
+const GATHERED: usize = 4096;
+
+// The cells of a lag, side by side, where there are few.
+pub(crate) fn room() -> [Cell; GATHERED]
+    ensures { length result ≡ 4096 }
+{
+    [Cell {
+        re: 0,
+        im: 0,
+        count: 0,
+    }; GATHERED]
+}
+
 pub(crate) fn point_at(series: &CellSeries, grid: &Grid, lag: u32, rate: i32) -> Point
     requires lag { lag < series.now.lags }
     requires rate { IsRate grid.now.rates rate }
@@ -47,7 +62,27 @@ pub(crate) fn point_at(series: &CellSeries, grid: &Grid, lag: u32, rate: i32) ->
     ensures lag { result.lag ≡ lag }
     ensures rate { result.rate ≡ rate }
 {
-    let sum = sum_at(series, grid, lag, rate);
+    point_from(series, &series.again(), lag, grid, lag, rate)
+}
+
+// The same, from the cells of the lag in another series.
+pub(crate) fn point_from(
+    series: &CellSeries,
+    cells: &CellSeries,
+    number: u32,
+    grid: &Grid,
+    lag: u32,
+    rate: i32,
+) -> Point
+    requires lag { lag < series.now.lags }
+    requires cells { IsLagOf series.now lag cells.now number }
+    requires rate { IsRate grid.now.rates rate }
+    requires small { IsSmall series.now }
+    ensures point { IsPoint series.now grid.now result }
+    ensures lag { result.lag ≡ lag }
+    ensures rate { result.rate ≡ rate }
+{
+    let sum = sum_at(cells, grid, number, rate);
     Point {
         lag,
         rate,
@@ -64,16 +99,43 @@ fn better(best: Point, next: Point) -> Point
     if best.power < next.power { next } else { best }
 }
 
-// The best point so far after all rates of a lag.
+// The best point so far after all rates of a lag. Its cells are gathered first, so that the sum of each rate walks through them
+// side by side, where there is room for them.
 fn best_of_lag(series: &CellSeries, grid: &Grid, lag: u32, best: Point) -> Point
     requires lag { lag < series.now.lags }
     requires small { IsSmall series.now }
     requires best { IsBest series.now grid.now lag 0 best }
     ensures best { IsBest series.now grid.now (lag + 1) 0 result }
 {
+    let mut cells = room();
+    let integrations = series.integrations();
+    if integrations > cells.len() as u64 {
+        return best_from(series, &series.again(), lag, grid, lag, best);
+    }
+    series.gather(lag, &mut cells);
+    let gathered = CellSeries::of_lag(&cells, integrations);
+    best_from(series, &gathered, 0, grid, lag, best)
+}
+
+// The same, from the cells of the lag in another series.
+fn best_from(
+    series: &CellSeries,
+    cells: &CellSeries,
+    number: u32,
+    grid: &Grid,
+    lag: u32,
+    best: Point,
+) -> Point
+    requires lag { lag < series.now.lags }
+    requires cells { IsLagOf series.now lag cells.now number }
+    requires small { IsSmall series.now }
+    requires best { IsBest series.now grid.now lag 0 best }
+    ensures best { IsBest series.now grid.now (lag + 1) 0 result }
+{
     let mut best = best;
     for n in 0..2 * grid.rates + 1 {
-        best = better(best, point_at(series, grid, lag, rate_at(grid.rates, n)));
+        let rate = rate_at(grid.rates, n);
+        best = better(best, point_from(series, cells, number, grid, lag, rate));
     }
     best
 }

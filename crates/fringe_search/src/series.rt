@@ -1,7 +1,7 @@
 //! The cells of a scan, a product and a baseline.
-ghost use Rattle.std.specs.Prelude.{◌≡◌, ◌+◌, ◌≤◌, ◌<◌, ◌^◌, ◌*◌, length, drop};
+ghost use Rattle.std.specs.Prelude.{◌≡◌, ◌+◌, ◌≤◌, ◌<◌, ◌^◌, ◌*◌, ℕ, length, drop, slice_index_or};
 ghost use Rattle.corr_model.specs.Records.{IsHead};
-ghost use Rattle.fringe_search.specs.Layout.{IsSeriesAt, cell_at, integrations_of, records_before, records_each, records_of, scan_at, series_of};
+ghost use Rattle.fringe_search.specs.Layout.{IsSeriesAt, no_cell, cell_at, integrations_of, records_before, records_each, records_of, scan_at, series_of};
 
 use crate::places::{SeriesAt, baselines, products, scan};
 use corr_model::Cell;
@@ -64,6 +64,45 @@ impl<'a> CellSeries<'a> {
         ensures few { self.now.integrations ≤ 2 ^ 40 }
     {
         self.integrations
+    }
+
+    // The same series once more.
+    pub fn again(&self) -> CellSeries<'a>
+        ensures { result ≡ self.now }
+    {
+        CellSeries {
+            cells: self.cells,
+            first: self.first,
+            stride: self.stride,
+            integrations: self.integrations,
+            lags: self.lags,
+        }
+    }
+
+    // The series of these cells, one of each integration, at one lag.
+    pub fn of_lag(cells: &'a [Cell], integrations: u64) -> Self
+        requires room { integrations ≤ length cells.now }
+        requires few { integrations ≤ 2 ^ 40 }
+        ensures { result ≡ record { cells = cells.entry.now; first = 0; stride = 1; integrations = integrations; lags = 1 } }
+    {
+        CellSeries {
+            cells,
+            first: 0,
+            stride: 1,
+            integrations,
+            lags: 1,
+        }
+    }
+
+    // Copies the cells of a lag, by the lag's number, into a list, in the order of the integrations.
+    pub fn gather(&self, lag: u32, cells: &mut [Cell])
+        requires room { self.now.integrations ≤ length cells.old }
+        requires lag { lag < self.now.lags }
+        ensures { (m : ℕ) → m < self.now.integrations → slice_index_or cells.new m no_cell ≡ cell_at self.now m lag }
+    {
+        for m in 0..self.integrations() {
+            cells[m as usize] = self.cell(m, lag);
+        }
     }
 
     // The cell of an integration at a lag, by the lag's number.

@@ -4,30 +4,30 @@ use Rattle.std.proofs.lemmas.Int.{ints}
 use Rattle.fringe_search.specs.Sums.{power_at}
 use Rattle.fringe_search.specs.Peaks.{Leads}
 use Rattle.fringe_search.proofs.Leading.{leads_of, of_leads}
-use Rattle.fringe_search.proofs.claim.leads_lag.Goals as goal
+use Rattle.fringe_search.proofs.claim.leads_from.Goals as goal
 
 pub loop-n-preserved : goal.loop-n-preserved
 loop-n-preserved c =
     let power = power_at c.args.series.now c.args.grid.now.divide in
     let peak = c.args.peak.now in
-    let other = c.point_at.result in
+    let other = c.point_from.result in
     let want : ℤ = pos c.loop-n.n -ℤ pos c.args.grid.now.rates in
-    let same : to_z w32 (of_z w32 c.rate_at.result) ≡ c.rate_at.result = omega (arith, ints, c.rate_at.ensures.rate.least, c.rate_at.ensures.rate.most) in
+    let same : to_z w32 (of_z w32 c.rate_at-rate.result) ≡ c.rate_at-rate.result = omega (arith, ints, c.rate_at-rate.ensures.rate.least, c.rate_at-rate.ensures.rate.most) in
     below_more (λ k. Leads power peak.lag peak.rate c.args.lag (pos k -ℤ pos c.args.grid.now.rates)) c.loop-n.n c.loop-n.invariant
-    (leads_of power peak.power other.power peak.lag c.args.lag other.lag peak.rate other.rate want c.requires.peak.power c.point_at.ensures.point.power c.point_at.ensures.lag
-    (c.point_at.ensures.rate ∙ same ∙ c.rate_at.ensures.value) (c.if-not-leads.ensures.0 refl))
+    (leads_of power peak.power other.power peak.lag c.args.lag other.lag peak.rate other.rate want c.requires.peak.power c.point_from.ensures.point.power c.point_from.ensures.lag
+    (c.point_from.ensures.rate ∙ same ∙ c.rate_at-rate.ensures.value) (c.if-not-leads.ensures.0 refl))
 
 pub returns-then-not-leads : goal.returns-then-not-leads
 returns-then-not-leads c =
     let power = power_at c.args.series.now c.args.grid.now.divide in
     let peak = c.args.peak.now in
-    let other = c.point_at.result in
-    let same : to_z w32 (of_z w32 c.rate_at.result) ≡ c.rate_at.result = omega (arith, ints, c.rate_at.ensures.rate.least, c.rate_at.ensures.rate.most) in
-    let at_rate = c.point_at.ensures.rate ∙ same in (
+    let other = c.point_from.result in
+    let same : to_z w32 (of_z w32 c.rate_at-rate.result) ≡ c.rate_at-rate.result = omega (arith, ints, c.rate_at-rate.ensures.rate.least, c.rate_at-rate.ensures.rate.most) in
+    let at_rate = c.point_from.ensures.rate ∙ same in (
       λ e. absurd (false≢true e),
       λ all. absurd (false≢true (c.if-not-leads.ensures.1
-          (of_leads power peak.power other.power peak.lag c.args.lag other.lag peak.rate other.rate c.rate_at.result c.requires.peak.power c.point_at.ensures.point.power c.point_at.ensures.lag at_rate
-          (all c.rate_at.result c.rate_at.ensures.rate)))),
+          (of_leads power peak.power other.power peak.lag c.args.lag other.lag peak.rate other.rate c.rate_at-rate.result c.requires.peak.power c.point_from.ensures.point.power c.point_from.ensures.lag at_rate
+          (all c.rate_at-rate.result c.rate_at-rate.ensures.rate)))),
     )
 
 pub returns : goal.returns

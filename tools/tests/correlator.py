@@ -1,9 +1,10 @@
-"""A second correlator, in numpy, by the definitions of docs/MODEL.md: the records of small jobs, without the program.
+"""A second correlator, in numpy, by the definitions of docs/MODEL.md and docs/FORMATS.md: the records of small jobs, without the program.
 
     correlator.py JOB [SCHEDULE] > RECORDS
+    correlator.py --phase PHASES JOB [SCHEDULE] > TEXT
 
-It takes jobs that the program accepts, and shares no line with it nor with `vlbi.simulate`. Tests compare it with stored record files of the
-program, and measure with it where there is no program.
+With a text of phases it makes the text of the cells of bins. It takes jobs that the program accepts, and shares no line with it nor with
+`vlbi.simulate`. Tests compare it with stored record files of the program, and measure with it where there is no program.
 """
 from __future__ import annotations
 
@@ -20,6 +21,8 @@ from vlbi import vex
 
 Integers = NDArray[numpy.int64]
 Complexes = NDArray[numpy.complex128]
+Entry = tuple[int, list[int]]  # a second, and what counts from it on
+Values = tuple[Complexes, NDArray[numpy.float64]]
 COSINE = numpy.array([1, 1, 1, 0, 0, -1, -1, -1, -1, -1, -1, 0, 0, 1, 1, 1], numpy.float64)
 
 
@@ -34,8 +37,8 @@ class Station:
     legacy: bool
     files: list[str] = field(default_factory=list)
     places: dict[str, tuple[int, int]] = field(default_factory=dict)
-    clocks: list[tuple[int, list[int]]] = field(default_factory=list)
-    polys: list[tuple[int, list[int]]] = field(default_factory=list)
+    clocks: list[Entry] = field(default_factory=list)
+    polys: list[Entry] = field(default_factory=list)
 
     @property
     def head(self) -> int:
@@ -123,6 +126,24 @@ class Job:
         return Scan(scan.name, scan.start, max((part.end for part in parts.values()), default=0), parts)
 
 
+class Phases:
+    """A text of phases: how many bins a turn has, and the entries of the phase in 2^-32 turn."""
+
+    def __init__(self, text: bytes) -> None:
+        rows = [fields for fields in (line.split("#")[0].split() for line in text.decode("latin-1").splitlines()) if fields]
+        (self.count,) = (int(fields[1]) for fields in rows if fields[0] == "bins")
+        self.entries = sorted((vex.second_of(fields[1]), [int(one) for one in fields[2:]]) for fields in rows if fields[0] == "phase")
+
+    def bins(self, job: Job, scan: Scan) -> Integers:
+        """The bin at each sample of a scan."""
+        return self.count * (along(job, scan, self.entries, []) % 2 ** 32) // 2 ** 32
+
+    def rows(self, job: Job, scan: Scan) -> Iterator[tuple[int, bytes, NDArray[numpy.float64]]]:
+        """Of each bin the mark of its records, its number in them, and 1 for each sample of the scan that is of it, else 0."""
+        bins = self.bins(job, scan)
+        return ((2, struct.pack("<I", one), (bins == one).astype(numpy.float64)) for one in range(self.count))
+
+
 def slots(station: Station, folder: str) -> Iterator[tuple[int, int, int, bytes]]:
     """Second, frame number, thread and data of each slot of a station that agrees and is valid, in the order of its files."""
     for name in station.files:
@@ -161,10 +182,13 @@ def levels(station: Station, channel: str, scan: Scan, rate: int, first: int, pa
 
 def delays(job: Job, station: Station, scan: Scan) -> Integers:
     """The delay at each sample of a scan in 2^-32 sample."""
+    return along(job, scan, sorted(station.polys) or [(scan.start, [0])], sorted(station.clocks))
+
+
+def along(job: Job, scan: Scan, polys: list[Entry], clocks: list[Entry]) -> Integers:
+    """Where these entries of polynomials and clocks have come to at each sample of a scan, by rising seconds."""
     knot, rate = job.numbers["knot"], job.rate
     found = numpy.zeros(scan.samples, numpy.int64)
-    polys = sorted(station.polys) or [(scan.start, [0])]
-    clocks = sorted(station.clocks)
     for entry, (when, coefficients) in enumerate(polys):
         begin = max(0, (when - scan.start) * rate) if entry > 0 else 0
         end = min(scan.samples, (polys[entry + 1][0] - scan.start) * rate) if entry + 1 < len(polys) else scan.samples
@@ -186,7 +210,7 @@ def delays(job: Job, station: Station, scan: Scan) -> Integers:
     return found
 
 
-def values(job: Job, key: str, channel: str, scan: Scan, folder: str) -> tuple[Complexes, NDArray[numpy.float64]]:
+def values(job: Job, key: str, channel: str, scan: Scan, folder: str) -> Values:
     """The values of a station's channel at each sample of a scan, and 1 where there is one, else 0 for both."""
     station, part = job.stations[key], scan.parts[key]
     none = numpy.zeros(scan.samples, numpy.complex128), numpy.zeros(scan.samples)
@@ -219,8 +243,8 @@ def name(text: str) -> bytes:
     return struct.pack("<H", len(raw)) + raw
 
 
-def records(job: Job, folder: str) -> bytes:
-    """The record file of a job."""
+def records(job: Job, folder: str, phases: Phases | None = None) -> bytes:
+    """The record file of a job; with phases the text of the cells of bins."""
     lags, integration = job.numbers["lags"], job.numbers["integration"]
     keys = list(job.stations)
     listed = []
@@ -229,7 +253,8 @@ def records(job: Job, folder: str) -> bytes:
         baselines = [(a, b) for a in standing for b in standing if a < b or a == b and job.auto]
         if baselines:
             listed.append((scan, baselines))
-    parts = [b"VLBIVIS1", struct.pack("<IQQI", lags, integration, job.rate, len(keys)), *map(name, keys)]
+    parts = [b"VLBIVIS1"] if phases is None else [b"VLBIBIN1", struct.pack("<I", phases.count)]
+    parts += [struct.pack("<IQQI", lags, integration, job.rate, len(keys)), *map(name, keys)]
     parts += [struct.pack("<I", len(job.products)), *(name(x) + name(y) for x, y in job.products), struct.pack("<I", len(listed))]
     for scan, baselines in listed:
         parts.append(name(scan.name) + struct.pack("<QQI", scan.start, scan.samples, len(baselines)))
@@ -237,16 +262,19 @@ def records(job: Job, folder: str) -> bytes:
     count = 0
     for number, (scan, baselines) in enumerate(listed):
         known = {(key, channel): values(job, key, channel, scan, folder) for key in scan.parts for pair in job.products for channel in pair}
+        rows = [(1, b"", numpy.ones(scan.samples))] if phases is None else list(phases.rows(job, scan))
         for m, begin in enumerate(range(0, scan.samples, integration)):
             for p, (x, y) in enumerate(job.products):
                 for q, (a, b) in enumerate(baselines):
-                    cells = cells_of(known[keys[a], x], known[keys[b], y], begin, min(begin + integration, scan.samples), lags)
-                    parts += [struct.pack("<BIQII", 1, number, m, p, q), cells]
-                    count += 1
+                    for mark, behind, counts in rows:
+                        (value, there), second = known[keys[a], x], known[keys[b], y]
+                        cells = cells_of((value * counts, there * counts), second, begin, min(begin + integration, scan.samples), lags)
+                        parts += [struct.pack("<BIQII", mark, number, m, p, q), behind, cells]
+                        count += 1
     return b"".join([*parts, struct.pack("<BQ", 255, count)])
 
 
-def cells_of(first: tuple[Complexes, NDArray[numpy.float64]], second: tuple[Complexes, NDArray[numpy.float64]], begin: int, end: int, lags: int) -> bytes:
+def cells_of(first: Values, second: Values, begin: int, end: int, lags: int) -> bytes:
     """The cells of the samples from `begin` up to `end` of a baseline's first station, by rising lag."""
     cells = numpy.zeros(lags, numpy.dtype([("re", "<i8"), ("im", "<i8"), ("count", "<u8")]))
     for place, lag in enumerate(range(-lags // 2, lags // 2)):
@@ -257,15 +285,19 @@ def cells_of(first: tuple[Complexes, NDArray[numpy.float64]], second: tuple[Comp
     return cells.tobytes()
 
 
-def correlate(folder: str, job: str, schedule: str | None = None) -> bytes:
-    """The record file of the job of this name in a folder."""
-    texts = []
-    for path in (job, schedule):
-        if path is not None:
-            with open(os.path.join(folder, path), "rb") as file:
-                texts.append(file.read())
-    return records(Job(texts[0], texts[1] if schedule is not None else None), folder)
+def correlate(folder: str, job: str, schedule: str | None = None, phases: str | None = None) -> bytes:
+    """The record file of the job of this name in a folder; with a text of phases the text of the cells of its bins."""
+    text, of_schedule, of_phases = (None if path is None else read(os.path.join(folder, path)) for path in (job, schedule, phases))
+    assert text is not None
+    return records(Job(text, of_schedule), folder, None if of_phases is None else Phases(of_phases))
+
+
+def read(path: str) -> bytes:
+    with open(path, "rb") as file:
+        return file.read()
 
 
 if __name__ == "__main__":
-    sys.stdout.buffer.write(correlate(".", *sys.argv[1:3]))
+    by_phase = sys.argv[1] == "--phase"
+    job_name, *others = sys.argv[3:] if by_phase else sys.argv[1:]
+    sys.stdout.buffer.write(correlate(".", job_name, others[0] if others else None, sys.argv[2] if by_phase else None))

@@ -1,6 +1,7 @@
 """Record files of random content, made field by field, and changed."""
 from __future__ import annotations
 
+import itertools
 import random
 import struct
 from collections.abc import Iterator
@@ -14,14 +15,18 @@ def random_name(draw: random.Random) -> bytes:
     return bytes(draw.choice(b"ABCXYZabc0189_\xc3\xa9\xff") for _ in range(draw.randint(1, 6)))
 
 
-def random_file(draw: random.Random) -> tuple[bytes, bytes]:
-    """A record file of few cells, by this random.Random: its bytes, and the lines that `dump` prints of it."""
+def random_file(draw: random.Random, bins: int | None = None) -> tuple[bytes, bytes]:
+    """A record file of few cells, by this random.Random: its bytes, and the lines that `dump` prints of it.
+
+    bins  with so many bins a text of the cells of bins, in whose lines of cells the bin stands before the lag
+    """
     lags = 2 * draw.randint(1, 4)
     integration = draw.randint(1, 50)
     rate = draw.randint(1, 2 ** 32 - 1)
     keys = [random_name(draw) for _ in range(draw.randint(1, 4))]
     products = [(random_name(draw), random_name(draw)) for _ in range(draw.randint(1, 3))]
-    head = [b"VLBIVIS1", struct.pack("<IQQ", lags, integration, rate), struct.pack("<I", len(keys)), *map(name, keys)]
+    head = [b"VLBIVIS1" if bins is None else b"VLBIBIN1" + struct.pack("<I", bins)]
+    head += [struct.pack("<IQQ", lags, integration, rate), struct.pack("<I", len(keys)), *map(name, keys)]
     head += [struct.pack("<I", len(products)), *(name(x) + name(y) for x, y in products)]
     lines = [b"lags %d integration %d rate %d" % (lags, integration, rate)]
     lines += [b"station %d %s" % it for it in enumerate(keys)]
@@ -41,14 +46,16 @@ def random_file(draw: random.Random) -> tuple[bytes, bytes]:
         lines += [b"baseline %d %d %d %d" % (scan, number, a, b) for number, (a, b) in enumerate(baselines)]
         for m in range((samples + integration - 1) // integration):
             for product in range(len(products)):
-                for baseline in range(len(baselines)):
+                for baseline, of_bin in itertools.product(range(len(baselines)), [None] if bins is None else range(bins)):
                     records += 1
-                    body.append(struct.pack("<BIQII", 1, scan, m, product, baseline))
+                    body.append(struct.pack("<BIQII", 1 if of_bin is None else 2, scan, m, product, baseline))
+                    body.append(b"" if of_bin is None else struct.pack("<I", of_bin))
+                    place = (scan, m, product, baseline) if of_bin is None else (scan, m, product, baseline, of_bin)
                     for lag in range(-lags // 2, lags // 2):
                         re, im = (draw.choice((0, draw.randint(-9, 9), draw.randint(-2 ** 63, 2 ** 63 - 1))) for _ in range(2))
                         count = draw.choice((0, 7, 2 ** 64 - 1))
                         body.append(struct.pack("<qqQ", re, im, count))
-                        cells.append(b"%d %d %d %d %d %d %d %d" % (scan, m, product, baseline, lag, re, im, count))
+                        cells.append(b" ".join(b"%d" % number for number in (*place, lag, re, im, count)))
     end = struct.pack("<BQ", 255, records)
     return b"".join(head + body + [end]), b"".join(line + b"\n" for line in lines + cells)
 

@@ -2,6 +2,8 @@
 from __future__ import annotations
 
 import math
+import random
+from fractions import Fraction
 
 import pytest
 
@@ -52,6 +54,68 @@ def test_a_real_delay_names_its_knot(rate: int, knot: int) -> None:
         with pytest.raises(jobs.JobFault, match=f"with a knot of {found} samples, in the job's `knot` line too, they do"):
             for delay in delays:
                 jobs.poly_line("Wb", 1262304000, delay, rate, 2 * found)
+
+
+START = 1262304000  # 2010y001d00h00m00s
+
+
+@pytest.mark.parametrize("period, derivative, epoch, counts", [
+    (1, 0, START, "0 72057594037927936"),                                    # a turn a second: 2^56 in 2^24 knots of a second
+    ("0.5", "0", START, "0 144115188075855872"),
+    (4, 0, START - 1, "1073741824 18014398509481984"),                       # a quarter of a turn is past, 2^30
+    (4, 0, START + 1, "3221225472 18014398509481984"),                       # a quarter of a turn is due
+    (4, 0, START - 4 * 10 ** 9 - 1, "1073741824 18014398509481984"),         # whole turns are left out
+    (1, Fraction(1, 2 ** 30), START, "0 72057594037927936 -562949953421312"),   # after 2^24 seconds 2^48 / 2^30 / 2 turns, 2^17, are lost
+    (1, Fraction(1, 2 ** 30), START - 2 ** 15, "2147483648 72055395014672384 -562949953421312"),  # 1/2 turn is lost, and 2^-15 of the frequency
+])
+def test_phase_lines(period: jobs.Number, derivative: jobs.Number, epoch: int, counts: str) -> None:
+    """Of 64 samples a second and knots of 64 samples, by docs/FORMATS.md."""
+    assert jobs.phase_line(START, period, derivative, epoch, 64, 64) == f"phase 2010y001d00h00m00s {counts}"
+
+
+def test_six_terms_of_a_phase() -> None:
+    turns: list[jobs.Number] = [Fraction(-1, 4), 1, Fraction(1, 2 ** 30), Fraction(1, 2 ** 50), 0, Fraction(-1, 2 ** 120)]
+    line = jobs.turns_line(START, turns, 64, 64)
+    assert line == f"phase 2010y001d00h00m00s {3 * 2 ** 30} {2 ** 56} {2 ** 50} {2 ** 54} 0 {-2 ** 32}"
+
+
+def test_the_phase_of_a_line_at_samples() -> None:
+    """It is as near to the ephemeris as is said, for pulsars of all kinds."""
+    draw = random.Random(1)
+    for _ in range(300):
+        period, derivative = Fraction(repr(10 ** draw.uniform(-2.8, 1))), Fraction(repr(10 ** draw.uniform(-21, -9) * draw.choice((1, 1, -1, 0))))
+        epoch = START + Fraction(draw.randint(-10 ** 12, 10 ** 12), 10 ** 4)
+        rate = draw.choice((64_000, 2_000_000, 32_000_000, 1_048_576))
+        knot = jobs.largest_phase_knot([jobs.phase_turns(START, period, derivative, epoch)], rate)
+        if knot is None:
+            continue
+        counts = [int(count) for count in jobs.phase_line(START, period, derivative, epoch, rate, knot).split()[2:]]
+        chord = abs(derivative) / period ** 2 / 8 * Fraction(knot, rate) ** 2 * 2 ** 32
+        for sample in (0, 1, knot, draw.randrange(2 ** 24 * knot), draw.randrange(rate * 1000), (2 ** 24 - 1) * knot - 1):
+            t = START + Fraction(sample, rate) - epoch
+            due = (t / period - derivative * t * t / (2 * period * period)) * 2 ** 32
+            off = (jobs.poly_value(counts, knot, sample) - due + 2 ** 31) % 2 ** 32 - 2 ** 31
+            assert Fraction(-9, 2) - chord <= off <= Fraction(3, 2) + chord
+
+
+def test_phases_past_their_greatest() -> None:
+    """A pulsar of 1.5 milliseconds at 2 Ms/s: 2^24 knots of 8,192 samples hold 4.6 * 10^7 turns, and 2^26 turns are too many."""
+    turns = jobs.phase_turns(START, "0.0015", 0, START)
+    assert jobs.largest_phase_knot([turns], 2_000_000) == 8192
+    assert jobs.phase_line(START, "0.0015", 0, START, 2_000_000, 8192).startswith("phase 2010y001d00h00m00s 0 ")
+    with pytest.raises(jobs.JobFault, match="knot of 16384 samples; with a knot of 8192 samples, in the job's `knot` line too, it does"):
+        jobs.phase_line(START, "0.0015", 0, START, 2_000_000, 16384)
+    with pytest.raises(jobs.JobFault, match="it turns too fast for any knot"):
+        jobs.phase_line(START, "1e-9", 0, START, 1)
+    with pytest.raises(jobs.JobFault, match="a period is above 0 seconds: 0"):
+        jobs.phase_line(START, 0, 0, START, 64)
+    with pytest.raises(jobs.JobFault, match="a phase has one to six numbers: 7"):
+        jobs.turns_line(START, [0] * 7, 64)
+
+
+def test_dates() -> None:
+    days: list[jobs.Number] = ["40587", 55197, "55197.25", "55197.00000000001"]
+    assert [jobs.mjd_second(day) for day in days] == [0, START, START + 21600, START + Fraction(864, 10 ** 9)]
 
 
 def test_epochs_of_a_schedule() -> None:

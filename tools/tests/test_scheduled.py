@@ -90,6 +90,24 @@ def test_the_files(tmp_path: Path, capsys: pytest.CaptureFixture[str]) -> None:
         assert set(heads[:, 1]) == {20 << 24} and set(heads[:, 2]) == {8032 // 8} and set(heads[:, 3]) == {number}
 
 
+def test_sources_that_pulse(tmp_path: Path) -> None:
+    """Hh gets the pulses of the second scan as they pass the centre of the earth, in phase with those of the first, though its own clock is behind."""
+    (tmp_path / "night.vex").write_text(SHORT)
+    made = {}
+    for name, pulses in (("always", ""), ("never", "--period 1 --duty 0"), ("pulsed", "--period 0.07 --duty 0.3")):
+        folder, words = tmp_path / name, "--quiet --common 0.5 --bits 1 " + pulses
+        assert command.main(["--sky", str(tmp_path / "night.vex"), *words.split(), str(folder)]) == 0
+        frames = numpy.fromfile(folder / "Hh.vdif", numpy.uint8).reshape(-1, 8032)
+        made[name] = numpy.unpackbits(frames[-2:, 32:], bitorder="little")
+    night = schedule()
+    arrival = scheduled.Arrival(night, "Hh", night.source("3C279"), vex.second_of("2010y115d20h33m00s"), True)
+    seconds = numpy.arange(128_000) / 64_000
+    past = (180 + seconds - arrival.lead(seconds)) / 0.07 % 1
+    clear = numpy.minimum(abs(past - 0.3), numpy.minimum(past, 1 - past)) > 1e-6
+    assert clear.mean() > 0.999 and (made["always"] != made["never"]).mean() > 0.1
+    numpy.testing.assert_array_equal(made["pulsed"][clear], numpy.where(past < 0.3, made["always"], made["never"])[clear])
+
+
 def test_scans_that_are_chosen(tmp_path: Path) -> None:
     night = schedule()
     one = scheduled.Night(night, vex.chosen_scans(night, ["No0002"]))
@@ -121,6 +139,7 @@ def test_what_cannot_be_recorded(old: str, new: str, said: str, tmp_path: Path, 
     (["--sky", "night.vex", "--station", "Ef"], "--station does not go with --sky: the schedule says that"),
     (["--scan", "No0001"], "--scan goes with --sky"),
     (["--no-atmosphere"], "--no-atmosphere goes with --sky"),
+    (["--sky", "night.vex", "--duty", "0.5"], "--duty goes with --period"),
     (["--sky", "none.vex"], "none.vex: No such file or directory"),
 ])
 def test_words_of_the_command(words: list[str], said: str, tmp_path: Path, capsys: pytest.CaptureFixture[str]) -> None:

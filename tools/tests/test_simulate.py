@@ -5,6 +5,8 @@ The fringes are found by the program where VLBI names one, and else by the corre
 from __future__ import annotations
 
 import dataclasses
+import hashlib
+from fractions import Fraction
 from pathlib import Path
 
 import correlator
@@ -19,7 +21,7 @@ from vlbi import fringe as fringes
 from vlbi import commands, job, records, vex
 from vlbi.commands import simulate as command
 from vlbi.faults import Fault
-from vlbi.simulate import BLOCK, THRESHOLD, CommonNoise, Sky, SkyFault, Station, codes_of, simulate, wave_at
+from vlbi.simulate import BLOCK, THRESHOLD, CommonNoise, Pulse, Sky, SkyFault, Station, codes_of, simulate, wave_at
 from vlbi.vdif import packed
 
 SMALL = Sky((Station("A"), Station("B")), rate=80_000, seconds=2)
@@ -66,6 +68,79 @@ def test_a_wave_comes_late() -> None:
     numpy.testing.assert_allclose(wave + SMALL.rate * station.lead(wave / SMALL.rate), recorded, rtol=0, atol=1e-6)
     numpy.testing.assert_allclose(lead, station.lead(wave / SMALL.rate), rtol=0, atol=1e-13)
     numpy.testing.assert_allclose(station.lead(numpy.array([2.0])), 0.02 + 2e-6 + 4e-9 - 3e-6 + 2e-10, rtol=0, atol=1e-17)
+
+
+# Pulses
+
+@pytest.mark.parametrize("pulse, seconds", [
+    (Pulse("0.5", 0.25), [(0.0, 0.125), (0.5, 0.625)]),
+    (Pulse("0.5", 0.25, SMALL.start + Fraction(1, 8)), [(0.125, 0.25), (0.625, 0.75)]),
+    (Pulse(0.5, 0.25, SMALL.start - 10 ** 6 - Fraction(1, 16)), [(0.0, 0.0625), (0.4375, 0.5625), (0.9375, 1.0)]),
+    (Pulse(Fraction(1, 3), 0.0), []),
+    (Pulse("0.7", 1.0), [(0.0, 1.0)]),
+    # a frequency of 2 hertz that falls by 1 each second: a turn is past at 2 - sqrt 2 seconds
+    (Pulse(0.5, 0.5, None, 0.25), [(0.0, 2 - 3 ** 0.5), (2 - 2 ** 0.5, 1.0)]),
+])
+def test_when_a_source_is_on(pulse: Pulse, seconds: list[tuple[float, float]]) -> None:
+    places = (numpy.arange(997) + 0.5) / 997
+    due = numpy.zeros(997, bool)
+    for begin, end in seconds:
+        due |= (begin <= places) & (places < end)
+    numpy.testing.assert_array_equal(pulse.gate(SMALL.start, SMALL.start).is_on(places), due)
+
+
+def test_pulses_go_on_from_scan_to_scan() -> None:
+    pulse = Pulse("0.7", 0.1)
+    first, later = pulse.gate(SMALL.start, SMALL.start), pulse.gate(SMALL.start + 100, SMALL.start)
+    places = (numpy.arange(997) + 0.5) / 997
+    numpy.testing.assert_array_equal(later.is_on(places), first.is_on(places + 100))
+    assert first.is_on(numpy.array([-1e-20])).tolist() == [True]  # no phase is a whole turn past the last whole turn
+
+
+def test_the_knot_of_a_pulse() -> None:
+    """2^24 knots hold less than 2^26 turns, so a knot is shorter than four periods: 5,440 samples of the first one here, and 32 of the last."""
+    for period, knot in (("0.017", 4096), ("0.5", 32768), ("0.0001", 16)):
+        sky = dataclasses.replace(SMALL, pulse=Pulse(period))
+        assert sky.knot == knot
+        line = job.phase_line(sky.start, period, 0, sky.start, sky.rate, sky.knot)
+        assert job.poly_value([int(one) for one in line.split()[2:]], knot, 80_000) == pytest.approx(2 ** 32 / float(period), abs=3)
+
+
+def codes_in(path: Path) -> NDArray[numpy.uint8]:
+    """The codes of a recording of one channel and two bits."""
+    _, data = frames_of(path, SMALL.frames.size)
+    return (data[..., None] >> numpy.array([0, 2, 4, 6], numpy.uint8) & 3).astype(numpy.uint8).ravel()
+
+
+def test_pulsed_recordings(tmp_path: Path) -> None:
+    """In a pulse they are those of a source that is always on, else those of one that never is; the pulse comes late with the wave."""
+    stations = (Station("A"), Station("B", delay=(3.1e-3,), clock=(10e-6,)))
+    made = {}
+    pulsed = Pulse(0.01, 0.25, SMALL.start - Fraction("103e-6"))
+    for name, pulse in (("always", None), ("all", Pulse(0.01, 1.0)), ("never", Pulse(0.01, 0.0)), ("pulsed", pulsed)):
+        simulated(tmp_path, stations=stations, common=0.5, pulse=pulse)
+        made[name] = [codes_in(tmp_path / f"{key}.vdif") for key in "AB"]
+    for station, late in enumerate((0.0, 3.11e-3)):
+        past = (numpy.arange(160_000) / 80_000 - late + 103e-6) / 0.01 % 1  # no sample lies at the edge of a pulse
+        due = numpy.where(past < 0.25, made["always"][station], made["never"][station])
+        assert (made["always"][station] != made["never"][station]).mean() > 0.2
+        numpy.testing.assert_array_equal(made["pulsed"][station], due)
+        numpy.testing.assert_array_equal(made["all"][station], made["always"][station])
+
+
+def test_the_station_goes_on_when_the_source_is_off(tmp_path: Path) -> None:
+    """With half of its power: the outer levels are as rare as it makes them."""
+    simulated(tmp_path, common=0.5, pulse=Pulse(1, 0.0))
+    levels = numpy.bincount(codes_in(tmp_path / "A.vdif"), minlength=4) / 160_000
+    outer = (1 - theory.normal_between(THRESHOLD * 2 ** 0.5)) / 2
+    numpy.testing.assert_allclose(levels, [outer, 0.5 - outer, 0.5 - outer, outer], atol=0.01)
+
+
+def test_without_pulses_recordings_are_those_of_before(tmp_path: Path) -> None:
+    """Two recordings, made before there were pulses."""
+    stations = (Station("A"), Station("B", delay=(3.1e-3, 0.9e-6, -2e-9), clock=(12.5e-6, 1e-9)))
+    simulated(tmp_path, stations=stations, channels=2, sideband="LU", common=0.3, missing=0.1, invalid=0.1)
+    assert [hashlib.sha256((tmp_path / f"{key}.vdif").read_bytes()).hexdigest()[:16] for key in "AB"] == ["c67ec40ece232b48", "f982f8eedf0a5bc4"]
 
 
 # Recordings, schedules, jobs
@@ -145,12 +220,17 @@ def test_a_sideband_for_each_channel(tmp_path: Path) -> None:
     ({"sideband": "UL"}, "one for all channels or one for each of 1: UL"),
     ({"sideband": "X"}, "sidebands are U or L"),
     ({"frequency": 2 ** 40}, "a sky frequency past its range"),
+    ({"pulse": {"period": 0}}, "a period is above 0 seconds: 0"),
+    ({"pulse": {"period": "0.1", "duty": -0.1}}, "a part lies between 0 and 1"),
+    ({"pulse": {"period": "1e-6"}}, "no phase line can hold the phases of this pulse"),
     ({"start": 0}, "no VDIF reference epoch in the year 1970"),
     ({"stations": (Station("A", delay=(0.0, 0.0, 1e9)),)}, "no job can hold these delays"),
 ])
 def test_what_cannot_be_simulated(tmp_path: Path, changes: dict[str, object], said: str) -> None:
     """Nothing is written then."""
     with pytest.raises(Fault, match=said):
+        if isinstance(pulse := changes.get("pulse"), dict):
+            changes = {**changes, "pulse": Pulse(**pulse)}
         simulated(tmp_path / "sky", **changes)
     assert not (tmp_path / "sky").exists()
 
@@ -187,12 +267,33 @@ def test_the_command(tmp_path: Path, capsys: pytest.CaptureFixture[str]) -> None
         (["--station", "A", "--station", "A"], "vlbi-simulate: two stations have the key A\n"),
         (["--start", "noon"], "vlbi-simulate: --start: no time: noon\n"),
         (["--lags", "3"], "vlbi-simulate: the number of lags is even, 2 to 1024: 3\n"),
+        (["--duty", "0.5"], "vlbi-simulate: --duty goes with --period\n"),
+        (["--pulse-epoch", "55197"], "vlbi-simulate: --pulse-epoch goes with --period\n"),
+        (["--period-derivative", "0"], "vlbi-simulate: --period-derivative goes with --period\n"),
+        (["--period", "0.1", "--duty", "2"], "vlbi-simulate: a part lies between 0 and 1\n"),
+        (["--period", "-0.1"], "vlbi-simulate: a period is above 0 seconds: -1/10\n"),
     ):
         assert command.main([*small, *words]) == 1
         assert capsys.readouterr() == ("", said)
     (tmp_path / "file").write_text("")
     assert command.main([*small[:-1], str(tmp_path / "file" / "x")]) == 1
     assert capsys.readouterr().err == f"vlbi-simulate: {tmp_path}/file/x: Not a directory\n"
+
+
+def test_the_command_with_pulses(tmp_path: Path, capsys: pytest.CaptureFixture[str]) -> None:
+    small = ["--quiet", "--rate", "80000", "--seconds", "1", "--station", "A"]
+    words = ["--period", "0.05", "--duty", "0.3", "--pulse-epoch", "55196.9999999", "--period-derivative", "1e-3"]
+    assert command.main([*small, *words, str(tmp_path / "by_words")]) == 0
+    pulse = Pulse("0.05", 0.3, SMALL.start - Fraction(864, 10 ** 5), Fraction(1, 1000))
+    simulated(tmp_path, stations=(Station("A"),), seconds=1, pulse=pulse)
+    assert (tmp_path / "by_words" / "A.vdif").read_bytes() == (tmp_path / "A.vdif").read_bytes()
+    assert command.main([*small, "--period", "0.05", str(tmp_path / "by_words")]) == 0
+    simulated(tmp_path, stations=(Station("A"),), seconds=1, pulse=Pulse(0.05))
+    assert (tmp_path / "by_words" / "A.vdif").read_bytes() == (tmp_path / "A.vdif").read_bytes()
+    for word in ("x", "1/0"):
+        with pytest.raises(SystemExit):
+            command.main([*small, "--period", word, str(tmp_path)])
+        assert f"argument --period: no number: {word}\n" in capsys.readouterr().err
 
 
 def test_progress(capsys: pytest.CaptureFixture[str], monkeypatch: pytest.MonkeyPatch, tmp_path: Path) -> None:

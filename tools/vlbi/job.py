@@ -3,6 +3,7 @@
     job.clock_line("Wb", time, 2.5, 1e-12, 16_000_000)
     job.poly_line("Wb", time, [0.0123, 1.1e-6, -3e-11], 16_000_000)
     job.knot_line([[0.0123, 1.1e-6, -3e-11]], 16_000_000)
+    job.phase_line(time, "0.7145196997258", "2.04835e-15", job.mjd_second("55197.25"), 16_000_000)
 
 `plan` reads a job that the program has accepted, with its schedule, to its scans and epochs. It is no judge of a job: that is
 `vlbi JOURNAL check`.
@@ -11,7 +12,8 @@ from __future__ import annotations
 
 import dataclasses
 import fractions
-from collections.abc import Iterable, Sequence
+from collections.abc import Callable, Iterable, Sequence
+from typing import Union
 
 from vlbi import vex
 from vlbi.faults import Fault
@@ -21,7 +23,11 @@ from vlbi.vex import vex_time as vex_time
 KNOT = 32768         # the job's knot where it has no line `knot`
 KNOTS = 2 ** 24      # for which a polynomial counts
 MOST_TERMS = 6
-MOST_POLY = 2 ** 58  # of the sum of a `poly` line's magnitudes
+MOST_POLY = 2 ** 58  # of the sum of the magnitudes of a `poly` line, and of a `phase` line
+TURN = 2 ** 32       # the units of a `phase` line in a turn
+MJD_1970 = 40587     # the modified julian date of 1970-01-01
+
+Number = Union[float, str, fractions.Fraction]  # a text stands for the number that it writes
 
 
 class JobFault(Fault):
@@ -68,17 +74,25 @@ def poly_line(key: str, when: int, coefficients: Sequence[float | str], rate: in
 
 def poly_counts(coefficients: Iterable[float | str], rate: int, knot: int) -> list[int]:
     """The coefficients in 2^-32 sample, by powers of 2^24 knots."""
+    return [round(count * rate * 2 ** 32) for count in by_knots(coefficients, rate, knot)]
+
+
+def by_knots(coefficients: Iterable[Number], rate: int, knot: int) -> list[fractions.Fraction]:
+    """Coefficients by powers of seconds, as those by powers of 2^24 knots."""
     step = fractions.Fraction(KNOTS * knot, rate)
-    return [round(exact(c) * rate * 2 ** 32 * step ** power) for power, c in enumerate(coefficients)]
+    return [exact(c) * step ** power for power, c in enumerate(coefficients)]
 
 
 def fits(counts: Iterable[int]) -> bool:
-    """Whether a `poly` line may hold these numbers."""
+    """Whether a `poly` or a `phase` line may hold these numbers."""
     return sum(abs(count) for count in counts) < MOST_POLY
 
 
 def poly_value(counts: Sequence[int], knot: int, samples: int) -> int:
-    """The delay of a `poly` line in 2^-32 sample, so many samples behind its second, as docs/MODEL.md has it: without a clock."""
+    """The delay of a `poly` line in 2^-32 sample, so many samples behind its second, as docs/MODEL.md has it: without a clock.
+
+    The same is the phase of a `phase` line, in 2^-32 turn.
+    """
     number, rest = divmod(samples, knot)
     here, next_one = (nested(counts, one) for one in (number, number + 1))
     return here + (next_one - here) * rest // knot
@@ -98,9 +112,14 @@ def largest_knot(delays: Sequence[Sequence[float | str]], rate: int) -> int | No
     delays  the coefficients of each line
     None where there is none.
     """
+    return largest(lambda knot: all(fits(poly_counts(coefficients, rate, knot)) for coefficients in delays))
+
+
+def largest(does: Callable[[int], bool]) -> int | None:
+    """The largest knot that does, 32768 samples or a smaller power of two; None where there is none."""
     knot = KNOT
     while knot >= 1:
-        if all(fits(poly_counts(coefficients, rate, knot)) for coefficients in delays):
+        if does(knot):
             return knot
         knot //= 2
     return None
@@ -122,7 +141,77 @@ def knot_seconds(knot: int, rate: int) -> float:
     return KNOTS * knot / rate
 
 
-def exact(number: float | str) -> fractions.Fraction:
+def phase_line(when: int, period: Number, derivative: Number, epoch: Number, rate: int, knot: int = KNOT) -> str:
+    """The `phase` line of a pulsar, by its ephemeris; its phase is that of `phase_turns`, less the whole turns at `when`.
+
+    when        the second since 1970-01-01 from which on it counts, as the start of a scan
+    period      seconds from a pulse to the next at the epoch
+    derivative  seconds that the period gains in each second
+    epoch       the time at which the phase is 0, before `when` or behind it, in seconds since 1970-01-01: `mjd_second` has them of a date
+    rate, knot  samples a second, and samples from one knot to the next, those of the job
+
+    The phase that the line has at a sample is off the ephemeris by -4.5 to 1.5 units of 2^-32 turn, by rounding, and by what a straight line
+    between two knots leaves: up to derivative / period^2 / 8 turns times the square of the seconds between them. It counts for `knot_seconds`.
+    JobFault as for `turns_line`.
+    """
+    return turns_line(when, phase_turns(when, period, derivative, epoch), rate, knot)
+
+
+def turns_line(when: int, turns: Sequence[Number], rate: int, knot: int = KNOT) -> str:
+    """The `phase` line of a pulse whose phase `t` seconds behind `when` is turns[0] + turns[1]*t + turns[2]*t*t + .. turns, of one to six numbers.
+
+    when        the second since 1970-01-01 from which on it counts
+    rate, knot  samples a second, and samples from one knot to the next, those of the job
+
+    Of turns[0] what is past its last whole turn stands in the line. JobFault where the numbers are past what the line may hold; it names a
+    knot with which they are not, if there is one.
+    """
+    if not 1 <= len(turns) <= MOST_TERMS:
+        raise JobFault(f"a phase has one to six numbers: {len(turns)}")
+    counts = phase_counts(turns, rate, knot)
+    if not fits(counts):
+        less = largest_phase_knot([turns], rate)
+        help_words = "it turns too fast for any knot" if less is None else f"with a knot of {less} samples, in the job's `knot` line too, it does"
+        raise JobFault(f"this phase does not go into a phase line with a knot of {knot} samples; {help_words}")
+    return " ".join(["phase", vex_time(when), *(str(count) for count in counts)])
+
+
+def phase_counts(turns: Iterable[Number], rate: int, knot: int) -> list[int]:
+    """The coefficients of a phase in 2^-32 turn, by powers of 2^24 knots; the first is past its last whole turn."""
+    first, *more = (round(count * TURN) for count in by_knots(turns, rate, knot))
+    return [first % TURN, *more]
+
+
+def largest_phase_knot(turns: Sequence[Sequence[Number]], rate: int) -> int | None:
+    """The largest knot, 32768 samples or a smaller power of two, with which the `phase` lines of all these phases can be written.
+
+    turns  the coefficients of each line, as `phase_turns` gives them
+    None where there is none. A job has one knot, for its delays too: the lesser of this one and `largest_knot`.
+    """
+    return largest(lambda knot: all(fits(phase_counts(coefficients, rate, knot)) for coefficients in turns))
+
+
+def phase_turns(when: Number, period: Number, derivative: Number, epoch: Number) -> tuple[fractions.Fraction, ...]:
+    """The phase of a pulsar in turns by powers of the seconds since `when`, of which `phase_line` says what the others are; exact.
+
+    As pulsar timing has it, the frequency 1 / period changes evenly, by -derivative / period^2 each second: `t` seconds behind the epoch the
+    phase is t / period - derivative * t^2 / (2 * period^2). JobFault where the period is not above 0.
+    """
+    if exact(period) <= 0:
+        raise JobFault(f"a period is above 0 seconds: {period}")
+    spin = 1 / exact(period)
+    change = -exact(derivative) * spin * spin
+    since = exact(when) - exact(epoch)
+    turns = (spin * since + change * since * since / 2, spin + change * since, change / 2)
+    return turns if change else turns[:2]
+
+
+def mjd_second(day: Number) -> fractions.Fraction:
+    """The seconds since 1970-01-01 of a modified julian date in UTC, as "55197.25"; exact."""
+    return (exact(day) - MJD_1970) * 86400
+
+
+def exact(number: Number) -> fractions.Fraction:
     """A number as it is written, `1e-6` a millionth; a text as "2.5" too."""
     return fractions.Fraction(str(number))
 

@@ -1,4 +1,5 @@
-"""Pictures of the fringes of a record file: over lag, over time, and over lag and residual rate. It is the command `vlbi-plot`."""
+"""Pictures of the fringes of a record file: over lag, over time, and over lag and residual rate; and of a text of the cells of bins: over the bins
+of a pulse and lag. It is the command `vlbi-plot`."""
 from __future__ import annotations
 
 import functools
@@ -16,7 +17,7 @@ from numpy.typing import NDArray
 from vlbi import fringe as fringes
 from vlbi.certificate import Certificate, Peak
 from vlbi.faults import Fault
-from vlbi.records import Scan
+from vlbi.records import BinScan, Scan
 
 # matplotlib has no types
 Axes = Any
@@ -24,7 +25,7 @@ Place = Any
 NewFigure = Callable[..., Figure]
 
 ROWS = 10        # rows of a page
-COLUMNS = {"page": 1, "lags": 2, "time": 2, "map": 3}  # places in a row
+COLUMNS = {"page": 1, "lags": 2, "time": 2, "map": 3, "bins": 2}  # places in a row
 MOST_ROWS = 512  # rows of a map that are drawn
 COLOURS = ("#1f5fa8", "#c8501e", "#2e8b57", "#8a4fa3", "#b8860b", "#00868b", "#a0305a", "#5a6b1f")
 PEAK = "#e8502a"
@@ -91,6 +92,42 @@ class Pair:
         return self.scale * self.scan.means(self.product, self.baseline)[:, self.fringe.nearest]
 
 
+class BinPair(Pair):
+    """A baseline and a product of a scan whose pairs stand in the bins of a pulse, with the fringe of its strongest bin.
+
+    binned  the BinScan, of which `scan` is the sum over all bins
+    """
+
+    def __init__(self, binned: BinScan, summed: Scan, baseline: int, product: int) -> None:
+        super().__init__(summed, baseline, product)
+        self.binned = binned
+
+    @functools.cached_property
+    def strongest(self) -> tuple[int, fringes.Fringe]:
+        """The bin, and its fringe, whose amplitude is the greatest against the noise of as many pairs as it has."""
+        found = [fringes.of(self.binned.of_bin(number), self.product, self.baseline) for number in range(self.binned.cells.shape[3])]
+        pairs = self.binned.cells["count"][:, self.product, self.baseline].sum(axis=0, dtype=numpy.float64).max(axis=1)
+        strength = [numpy.nan_to_num(fringe.amplitude) * many ** 0.5 for fringe, many in zip(found, pairs)]
+        number = int(numpy.argmax(strength))
+        return number, found[number]
+
+    @functools.cached_property
+    def fringe(self) -> fringes.Fringe:
+        return self.strongest[1]
+
+    @property
+    def peak_words(self) -> str:
+        return f"bin {self.strongest[0]},  {super().peak_words}" if self.has_pairs else NO_PAIRS
+
+    def over_bins(self) -> NDArray[numpy.float64]:
+        """The amplitude of the mean over the scan in each bin and at each lag, turned back at the peak's rate: float64 (Z, L), NaN without a pair."""
+        cells = self.binned.cells[:, self.product, self.baseline]
+        counts = cells["count"].sum(axis=0, dtype=numpy.float64)
+        turned = (cells["re"] + 1j * cells["im"]) * fringes.back(self.scan.times, self.fringe.rate if self.has_pairs else 0.0)[:, None, None]
+        heights: NDArray[numpy.float64] = self.scale * numpy.abs(turned.sum(axis=0)) / numpy.where(counts > 0, counts, numpy.nan)
+        return heights
+
+
 def signed(number: float, places: int) -> str:
     """A number with its sign, and a zero with none."""
     written = f"{number:+.{places}f}"
@@ -98,7 +135,7 @@ def signed(number: float, places: int) -> str:
 
 
 def pairs_of(scan: Scan, baselines: Sequence[str], products: Sequence[str], auto: bool) -> list[Pair]:
-    """The Pairs of these baselines (`Ef-Wb`) and products (`CH01,CH01`), of all where none is named.
+    """The Pairs of these baselines (`Ef-Wb`) and products (`CH01,CH01`), of all where none is named; BinPairs of a BinScan.
 
     Those of a station with itself stand among them where they are named, or with `auto`.
     """
@@ -106,8 +143,11 @@ def pairs_of(scan: Scan, baselines: Sequence[str], products: Sequence[str], auto
         a, b = scan.baselines[baseline]
         return "-".join(scan.baseline_keys[baseline]) in baselines if baselines else auto or a != b
 
+    new: Callable[[int, int], Pair] = functools.partial(Pair, scan)
+    if isinstance(scan, BinScan):
+        new = functools.partial(BinPair, scan, scan.summed)
     return [
-        Pair(scan, baseline, product)
+        new(baseline, product)
         for baseline in range(len(scan.baselines)) if has(baseline)
         for product, channels in enumerate(scan.head.products) if not products or ",".join(channels) in products
     ]
@@ -207,6 +247,36 @@ def draw_map(figure: Figure, place: Place, pair: Pair) -> None:
     say_certified(axes, [pair])
     axes.set_xlim(extent[:2])
     axes.set_ylim(extent[2:])
+
+
+def draw_bins(figure: Figure, place: Place, pair: BinPair) -> None:
+    """The amplitude over lag and bin in a place of a grid, with the peak ringed and a scale beside it, and over the bins at the peak's lag."""
+    inner = place.subgridspec(1, 5, width_ratios=(30, 1.2, 6, 13, 3), wspace=0.05)
+    axes, profile = figure.add_subplot(inner[0]), figure.add_subplot(inner[3])
+    heights = pair.over_bins()
+    bins, fringe = len(heights), pair.fringe
+    for one, label in ((axes, "lag (samples)"), (profile, pair.unit)):
+        one.tick_params(labelsize=SMALL)
+        one.set_xlabel(label, fontsize=SMALL, labelpad=1)
+        one.set_ylim(-0.5, bins - 0.5)
+        one.yaxis.get_major_locator().set_params(integer=True)
+    axes.set_ylabel("bin", fontsize=SMALL, labelpad=2)
+    extent = (fringe.lags[0] - 0.5, fringe.lags[-1] + 0.5, -0.5, bins - 0.5)
+    axes.set_xlim(extent[:2])
+    microsecond_axis(axes, pair.scan.head.rate)
+    profile.tick_params(labelleft=False)
+    turns = profile.secondary_yaxis("right", functions=(lambda number: (number + 0.5) / bins, lambda turn: turn * bins - 0.5))
+    turns.tick_params(labelsize=SMALL - 1, pad=0, length=2)
+    turns.set_ylabel("phase (turns)", fontsize=SMALL - 1, labelpad=2)
+    if not pair.has_pairs:
+        axes.text(0.5, 0.5, NO_PAIRS, transform=axes.transAxes, ha="center", va="center", color="#777777")
+        return
+    image = axes.imshow(heights, extent=extent, origin="lower", aspect="auto", cmap="viridis", interpolation="nearest", vmin=0)
+    figure.colorbar(image, cax=figure.add_subplot(inner[1])).ax.tick_params(labelsize=SMALL - 1, length=2)
+    axes.plot(fringe.lag, pair.strongest[0], marker="o", markersize=12, markerfacecolor="none", markeredgecolor=PEAK, markeredgewidth=1.6)
+    axes.set_xlim(extent[:2])
+    axes.set_ylim(extent[2:])
+    profile.barh(numpy.arange(bins), numpy.nan_to_num(heights[:, fringe.nearest]), height=1, color=COLOURS[0])
 
 
 def mark_colour(pairs: Sequence[Pair], colour: str) -> str:
@@ -321,6 +391,17 @@ def draw_maps(new: NewFigure, pairs: Sequence[Pair], title: str) -> Figure:
     return sheet.figure
 
 
+def draw_bin_maps(new: NewFigure, pairs: Sequence[BinPair], title: str) -> Figure:
+    """The bins of each fringe, two beside each other."""
+    columns = min(len(pairs), COLUMNS["bins"])
+    sheet = Sheet(new, title, -(-len(pairs) // columns), (6.6,) * columns, 2.8)
+    for number, pair in enumerate(pairs):
+        row, column = divmod(number, columns)
+        sheet.words(row, column, f"{pair.baseline_name}  {pair.product_name}", pair.peak_words)
+        draw_bins(sheet.figure, sheet.place(row, column), pair)
+    return sheet.figure
+
+
 def grouped(pairs: Iterable[Pair]) -> list[list[Pair]]:
     """The Pairs of each baseline together."""
     by_baseline: dict[int, list[Pair]] = {}
@@ -337,11 +418,13 @@ def pages(pairs: Sequence[Pair], what: str) -> list[list[Pair]]:
 
 
 def figure_of(pairs: Sequence[Pair], what: str, title: str, new: NewFigure = Figure) -> Figure:
-    """The figure of a page: `what` is page, lags, time or map. `new` makes it: of its own, or in a window."""
+    """The figure of a page: `what` is page, lags, time or map, or for BinPairs bins. `new` makes it: of its own, or in a window."""
     if what == "page":
         return draw_page(new, pairs, title)
     if what == "map":
         return draw_maps(new, pairs, title)
+    if what == "bins":
+        return draw_bin_maps(new, [pair for pair in pairs if isinstance(pair, BinPair)], title)
     return draw_sheet(new, pairs, title, {"lags": draw_lags, "time": draw_time}[what])
 
 

@@ -5,16 +5,23 @@
     scan.cells["re"][integration, product, baseline, lag]
 
 `read` gives a record file's head and cells, `text` the lines that `vlbi JOURNAL dump FILE` prints of it, `journal` how far a
-journal is. Names are texts; a byte that is no UTF-8 is kept as Python keeps it in file names (`surrogateescape`).
+journal is. `read_bins` gives a text of the cells of a pulse's bins:
+
+    found = records.read_bins("pulsar.bins")
+    found.scans[0].cells["re"][integration, product, baseline, bin, lag]
+    found.summed.scans[0].cells["re"][integration, product, baseline, lag]
+
+Names are texts; a byte that is no UTF-8 is kept as Python keeps it in file names (`surrogateescape`).
 """
 from __future__ import annotations
 
 import dataclasses
+import math
 import mmap
 import os
 import stat
-from collections.abc import Callable, Iterator
-from typing import BinaryIO, Protocol, Union
+from collections.abc import Callable, Iterator, Sequence
+from typing import BinaryIO, Protocol, TypeVar, Union
 
 import numpy
 from numpy.typing import NDArray
@@ -23,16 +30,21 @@ from vlbi import job as jobs
 from vlbi.faults import Fault, PlacedFault
 
 MAGIC = b"VLBIVIS1"
+BINS_MAGIC = b"VLBIBIN1"
 JOURNAL_MAGIC = b"VLBIJRN1"
 AXES = ("integration", "product", "baseline", "lag")
+BIN_AXES = ("integration", "product", "baseline", "bin", "lag")
 CELL = numpy.dtype([("re", "<i8"), ("im", "<i8"), ("count", "<u8")])
 PLACE = numpy.dtype([("mark", "u1"), ("scan", "<u4"), ("integration", "<u8"), ("product", "<u4"), ("baseline", "<u4")])
-PLACES = {"mark": 0, "scan": 1, "integration": 5, "product": 13, "baseline": 17}  # where each of its fields begins
+BIN_PLACE = numpy.dtype([*PLACE.descr, ("bin", "<u4")])
+MOST_BINS = 64
 CHECKED = 1 << 16  # records whose marks and numbers are looked at in one go
 
 
 Data = Union[bytes, mmap.mmap]
-Shape = tuple[int, int, int, int]
+Shape = tuple[int, ...]  # the last axis is that of the lags, the others count records
+Baselines = tuple[tuple[int, int], ...]
+S = TypeVar("S", bound="Scan")
 
 
 class RecordFault(PlacedFault):
@@ -42,6 +54,12 @@ class RecordFault(PlacedFault):
     """
 
     FRONT = "no record file: "
+
+
+class BinsFault(RecordFault):
+    """A file that is no text of the cells of bins: the first rule that it breaks, as a RecordFault."""
+
+    FRONT = "no text of the cells of bins: "
 
 
 class JournalFault(PlacedFault):
@@ -136,12 +154,59 @@ class Records:
 
     def scan(self, name: str | int) -> Scan:
         """The first Scan of this name, or the one of this number from 0; LookupError where there is none."""
-        if isinstance(name, int):
-            return self.scans[name]
-        for scan in self.scans:
-            if scan.name == name:
-                return scan
-        raise LookupError(f"no scan {name}")
+        return named(self.scans, name)
+
+
+def named(scans: Sequence[S], name: str | int) -> S:
+    """The first of these scans that has this name, or the one of this number from 0; LookupError where there is none."""
+    if isinstance(name, int):
+        return scans[name]
+    for scan in scans:
+        if scan.name == name:
+            return scan
+    raise LookupError(f"no scan {name}")
+
+
+@dataclasses.dataclass(frozen=True, eq=False)
+class BinScan(Scan):
+    """A scan of a text of the cells of bins: a Scan whose `cells` have the shape (M, P, B, Z, L), axes as in BIN_AXES.
+
+    Bin z of Z has the pairs whose first sample is of a phase from z / Z turns up to (z + 1) / Z. The `means` of a pair have the shape (M, Z, L).
+    """
+
+    def of_bin(self, number: int) -> Scan:
+        """The Scan of the bin of this number from 0."""
+        return Scan(self.head, self.name, self.start, self.samples, self.baselines, self.cells[..., number, :])
+
+    @property
+    def summed(self) -> Scan:
+        """The Scan of all bins together, whose cells are those without bins."""
+        cells = numpy.zeros(self.cells.shape[:3] + self.cells.shape[4:], CELL)
+        for field in CELL.fields or ():
+            self.cells[field].sum(axis=3, out=cells[field])
+        return Scan(self.head, self.name, self.start, self.samples, self.baselines, cells)
+
+
+@dataclasses.dataclass(frozen=True, eq=False)
+class BinRecords:
+    """A text of the cells of bins: the number of bins in a turn, its Head, and a BinScan for each scan that has a baseline."""
+
+    bins: int
+    head: Head
+    scans: tuple[BinScan, ...]
+
+    def scan(self, name: str | int) -> BinScan:
+        """The first BinScan of this name, or the one of this number from 0; LookupError where there is none."""
+        return named(self.scans, name)
+
+    def of_bin(self, number: int) -> Records:
+        """The Records of the bin of this number from 0."""
+        return Records(self.head, tuple(scan.of_bin(number) for scan in self.scans))
+
+    @property
+    def summed(self) -> Records:
+        """The Records of all bins together."""
+        return Records(self.head, tuple(scan.summed for scan in self.scans))
 
 
 def read(path: str) -> Records:
@@ -155,6 +220,19 @@ def read(path: str) -> Records:
     """
     with open(path, "rb") as file:
         return from_bytes(content(file), path)
+
+
+def read_bins(path: str) -> BinRecords:
+    """The BinRecords of the text of the cells of bins at a path, read as `read` reads a record file; BinsFault where it is none."""
+    with open(path, "rb") as file:
+        return bins_from_bytes(content(file), path)
+
+
+def read_either(path: str) -> Records | BinRecords:
+    """What is at a path: BinRecords where it begins with the mark of a text of the cells of bins, else Records; RecordFault where it is neither."""
+    with open(path, "rb") as file:
+        data = content(file)
+    return bins_from_bytes(data, path) if data[:len(BINS_MAGIC)] == BINS_MAGIC else from_bytes(data, path)
 
 
 def content(file: BinaryIO) -> Data:
@@ -174,20 +252,44 @@ def from_bytes(data: Data, path: str | None = None) -> Records:
         raise
 
 
+def bins_from_bytes(data: Data, path: str | None = None) -> BinRecords:
+    """The BinRecords whose text has these bytes; BinsFault where it is none, which names the path."""
+    try:
+        return read_bin_records(BinFront(data))
+    except BinsFault as fault:
+        fault.name_file(path)
+        raise
+
+
 def read_records(front: Front) -> Records:
     """The Records of a whole file."""
+    front.magic()
     head = read_head(front)
-    scans = [read_scan(front, len(head.stations)) for _ in range(front.number(4, 0, 2 ** 32 - 1))]
-    made = []
-    for number, (name, start, samples, baselines) in enumerate(scans):
-        shape = (-(-samples // head.integration), len(head.products), len(baselines), head.lags)
-        made.append(Scan(head, name, start, samples, baselines, read_cells(front, number, shape)))
-    read_end(front, sum(scan.cells[..., 0].size for scan in made))
-    return Records(head, tuple(made))
+    scans = read_scans(front, head)
+    cells = read_all_cells(front, [shape_of(head, samples, baselines) + (head.lags,) for _, _, samples, baselines in scans])
+    return Records(head, tuple(Scan(head, *scan, of_scan) for scan, of_scan in zip(scans, cells)))
+
+
+def read_bin_records(front: BinFront) -> BinRecords:
+    """The BinRecords of a whole text."""
+    front.magic()
+    bins = front.number(4, 2, MOST_BINS)
+    head = read_head(front)
+    scans = read_scans(front, head)
+    cells = read_all_cells(front, [shape_of(head, samples, baselines) + (bins, head.lags) for _, _, samples, baselines in scans])
+    return BinRecords(bins, head, tuple(BinScan(head, *scan, of_scan) for scan, of_scan in zip(scans, cells)))
+
+
+def shape_of(head: Head, samples: int, baselines: Baselines) -> Shape:
+    """The integrations, products and baselines of a scan."""
+    return -(-samples // head.integration), len(head.products), len(baselines)
 
 
 class Front:
     """The bytes of a file, read from the front, and the place up to which they are read."""
+
+    MAGIC, MARK, PLACE = MAGIC, 1, PLACE  # what it begins with, what each record begins with, and its numbers
+    FAULT: type[RecordFault] = RecordFault
 
     def __init__(self, data: Data) -> None:
         self.data = data
@@ -196,15 +298,20 @@ class Front:
     def piece(self, size: int) -> bytes:
         """The next bytes. `Short` at the file's length where it ends before."""
         if len(self.data) - self.at < size:
-            raise RecordFault("Short", len(self.data))
+            raise self.FAULT("Short", len(self.data))
         self.at += size
         return self.data[self.at - size:self.at]
+
+    def magic(self) -> None:
+        """The mark with which the file begins. `Magic` at 0 where it is another one."""
+        if self.piece(8) != self.MAGIC:
+            raise self.FAULT("Magic", 0)
 
     def number(self, size: int, least: int, greatest: int) -> int:
         """The next whole number of so many bytes. `Head` at its first byte where it is out of this range."""
         number = int.from_bytes(self.piece(size), "little")
         if not least <= number <= greatest:
-            raise RecordFault("Head", self.at - size)
+            raise self.FAULT("Head", self.at - size)
         return number
 
     def name(self) -> str:
@@ -212,13 +319,18 @@ class Front:
         return self.piece(self.number(2, 1, 255)).decode("utf-8", "surrogateescape")
 
 
+class BinFront(Front):
+    """The bytes of a text of the cells of bins."""
+
+    MAGIC, MARK, PLACE = BINS_MAGIC, 2, BIN_PLACE
+    FAULT = BinsFault
+
+
 def read_head(front: Front) -> Head:
     """The Head, up to the number of scans."""
-    if front.piece(8) != MAGIC:
-        raise RecordFault("Magic", 0)
     lags = front.number(4, 2, 1024)
     if lags % 2 != 0:
-        raise RecordFault("Head", 8)
+        raise front.FAULT("Head", front.at - 4)
     integration = front.number(8, 1, 2 ** 36)
     rate = front.number(8, 1, 2 ** 32 - 1)
     stations = tuple(front.name() for _ in range(front.number(4, 1, 32)))
@@ -226,7 +338,12 @@ def read_head(front: Front) -> Head:
     return Head(lags, integration, rate, stations, products)
 
 
-def read_scan(front: Front, stations: int) -> tuple[str, int, int, tuple[tuple[int, int], ...]]:
+def read_scans(front: Front, head: Head) -> list[tuple[str, int, int, Baselines]]:
+    """Of each scan its name, start, samples and baselines."""
+    return [read_scan(front, len(head.stations)) for _ in range(front.number(4, 0, 2 ** 32 - 1))]
+
+
+def read_scan(front: Front, stations: int) -> tuple[str, int, int, Baselines]:
     """A scan's name, start, samples and baselines."""
     name = front.name()
     start = front.number(8, 0, 2 ** 32 - 1)
@@ -240,55 +357,63 @@ def read_scan(front: Front, stations: int) -> tuple[str, int, int, tuple[tuple[i
     return name, start, samples, tuple(baselines)
 
 
+def read_all_cells(front: Front, shapes: Sequence[Shape]) -> list[NDArray[numpy.void]]:
+    """The cells of each scan, of these shapes, and the end behind them."""
+    cells = [read_cells(front, number, shape) for number, shape in enumerate(shapes)]
+    read_end(front, sum(math.prod(shape[:-1]) for shape in shapes))
+    return cells
+
+
 def read_cells(front: Front, scan: int, shape: Shape) -> NDArray[numpy.void]:
     """The cells of a scan's records, of this shape, when each record has been found to be the one that is due."""
-    integrations, products, baselines, lags = shape
-    size = PLACE.itemsize + lags * CELL.itemsize
-    due = integrations * products * baselines
+    size = front.PLACE.itemsize + shape[-1] * CELL.itemsize
+    due = math.prod(shape[:-1])
     whole = min(due, (len(front.data) - front.at) // size)
     begins = front.at
     check_places(front, scan, shape, whole, size)
     if whole < due:
-        integration, rest = divmod(whole, products * baselines)
-        check_part(front, (scan, integration, *divmod(rest, baselines)))
-    strides = (products * baselines * size, baselines * size, size, CELL.itemsize)
+        check_part(front, scan, shape, whole)
     if due == 0:
         return numpy.zeros(shape, CELL)
-    return numpy.ndarray(shape, CELL, front.data, begins + PLACE.itemsize, strides)
+    strides = (*(size * math.prod(shape[axis + 1:-1]) for axis in range(len(shape) - 1)), CELL.itemsize)
+    return numpy.ndarray(shape, CELL, front.data, begins + front.PLACE.itemsize, strides)
 
 
 def check_places(front: Front, scan: int, shape: Shape, whole: int, size: int) -> None:
     """Goes over so many whole records. `Order` at the first mark or number that is not the one due."""
-    _, products, baselines, _ = shape
+    names = front.PLACE.names or ()
     for first in range(0, whole, CHECKED):
         count = min(CHECKED, whole - first)
-        places: NDArray[numpy.void] = numpy.ndarray((count,), PLACE, front.data, front.at, (size,))
-        number = numpy.arange(first, first + count, dtype=numpy.uint64)
-        due = {
-            "mark": 1,
-            "scan": scan,
-            "integration": number // (products * baselines),
-            "product": number // baselines % products,
-            "baseline": number % baselines,
-        }
-        wrong = numpy.stack([places[field] != due[field] for field in PLACES], axis=1)
+        places: NDArray[numpy.void] = numpy.ndarray((count,), front.PLACE, front.data, front.at, (size,))
+        due = places_due(front, scan, shape, numpy.arange(first, first + count, dtype=numpy.uint64))
+        wrong = numpy.stack([places[name] != numbers for name, numbers in zip(names, due)], axis=1)
         if wrong.any():
-            record, field = divmod(int(wrong.ravel().argmax()), len(PLACES))
-            raise RecordFault("Order", front.at + record * size + list(PLACES.values())[field])
+            record, field = divmod(int(wrong.ravel().argmax()), len(names))
+            raise front.FAULT("Order", front.at + record * size + sum(front.PLACE[before].itemsize for before in range(field)))
         front.at += count * size
 
 
-def check_part(front: Front, place: tuple[int, int, int, int]) -> None:
-    """Goes over the first part of a record behind which the file ends: `Order`, or else `Short` at the file's length."""
-    for field, due in zip(PLACES, (1, *place)):
-        due_number(front, PLACE[field].itemsize, due)
-    raise RecordFault("Short", len(front.data))
+def places_due(front: Front, scan: int, shape: Shape, records: NDArray[numpy.uint64]) -> list[NDArray[numpy.uint64]]:
+    """The marks and each of the numbers of a scan's records of these numbers, uint64 of their shape."""
+    due = []
+    for many in reversed(shape[1:-1]):
+        due.append(records % numpy.uint64(many))
+        records = records // numpy.uint64(many)
+    return [numpy.full_like(records, front.MARK), numpy.full_like(records, scan), records, *reversed(due)]
+
+
+def check_part(front: Front, scan: int, shape: Shape, record: int) -> None:
+    """Goes over the first part of a record, of this number, behind which the file ends: `Order`, or else `Short` at the file's length."""
+    due = places_due(front, scan, shape, numpy.array([record], numpy.uint64))
+    for field, numbers in enumerate(due):
+        due_number(front, front.PLACE[field].itemsize, int(numbers[0]))
+    raise front.FAULT("Short", len(front.data))
 
 
 def due_number(front: Front, size: int, due: int) -> None:
     """Reads the next number. `Order` at its first byte where it is not the one due."""
     if int.from_bytes(front.piece(size), "little") != due:
-        raise RecordFault("Order", front.at - size)
+        raise front.FAULT("Order", front.at - size)
 
 
 def read_end(front: Front, records: int) -> None:
@@ -296,7 +421,7 @@ def read_end(front: Front, records: int) -> None:
     due_number(front, 1, 0xFF)
     due_number(front, 8, records)
     if front.at < len(front.data):
-        raise RecordFault("AfterEnd", front.at)
+        raise front.FAULT("AfterEnd", front.at)
 
 
 def text(records: Records) -> Iterator[bytes]:

@@ -20,14 +20,14 @@ import numpy
 from vlbi import vex, wavefront
 from vlbi.faults import Fault
 from vlbi.simulate import (
-    MOST_CHANNELS, MOST_STATIONS, CommonNoise, Reals, Receiver, blocks, check_key, check_parts, head_lines, no_progress, station_lines,
+    MOST_CHANNELS, MOST_STATIONS, CommonNoise, Pulse, Reals, Receiver, blocks, check_key, check_parts, head_lines, no_progress, station_lines,
 )
 from vlbi.vdif import Frames, Recording, reference_epoch
 
 
 @dataclasses.dataclass(frozen=True)
 class Asked:
-    """What a schedule does not say, as `simulate.Sky` has it; `air` is whether the dry atmosphere is there."""
+    """What a schedule does not say, as `simulate.Sky` has it; `air` is whether the dry atmosphere is there, and all sources pulse alike."""
 
     common: float = 0.1
     bits: int = 2
@@ -35,6 +35,7 @@ class Asked:
     invalid: float = 0.0
     seed: int = 1
     air: bool = True
+    pulse: Pulse | None = None
 
 
 class Part(NamedTuple):
@@ -162,7 +163,8 @@ class Night:
         self, number: int, fronts: dict[str, Arrival], writers: dict[str, tuple[Recording, Receiver]], progress: Callable[[float], None]
     ) -> None:
         """Adds the recordings of the scan of this number, block by block of whole frames."""
-        scan, frames = self.scans[number], self.frames
+        scan, frames, pulse = self.scans[number], self.frames, self.asked.pulse
+        gate = pulse.gate(scan.start, self.scans[0].start) if pulse else None
         parts = self.parts(scan)
         seen = list(dict.fromkeys((channel.hertz, channel.side) for part in parts for channel in part.one.setup.channels))
         noise = {band: CommonNoise(self.asked.seed + 2 ** 32 * (number + 1), place) for place, band in enumerate(seen)}
@@ -175,7 +177,9 @@ class Night:
                     recording, receiver = writers[part.one.key]
                     bands = [(channel.hertz, channel.side) for channel in part.one.setup.channels]
                     lead = fronts[part.one.key].lead(recorded / self.rate)
-                    recording.add(receiver.codes([noise[band] for band in bands], bands, recorded - lead * self.rate, lead))
+                    wave = recorded - lead * self.rate
+                    on = gate.is_on(wave / self.rate) if gate else None
+                    recording.add(receiver.codes([noise[band] for band in bands], bands, wave, lead, on))
             progress(past / self.rate)
 
 

@@ -1,4 +1,4 @@
-"""Recordings with a true fringe: noise that all stations have in common, each station's own noise, delays and clocks.
+"""Recordings with a true fringe: noise that all stations have in common, always or in pulses, each station's own noise, delays and clocks.
 
     sky = simulate.Sky((simulate.Station("Ef"), simulate.Station("Wb", delay=(4.95e-6, 1e-8), clock=(2.5e-6,))))
     simulate.simulate(sky, "day")
@@ -14,6 +14,7 @@ import functools
 import os
 import re
 from collections.abc import Callable, Iterator, Sequence
+from fractions import Fraction
 from typing import BinaryIO
 
 import numpy
@@ -25,6 +26,7 @@ from vlbi.vdif import Codes, Frames, Recording, reference_epoch
 
 Reals = NDArray[numpy.float64]
 Complexes = NDArray[numpy.complex128]
+Bools = NDArray[numpy.bool_]
 
 THRESHOLD = 0.9957  # the greatest signal to noise of levels -3, -1, +1, +3, in standard deviations of the samples
 BLOCK = 1 << 16     # samples that are made at once
@@ -66,6 +68,55 @@ def polynomial(coefficients: tuple[float, ...], places: Reals) -> Reals:
 
 
 @dataclasses.dataclass(frozen=True)
+class Pulse:
+    """A source that pulses: it is on from each whole phase on for a part of the period, as a pulsar without dispersion.
+
+    period      seconds from a pulse to the next at the epoch
+    duty        the part of a period in which it is on, 0 to 1
+    epoch       the time at which the phase is 0 and a pulse begins, in seconds since 1970-01-01; None for the start of the first scan
+    derivative  seconds that the period gains in each second
+
+    Its time is that of the wave at the place against which the stations' delays are counted. `job.phase_line` says these phases to a job.
+    """
+
+    period: jobs.Number
+    duty: float = 0.1
+    epoch: jobs.Number | None = None
+    derivative: jobs.Number = 0
+
+    def __post_init__(self) -> None:
+        check_parts(self.duty)
+        jobs.phase_turns(0, self.period, self.derivative, 0)
+
+    def turns(self, start: int, first: int) -> tuple[Fraction, ...]:
+        """The phase in turns by powers of the seconds since a scan's start, where the first scan starts at the second `first`; exact."""
+        return jobs.phase_turns(start, self.period, self.derivative, first if self.epoch is None else self.epoch)
+
+    def gate(self, start: int, first: int) -> Gate:
+        """The Gate of a scan that starts at a second, where the first scan starts at the second `first`."""
+        turns = self.turns(start, first)
+        return Gate((float(turns[0] % 1), *map(float, turns[1:])), self.duty)
+
+
+class Gate:
+    """When a source is on in a scan.
+
+    turns  the coefficients of its phase in turns, by powers of the seconds since the scan's start
+    duty   the part of a turn in which it is on
+    """
+
+    def __init__(self, turns: tuple[float, ...], duty: float) -> None:
+        self.turns, self.duty = turns, duty
+
+    def is_on(self, seconds: Reals) -> Bools:
+        """Whether it is on at each of these seconds behind the scan's start."""
+        phase = polynomial(self.turns, seconds)
+        past = phase - numpy.floor(phase)
+        on: Bools = numpy.where(past < 1, past, 0) < self.duty  # a phase just below 0 may be a whole turn past -1
+        return on
+
+
+@dataclasses.dataclass(frozen=True)
 class Sky:
     """What is simulated.
 
@@ -79,6 +130,7 @@ class Sky:
     apart      whether each channel has a thread of its own
     missing, invalid  the parts of the frames that are left out, and that are marked invalid
     seed       of all noise
+    pulse      when the stations have noise in common; None for always
     """
 
     stations: tuple[Station, ...]
@@ -94,6 +146,7 @@ class Sky:
     missing: float = 0.0
     invalid: float = 0.0
     seed: int = 1
+    pulse: Pulse | None = None
 
     def __post_init__(self) -> None:
         if not self.stations or min(self.rate, self.seconds, self.channels) < 1:
@@ -153,11 +206,16 @@ class Sky:
 
     @property
     def knot(self) -> int:
-        """The job's knot: the largest with which a job can hold the delays of all stations."""
+        """The job's knot: the largest with which a job can hold the delays of all stations, and `phase` lines the phases of the pulse."""
         knot = jobs.largest_knot([station.delay for station in self.stations], self.rate)
         if knot is None or jobs.knot_seconds(knot, self.rate) <= self.seconds:
             raise SkyFault("no job can hold these delays over the whole scan")
-        return knot
+        if self.pulse is None:
+            return knot
+        of_pulse = jobs.largest_phase_knot([self.pulse.turns(self.start, self.start)], self.rate)
+        if of_pulse is None or jobs.knot_seconds(of_pulse, self.rate) <= self.seconds:
+            raise SkyFault("no phase line can hold the phases of this pulse over the whole scan")
+        return min(knot, of_pulse)
 
 
 def check_parts(*parts: float) -> None:
@@ -256,15 +314,20 @@ class Receiver:
         self.common, self.bits = common, bits
         self.random = numpy.random.default_rng([seed, 2 ** 21 + number - 1])
 
-    def codes(self, noise: Sequence[CommonNoise], bands: Sequence[tuple[int, str]], wave: Reals, lead: Reals) -> Codes:
+    def codes(
+        self, noise: Sequence[CommonNoise], bands: Sequence[tuple[int, str]], wave: Reals, lead: Reals, on: Bools | None = None
+    ) -> Codes:
         """The codes of the samples of this wave, uint8 of the shape (complete samples, channels).
 
         noise, bands  of each channel the noise in common, and its edge's sky frequency and sideband
         wave, lead    as `wave_at` says them
+        on            whether the source is on at each sample; None where it always is. The levels stay those of the power that it then has
         """
         codes = numpy.empty((len(wave), len(bands)), numpy.uint8)
         for channel, (shared, (hertz, side)) in enumerate(zip(noise, bands)):
             seen = in_common(shared, wave, lead, hertz, side)
+            if on is not None:
+                seen = numpy.where(on, seen, 0.0)
             own = self.random.standard_normal(len(wave))
             codes[:, channel] = codes_of(numpy.sqrt(self.common) * seen + numpy.sqrt(1 - self.common) * own, self.bits)
         return codes
@@ -283,12 +346,14 @@ def write_blocks(sky: Sky, common: list[CommonNoise], files: Sequence[BinaryIO],
     frames, bands = sky.frames, list(zip(sky.frequencies, sky.sides))
     recordings = [Recording(frames, number, file, sky.missing, sky.invalid, sky.seed) for number, file in enumerate(files, 1)]
     receivers = [Receiver(number, sky.common, sky.bits, sky.seed) for number in range(1, len(files) + 1)]
+    gate = sky.pulse.gate(sky.start, sky.start) if sky.pulse else None
     for recording in recordings:
         recording.go_to(sky.start, 0)
     for first, past in blocks(frames, 0, sky.rate * sky.seconds):
         recorded = numpy.arange(first, past, dtype=numpy.float64)
         for station, recording, receiver in zip(sky.stations, recordings, receivers):
-            recording.add(receiver.codes(common, bands, *wave_at(sky, station, recorded)))
+            wave, lead = wave_at(sky, station, recorded)
+            recording.add(receiver.codes(common, bands, wave, lead, gate.is_on(wave / sky.rate) if gate else None))
         progress(past / sky.rate)
 
 

@@ -1,11 +1,10 @@
 //! The text of the cells of a pulse's bins: a head, the records in their order, an end. A record is one of a record file, and
-//! has the number of its bin besides. It stands on `vis_records` for what a head says, on `corr_model` for the texts of names,
-//! baselines and cells, on `byteorder` for numbers in bytes, and on `sink_text` for the bytes on their way to a sink. Each call
+//! has the number of its bin besides. It stands on `vis_records` for what a head says and for the fields that a record file
+//! has too, on `corr_model` for their texts, and on `sink_text` for the bytes on their way to a sink. Each call
 //! appends its text, or a first part of it where the sink fails, and takes no memory.
 #![tactic(auto)]
 
 mod head;
-mod numbers;
 mod record;
 
 pub use head::write_bin_head;

@@ -1,16 +1,14 @@
 //! The records of the text of bins, and its end.
-ghost use Rattle.std.specs.Prelude.{◌≡◌, flat_map};
-ghost use Rattle.corr_model.specs.Records.{cell_text};
+ghost use Rattle.std.specs.Prelude.{◌≡◌};
 ghost use Rattle.sink_text.specs.Appends.{Appends};
-ghost use Rattle.sink_text.specs.Written.{Puts, Ends};
+ghost use Rattle.sink_text.specs.Written.{Puts};
 ghost use Rattle.bin_records.specs.Fronts.{record_front};
 ghost use Rattle.bin_records.specs.Texts.{bin_record_text, bin_end_text};
 
-use crate::numbers::{put_i64, put_u32, put_u64};
 use corr_model::{Cell, RecordAt};
 use dev_traits::Sink;
 use sink_text::Stretch;
-use vis_records::SinkFault;
+use vis_records::{SinkFault, end, put_cells, put_u32, put_u64};
 
 /// Appends the record of a bin with its cells by rising lag, in stretches of up to 8,192 bytes. Where the sink fails, what was
 /// appended before stays.
@@ -39,16 +37,6 @@ pub fn write_bin_end<S: Sink>(count: u64, out: &mut S) -> Result<(), SinkFault>
     end(stretch, out)
 }
 
-// Hands over what is held.
-pub(crate) fn end<S: Sink>(stretch: Stretch, out: &mut S) -> Result<(), SinkFault>
-    ensures { Ends stretch (S.told out.old) (S.told out.new) (S.faults out.old) (S.faults out.new) result }
-{
-    match stretch.finish(out) {
-        Ok(()) => Ok(()),
-        Err(_) => Err(SinkFault::Sink),
-    }
-}
-
 // Puts a record's mark and numbers.
 fn put_place<S: Sink>(at: &RecordAt, bin: u32, stretch: &mut Stretch, out: &mut S)
     ensures { Puts (record_front at.now bin) stretch.old stretch.new (S.told out.old) (S.told out.new) (S.faults out.old) (S.faults out.new) }
@@ -59,22 +47,4 @@ fn put_place<S: Sink>(at: &RecordAt, bin: u32, stretch: &mut Stretch, out: &mut 
     put_u32(at.product, stretch, out);
     put_u32(at.baseline, stretch, out);
     put_u32(bin, stretch, out);
-}
-
-// Puts cells.
-fn put_cells<S: Sink>(cells: &[Cell], stretch: &mut Stretch, out: &mut S)
-    ensures { Puts (flat_map cell_text cells.now) stretch.old stretch.new (S.told out.old) (S.told out.new) (S.faults out.old) (S.faults out.new) }
-{
-    for cell in cells {
-        put_cell(cell, stretch, out);
-    }
-}
-
-// Puts a cell's three numbers.
-fn put_cell<S: Sink>(cell: &Cell, stretch: &mut Stretch, out: &mut S)
-    ensures { Puts (cell_text cell.now) stretch.old stretch.new (S.told out.old) (S.told out.new) (S.faults out.old) (S.faults out.new) }
-{
-    put_i64(cell.re, stretch, out);
-    put_i64(cell.im, stretch, out);
-    put_u64(cell.count, stretch, out);
 }

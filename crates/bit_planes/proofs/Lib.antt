@@ -1,7 +1,3 @@
-pub mod BitLemmas
-pub mod CodeLemmas
-pub mod ValueLemmas
-pub mod TurnLemmas
-pub mod RunLemmas
-pub mod LevelLemmas
-pub mod WrittenLemmas
+pub mod Bits
+pub mod Rows
+pub mod Values

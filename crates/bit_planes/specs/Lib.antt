@@ -1,8 +1,5 @@
-pub mod Word
 pub mod Planes
-pub mod Runs
-pub mod Turns
-pub mod Stretches
-pub mod Filled
+pub mod Shown
+pub mod Ternary
+pub mod Bytes
 pub mod Coded
-pub mod Written

@@ -1,49 +1,101 @@
-//! The nine planes of a word.
-ghost use Rattle.std.specs.Prelude.{◌≡◌, ◌<◌, ◌-◌, ◌/◌, ◌%◌, ◌==◌, ℕ, if◌then◌else◌};
+//! The nine planes of values.
+ghost use Rattle.std.specs.Prelude.{◌≡◌, ◌<◌, ◌≤◌, ◌+◌, ◌^◌, ℕ, length, if◌then◌else◌};
 ghost use Rattle.std.specs.Int.{bit_at};
-ghost use Rattle.bit_planes.specs.Word.{component, word_value};
-ghost use Rattle.bit_planes.specs.Planes.{plane_bit, part_bit};
+ghost use Rattle.byte_streams.specs.Values.{component};
+ghost use Rattle.bit_planes.specs.Planes.{bias};
+ghost use Rattle.bit_planes.specs.Bytes.{AreBytes, value_in};
+ghost use Rattle.bit_planes.specs.Shown.{has_part, has_sign, part_bit, plane_bit};
 
-use crate::{Part, Word};
+use crate::bytes::Bytes;
 
-// The bits of the components that have a part, where they are not 0.
-fn level_bits(part: Part, place: u8) -> u64
-    ensures { (k : ℕ) → k < 64 → bit_at result k ≡ (if place / 2 % 2 == 0 then 1 else bit_at part.three k) }
+// Whether a ternary part of a component is not 0.
+fn has_part(part: u8, x: i8) -> bool
+    ensures { result ≡ has_part part x }
 {
-    if place / 2 % 2 == 0 {
-        u64::MAX
+    if part == 0 {
+        x.unsigned_abs() != 0
     } else {
-        part.three
+        x.unsigned_abs() == 3
     }
 }
 
-// The bits of the components that have a sign, where they are not 0.
-fn sign_bits(part: Part, place: u8) -> u64
-    ensures { (k : ℕ) → k < 64 → bit_at result k ≡ (if place % 2 == 0 then 1 - bit_at part.minus k else bit_at part.minus k) }
+// Whether a component has the sign.
+fn has_sign(sign: u8, x: i8) -> bool
+    ensures { result ≡ has_sign sign x }
 {
-    if place % 2 == 0 {
-        !part.minus
-    } else {
-        part.minus
-    }
+    if sign == 0 { 0 < x } else { x < 0 }
 }
 
-// The bits of a component in the plane of a part and a sign, where there are values.
-fn part_bits(there: u64, part: Part, place: u8) -> u64
-    ensures { (k : ℕ) → k < 64 → bit_at result k ≡ (if bit_at there k == 0 then 0 else part_bit place (component part k)) }
+// Whether the bit of a component is set in the plane of a part and a sign.
+fn part_bit(place: u8, x: i8) -> bool
+    ensures { (if result then 1 else 0) ≡ part_bit place x }
 {
-    there & part.some & level_bits(part, place) & sign_bits(part, place)
+    has_part(place / 2 % 2, x) && has_sign(place % 2, x)
 }
 
-// The bits of a plane.
-pub(crate) fn shown_bits(word: Word, plane: u8) -> u64
-    requires { plane < 9 }
-    ensures { (k : ℕ) → k < 64 → bit_at result k ≡ plane_bit plane (word_value word k) }
+// Whether the bit of a value is set in a plane.
+fn plane_bit(plane: u8, value: Option<(i8, i8)>) -> bool
+    ensures { (if result then 1 else 0) ≡ plane_bit plane value }
 {
+    let Some((re, im)) = value else {
+        return false;
+    };
     if plane == 0 {
-        return word.there;
+        return true;
     }
     let place = plane - 1;
-    let part = if place < 4 { word.re } else { word.im };
-    part_bits(word.there, part, place)
+    part_bit(place, if place / 4 == 0 { re } else { im })
+}
+
+// The number that a byte stands for.
+fn component(byte: u8) -> i8
+    requires { byte ≤ 6 }
+    ensures { result ≡ component bias byte }
+{
+    byte as i8 - 3
+}
+
+// The value at a place, none past the last one.
+fn value_in(bytes: &Bytes, k: usize) -> Option<(i8, i8)>
+    requires { AreBytes bytes.now }
+    ensures { result ≡ value_in bytes.now k }
+{
+    if k >= bytes.there.len() || bytes.there[k] == 0 {
+        return None;
+    }
+    Some((component(bytes.re[k]), component(bytes.im[k])))
+}
+
+fn bit_of(bit: bool) -> u64
+    ensures { result ≡ (if bit then 1 else 0) }
+{
+    u64::from(bit)
+}
+
+// A number whose bits are below bit `k`, with that bit.
+fn with_bit(bits: u64, k: u32, bit: bool) -> u64
+    requires inside { k < 64 }
+    requires below { bits < 2 ^ k }
+    ensures below { result < 2 ^ (k + 1) }
+    ensures before { (j : ℕ) → j < k → bit_at result j ≡ bit_at bits j }
+    ensures here { bit_at result k ≡ (if bit then 1 else 0) }
+{
+    bits | bit_of(bit) << k
+}
+
+// The 64 bits of a plane from that of place `first` on.
+pub(crate) fn word_at(bytes: &Bytes, plane: u8, first: usize) -> u64
+    requires streams { AreBytes bytes.now }
+    requires scan { first ≤ 2 ^ 40 }
+    ensures { (k : ℕ) → k < 64 → bit_at result k ≡ plane_bit plane (value_in bytes.now (first + k)) }
+{
+    let mut word = 0;
+    for k in 0..64_u32 {
+        word = with_bit(
+            word,
+            k,
+            plane_bit(plane, value_in(bytes, first + k as usize)),
+        );
+    }
+    word
 }

@@ -4,7 +4,6 @@ use Rattle.std.proofs.lemmas.Int.{ints}
 use Rattle.corr_model.specs.declared.cell.Cell.{Cell}
 use Rattle.corr_model.specs.Cell.{Value, no_cell, product_of, cell_plus, sum_from}
 use Rattle.corr_model.proofs.CellLemmas.{sum_from-split}
-use Rattle.byte_lags.specs.declared.cell.LagCell.{LagCell}
 use Rattle.block_lags.specs.Cells.{pair_at, lag_cell, IsGrown, HasProducts}
 use Rattle.block_lags.specs.Counts.{IsCounted}
 
@@ -26,7 +25,7 @@ lag_cell-split v w x y lag at n first second =
     let place : 0 + k ≡ k = omega arith in
     ap₂ product_of (ap v here ∙ sym (first k lt) ∙ ap x (sym place)) (ap w there ∙ sym (second k lt) ∙ ap (λ j. y (lag + j)) (sym place))))
 
-pub IsGrown-then : (c d : Cell) (old mid new : LagCell) → IsGrown c old mid → IsGrown d mid new → IsGrown (cell_plus c d) old new
+pub IsGrown-then : (c d : Cell) (old mid new : Cell) → IsGrown c old mid → IsGrown d mid new → IsGrown (cell_plus c d) old new
 IsGrown-then c d old mid new first second =
     record {
       re = omega (arith, ints, first.re, second.re);
@@ -34,7 +33,7 @@ IsGrown-then c d old mid new first second =
       count = omega (arith, first.count, second.count);
     }
 
-pub IsGrown-none : (v w : ℕ → Value) (lag n : ℕ) (cell : LagCell) → n ≡ 0 → IsGrown (lag_cell v w lag n) cell cell
+pub IsGrown-none : (v w : ℕ → Value) (lag n : ℕ) (cell : Cell) → n ≡ 0 → IsGrown (lag_cell v w lag n) cell cell
 unfolding lag_cell
 IsGrown-none v w lag n cell e =
     let none : sum_from (pair_at v w lag) 0 n ≡ no_cell = ap (sum_from (pair_at v w lag) 0) e in
@@ -45,7 +44,7 @@ IsGrown-none v w lag n cell e =
     })
 
 -- the products of pairs, and their number
-pub IsGrown-both : (more : Cell) (pairs : ℕ) (old mid new : LagCell) → HasProducts more old mid → IsCounted pairs mid new → pairs ≡ more.count → IsGrown more old new
+pub IsGrown-both : (more : Cell) (pairs : ℕ) (old mid new : Cell) → HasProducts more old mid → IsCounted pairs mid new → pairs ≡ more.count → IsGrown more old new
 IsGrown-both more pairs old mid new products counted e =
     record {
       re = counted.re ∙ products.re;
@@ -54,7 +53,7 @@ IsGrown-both more pairs old mid new products counted e =
     }
 
 -- a block more
-pub block-more : (v w x y : ℕ → Value) (lag at before size here next : ℕ) (old mid new : LagCell)
+pub block-more : (v w x y : ℕ → Value) (lag at before size here next : ℕ) (old mid new : Cell)
     → before ≡ at → here ≡ size → next ≡ at + size
     → ((k : ℕ) → k < size → x k ≡ v (at + k)) → ((k : ℕ) → k < size → y (lag + k) ≡ w (at + (lag + k)))
     → IsGrown (lag_cell v w lag before) old mid → IsGrown (lag_cell x y lag here) mid new → IsGrown (lag_cell v w lag next) old new

@@ -3,7 +3,7 @@ use Rattle.std.proofs.Common.{◌≡◌, ℕ, ◌+◌, ◌*◌, ◌<◌, ℤ, po
 use Rattle.std.proofs.Math.IntN.{*ℤ-zero, zero-*ℤ}
 use Rattle.std.proofs.lemmas.Int.{ints}
 use Rattle.corr_model.specs.Cell.{Value, product_of}
-use Rattle.byte_lags.specs.declared.cell.LagCell.{LagCell}
+use Rattle.corr_model.specs.declared.cell.Cell.{Cell}
 use Rattle.byte_lags.specs.declared.product.Weights.{Weights}
 use Rattle.byte_lags.specs.Streams.{int_sum, IsAdded}
 use Rattle.byte_lags.proofs.IntProducts.{int_add-mul}
@@ -46,11 +46,11 @@ added : (old a b c p q r s : ℤ) → a ≡ old +ℤ p → b ≡ a +ℤ q → c 
 added old a b c p q r s d e f g = omega (arith, ints)
 
 -- a sum over as many numbers
-pub same-length : (f : Weights) (x y : ℕ → ℤ) (lag m n : ℕ) (old new : LagCell) → m ≡ n → IsAdded f x y lag m old new → IsAdded f x y lag n old new
+pub same-length : (f : Weights) (x y : ℕ → ℤ) (lag m n : ℕ) (old new : Cell) → m ≡ n → IsAdded f x y lag m old new → IsAdded f x y lag n old new
 same-length f x y lag m n old new e h = subst (λ (k : ℕ). IsAdded f x y lag k old new) e h
 
 -- what three products add to a cell, where their terms are the pairs'
-pub added-three : (v w : ℕ → Value) (lag n : ℕ) (f g h : Weights) (x y z t u s : ℕ → ℤ) (old a b c : LagCell)
+pub added-three : (v w : ℕ → Value) (lag n : ℕ) (f g h : Weights) (x y z t u s : ℕ → ℤ) (old a b c : Cell)
     → IsAdded f x y lag n old a → IsAdded g z t lag n a b → IsAdded h u s lag n b c
     → ((k : ℕ) → k < n → f.re *ℤ (x k *ℤ y (lag + k)) +ℤ g.re *ℤ (z k *ℤ t (lag + k)) +ℤ h.re *ℤ (u k *ℤ s (lag + k)) ≡ (pair_at v w lag k).re)
     → ((k : ℕ) → k < n → f.im *ℤ (x k *ℤ y (lag + k)) +ℤ g.im *ℤ (z k *ℤ t (lag + k)) +ℤ h.im *ℤ (u k *ℤ s (lag + k)) ≡ (pair_at v w lag k).im)
@@ -69,7 +69,7 @@ added-three v w lag n f g h x y z t u s old a b c one two three re im =
 no_weights : Weights
 no_weights = record { re = pos 0; im = pos 0 }
 
-added-none : (x y : ℕ → ℤ) (lag n : ℕ) (cell : LagCell) → IsAdded no_weights x y lag n cell cell
+added-none : (x y : ℕ → ℤ) (lag n : ℕ) (cell : Cell) → IsAdded no_weights x y lag n cell cell
 unfolding no_weights
 added-none x y lag n cell = record {
   re = omega (arith, ints);
@@ -80,7 +80,7 @@ added-none x y lag n cell = record {
 and_none : (p q s r : ℤ) → p +ℤ q ≡ s → p +ℤ q +ℤ pos 0 *ℤ r ≡ s
 and_none p q s r e = omega (arith, ints, e)
 
-pub added-two : (v w : ℕ → Value) (lag n : ℕ) (f g : Weights) (x y z t : ℕ → ℤ) (old a b : LagCell)
+pub added-two : (v w : ℕ → Value) (lag n : ℕ) (f g : Weights) (x y z t : ℕ → ℤ) (old a b : Cell)
     → IsAdded f x y lag n old a → IsAdded g z t lag n a b
     → ((k : ℕ) → k < n → f.re *ℤ (x k *ℤ y (lag + k)) +ℤ g.re *ℤ (z k *ℤ t (lag + k)) ≡ (pair_at v w lag k).re)
     → ((k : ℕ) → k < n → f.im *ℤ (x k *ℤ y (lag + k)) +ℤ g.im *ℤ (z k *ℤ t (lag + k)) ≡ (pair_at v w lag k).im)
@@ -94,7 +94,7 @@ added-two v w lag n f g x y z t old a b one two re im =
 just_one : (p s r : ℤ) → p ≡ s → p +ℤ pos 0 *ℤ r ≡ s
 just_one p s r e = omega (arith, ints, e)
 
-pub added-one : (v w : ℕ → Value) (lag n : ℕ) (f : Weights) (x y : ℕ → ℤ) (old a : LagCell)
+pub added-one : (v w : ℕ → Value) (lag n : ℕ) (f : Weights) (x y : ℕ → ℤ) (old a : Cell)
     → IsAdded f x y lag n old a
     → ((k : ℕ) → k < n → f.re *ℤ (x k *ℤ y (lag + k)) ≡ (pair_at v w lag k).re)
     → ((k : ℕ) → k < n → f.im *ℤ (x k *ℤ y (lag + k)) ≡ (pair_at v w lag k).im)

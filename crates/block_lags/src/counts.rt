@@ -1,21 +1,22 @@
 //! How many pairs of values are there at each lag.
 ghost use Rattle.std.specs.Prelude.{◌≡◌, ◌<◌, ◌≤◌, ◌+◌, ◌^◌, ℕ, length, slice_index, slice_index_or};
 ghost use Rattle.byte_sums.specs.Sums.{AreAtMost, lag_sum};
-ghost use Rattle.byte_lags.specs.Streams.{AreWithin, IsWithin, no_cell};
+ghost use Rattle.byte_lags.specs.Streams.{AreWithin, IsWithin};
+ghost use Rattle.corr_model.specs.Cell.{no_cell};
 ghost use Rattle.block_lags.specs.Counts.{IsCounted};
 
 use crate::uniform::are_all;
-use byte_lags::LagCell;
 use byte_sums::lag_sums;
+use corr_model::Cell;
 
 // A cell with so many pairs more.
 #[inline(always)]
-fn counted(old: LagCell, pairs: u32) -> LagCell
+fn counted(old: Cell, pairs: u32) -> Cell
     requires within { old.count ≤ 2 ^ 62 + 2 ^ 61 }
     ensures counted { IsCounted pairs old result }
     ensures within { (most : ℕ) → IsWithin most old → IsWithin (most + 2 ^ 34) result }
 {
-    LagCell {
+    Cell {
         re: old.re,
         im: old.im,
         count: old.count + u64::from(pairs),
@@ -49,7 +50,7 @@ fn pair_counts(first: &[u8], second: &[u8], sums: &mut [u32])
 }
 
 /// Adds to each cell the number of places at which both are 1, the second ones as many places on as the cell's number.
-pub(crate) fn add_counts(first: &[u8], second: &[u8], sums: &mut [u32], cells: &mut [LagCell])
+pub(crate) fn add_counts(first: &[u8], second: &[u8], sums: &mut [u32], cells: &mut [Cell])
     requires first { AreAtMost 1 first.now }
     requires second { AreAtMost 1 second.now }
     requires size { length first.now ≤ 4096 }

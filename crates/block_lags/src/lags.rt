@@ -2,7 +2,8 @@
 ghost use Rattle.std.specs.Prelude.{◌≡◌, ◌<◌, ◌≤◌, ◌+◌, ◌*◌, ◌^◌, ℕ, ℤ, pos, ◌+ℤ◌, length, slice_index_or};
 ghost use Rattle.corr_model.specs.declared.cell.Pair.{Pair};
 ghost use Rattle.corr_model.specs.Cell.{Samples, cell_in};
-ghost use Rattle.byte_lags.specs.Streams.{AreWithin, no_cell};
+ghost use Rattle.byte_lags.specs.Streams.{AreWithin};
+ghost use Rattle.corr_model.specs.Cell.{no_cell};
 ghost use Rattle.byte_streams.specs.Streams.{value_in};
 ghost use Rattle.block_lags.specs.Cells.{IsGrown, lag_cell};
 ghost use Rattle.block_lags.specs.Scans.{AreRows};
@@ -10,8 +11,8 @@ ghost use Rattle.block_lags.specs.Scans.{AreRows};
 use crate::counts::add_counts;
 use crate::pairs::add_pairs;
 use crate::turning::BLOCK;
-use byte_lags::LagCell;
 use byte_streams::Streams;
+use corr_model::Cell;
 
 // Adds to each cell the pairs of a block.
 fn add_block(
@@ -19,7 +20,7 @@ fn add_block(
     second: &Streams,
     numbers: &mut [u8],
     sums: &mut [u32],
-    cells: &mut [LagCell],
+    cells: &mut [Cell],
 )
     requires size { length first.now.there.now ≤ BLOCK }
     requires room { length first.now.there.now + length cells.old ≤ length second.now.there.now }
@@ -52,7 +53,7 @@ pub fn add_lags(
     second: &Streams,
     numbers: &mut [u8],
     sums: &mut [u32],
-    cells: &mut [LagCell],
+    cells: &mut [Cell],
 )
     requires size { length first.now.there.now ≤ 2 ^ 36 }
     requires room { length first.now.there.now + length cells.old ≤ length second.now.there.now }

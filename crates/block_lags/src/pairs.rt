@@ -1,14 +1,15 @@
 //! The products of the values of a block, by as few products of streams as their directions allow.
 ghost use Rattle.std.specs.Prelude.{◌≡◌, ◌<◌, ◌≤◌, ◌+◌, ◌*◌, ◌^◌, ℕ, length, slice_index_or};
-ghost use Rattle.byte_lags.specs.Streams.{AreWithin, no_cell};
+ghost use Rattle.byte_lags.specs.Streams.{AreWithin};
+ghost use Rattle.corr_model.specs.Cell.{no_cell};
 ghost use Rattle.byte_streams.specs.Streams.{value_in};
 ghost use Rattle.block_lags.specs.Cells.{HasProducts, lag_cell};
 
 use crate::side::side_of;
 use crate::still::{add_levels, add_to_level, add_with_level};
 use crate::turning::{BLOCK, add_turning};
-use byte_lags::LagCell;
 use byte_streams::Streams;
+use corr_model::Cell;
 
 // What a sum of two components is at most, of either.
 #[inline(always)]
@@ -27,7 +28,7 @@ pub(crate) fn add_pairs(
     second: &Streams,
     numbers: &mut [u8],
     sums: &mut [u32],
-    cells: &mut [LagCell],
+    cells: &mut [Cell],
 )
     requires size { length first.now.there.now ≤ BLOCK }
     requires room { length first.now.there.now + length cells.old ≤ length second.now.there.now }

@@ -1,13 +1,15 @@
 //! The products of two rows of values of which one or both have one direction: products with levels, by weights.
 ghost use Rattle.std.specs.Prelude.{◌≡◌, ◌<◌, ◌≤◌, ◌+◌, ◌*◌, ◌^◌, ◌+ℤ◌, ◌-ℤ◌, ◌*ℤ◌, neg_ℤ, ℕ, length, slice_index_or};
-ghost use Rattle.byte_lags.specs.Streams.{AreWithin, IsUnit, IsWeight, no_cell};
+ghost use Rattle.byte_lags.specs.Streams.{AreWithin, IsUnit, IsWeight};
+ghost use Rattle.corr_model.specs.Cell.{no_cell};
 ghost use Rattle.byte_streams.specs.Streams.{value_in};
 ghost use Rattle.block_lags.specs.Cells.{HasProducts, lag_cell};
 
 use crate::side::Side;
 use crate::turning::BLOCK;
-use byte_lags::{LagCell, Weights, add_products};
+use byte_lags::{Weights, add_products};
 use byte_streams::Streams;
+use corr_model::Cell;
 
 // The weights of a product of two directions, of which the second one is conjugate.
 #[inline(always)]
@@ -64,7 +66,7 @@ fn exchanged(d: Weights) -> Weights
 }
 
 /// Adds to each cell the products of two rows that each have one direction.
-pub(crate) fn add_levels(a: &Side, b: &Side, greatest: u8, sums: &mut [u32], cells: &mut [LagCell])
+pub(crate) fn add_levels(a: &Side, b: &Side, greatest: u8, sums: &mut [u32], cells: &mut [Cell])
     requires greatest { greatest ≤ 60 }
     requires first { 4 * a.now.row.bias ≤ greatest }
     requires second { 4 * b.now.row.bias ≤ greatest }
@@ -94,7 +96,7 @@ pub(crate) fn add_with_level(
     second: &Streams,
     greatest: u8,
     sums: &mut [u32],
-    cells: &mut [LagCell],
+    cells: &mut [Cell],
 )
     requires greatest { greatest ≤ 60 }
     requires first { 4 * a.now.row.bias ≤ greatest }
@@ -133,7 +135,7 @@ pub(crate) fn add_to_level(
     b: &Side,
     greatest: u8,
     sums: &mut [u32],
-    cells: &mut [LagCell],
+    cells: &mut [Cell],
 )
     requires greatest { greatest ≤ 60 }
     requires first { 4 * first.now.bias ≤ greatest }

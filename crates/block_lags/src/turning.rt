@@ -1,11 +1,13 @@
 //! The products of two rows of complex values, by three products of real ones (Gauss).
 ghost use Rattle.std.specs.Prelude.{◌≡◌, ◌<◌, ◌≤◌, ◌+◌, ◌*◌, ◌^◌, ℕ, length, slice_index_or};
-ghost use Rattle.byte_lags.specs.Streams.{AreWithin, no_cell};
+ghost use Rattle.byte_lags.specs.Streams.{AreWithin};
+ghost use Rattle.corr_model.specs.Cell.{no_cell};
 ghost use Rattle.byte_streams.specs.Streams.{value_in};
 ghost use Rattle.block_lags.specs.Cells.{HasProducts, lag_cell};
 
-use byte_lags::{LagCell, Stream, Weights, add_products};
+use byte_lags::{Stream, Weights, add_products};
 use byte_streams::{Streams, component_differences, component_sums};
+use corr_model::Cell;
 
 /// The samples of a block.
 pub(crate) const BLOCK: usize = 4096;
@@ -17,7 +19,7 @@ pub(crate) fn add_turning(
     greatest: u8,
     numbers: &mut [u8],
     sums: &mut [u32],
-    cells: &mut [LagCell],
+    cells: &mut [Cell],
 )
     requires greatest { greatest ≤ 60 }
     requires first { 4 * first.now.bias ≤ greatest }

@@ -5,8 +5,6 @@
 //! (0, -1), of the imaginary one with the difference at (-1, 0). The sums are exact, and no call takes memory.
 #![tactic(auto)]
 
-mod cell;
 mod product;
 
-pub use cell::LagCell;
 pub use product::{Stream, Weights, add_products};

@@ -1,10 +1,11 @@
 //! Sums of products of two streams of biased bytes at many lags.
 ghost use Rattle.std.specs.Prelude.{◌≡◌, ◌<◌, ◌≤◌, ◌+◌, ◌-◌, ◌*◌, ◌^◌, ℕ, ℤ, pos, ◌+ℤ◌, ◌-ℤ◌, ◌*ℤ◌, length, slice_index_or, unsigned_abs};
 ghost use Rattle.byte_sums.specs.Sums.{AreAtMost};
-ghost use Rattle.byte_lags.specs.Streams.{AreWithin, IsAdded, IsBiased, IsWeight, IsWithin, no_cell, window};
+ghost use Rattle.byte_lags.specs.Streams.{AreWithin, IsAdded, IsBiased, IsWeight, IsWithin, window};
+ghost use Rattle.corr_model.specs.Cell.{no_cell};
 
-use crate::cell::LagCell;
 use byte_sums::lag_sums;
+use corr_model::Cell;
 
 /// Numbers as bytes: each with the bias, which makes it positive.
 #[derive(Clone, Copy)]
@@ -95,7 +96,7 @@ fn grown(old: i64, weight: i64, value: i64) -> i64
 
 // A cell with a number added by weights.
 #[inline(always)]
-fn next_cell(old: LagCell, weights: Weights, value: i64) -> LagCell
+fn next_cell(old: Cell, weights: Weights, value: i64) -> Cell
     requires within { IsWithin (2 ^ 62 + 2 ^ 61) old }
     requires weights { IsWeight weights.re × IsWeight weights.im }
     requires value { unsigned_abs value ≤ 2 ^ 33 }
@@ -104,7 +105,7 @@ fn next_cell(old: LagCell, weights: Weights, value: i64) -> LagCell
     ensures count { result.count ≡ old.count }
     ensures within { (most : ℕ) → IsWithin most old → IsWithin (most + 2 ^ 34) result }
 {
-    LagCell {
+    Cell {
         re: grown(old.re, weights.re, value),
         im: grown(old.im, weights.im, value),
         count: old.count,
@@ -120,7 +121,7 @@ pub fn add_products(
     greatest: u8,
     weights: Weights,
     sums: &mut [u32],
-    cells: &mut [LagCell],
+    cells: &mut [Cell],
 )
     requires biases { (a.now.bias ≤ 30) × (b.now.bias ≤ 30) }
     requires greatest { greatest ≤ 60 }

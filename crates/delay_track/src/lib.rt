@@ -18,6 +18,7 @@ mod turns;
 
 pub use line::nearest;
 pub use model::StationModel;
+pub use piece::Piece;
 pub use runs::{Run, Runs};
 pub use track::Track;
 pub use turns::{Turn, Turns};

@@ -3,13 +3,13 @@ ghost use Rattle.std.specs.Prelude.{◌≤◌, ◌+◌, ◌-◌};
 
 use delay_line::Line;
 
-// The samples from `from` up to, not including, `to`, the first of them `past` samples behind the first knot of a line.
+/// The samples from `from` up to, not including, `to`, the first of them `past` samples behind the first knot of a line.
 #[derive(Clone, Copy)]
-pub(crate) struct Piece {
-    pub(crate) from: u64,
-    pub(crate) to: u64,
-    pub(crate) past: u32,
-    pub(crate) line: Line,
+pub struct Piece {
+    pub from: u64,
+    pub to: u64,
+    pub past: u32,
+    pub line: Line,
     ghost order: { from ≤ to },
     ghost within: { past + (to - from) ≤ line.knot },
 }
@@ -21,8 +21,8 @@ impl Piece {
     ghost use Rattle.delay_line.specs.Stretch.{IsStretch};
     ghost use Rattle.delay_track.specs.Piece.{delay_on};
 
-    // A piece without samples.
-    pub(crate) fn none() -> Piece
+    /// A piece without samples.
+    pub fn none() -> Piece
         ensures { result.to ≡ 0 }
     {
         Piece {
@@ -37,15 +37,15 @@ impl Piece {
         }
     }
 
-    // Whether sample `n` is one of the piece.
-    pub(crate) fn has(&self, n: u64) -> bool
+    /// Whether sample `n` is one of the piece.
+    pub fn has(&self, n: u64) -> bool
         ensures { IsTrue result ↔ ((self.now.from ≤ n) × (n < self.now.to)) }
     {
         self.from <= n && n < self.to
     }
 
-    // How far sample `n` is behind the first knot of the line.
-    fn past(&self, n: u64) -> u32
+    /// How far sample `n` is behind the first knot of the line.
+    pub fn past(&self, n: u64) -> u32
         requires begun { self.now.from ≤ n }
         requires within { n ≤ self.now.to }
         ensures { result ≡ self.now.past + (n - self.now.from) }
@@ -53,8 +53,8 @@ impl Piece {
         self.past + (n - self.from) as u32
     }
 
-    // The delay at sample `n`.
-    pub(crate) fn delay(&self, n: u64) -> i64
+    /// The delay at sample `n`.
+    pub fn delay(&self, n: u64) -> i64
         requires begun { self.now.from ≤ n }
         requires within { n < self.now.to }
         ensures value { result ≡ delay_on self.now n }

@@ -84,8 +84,9 @@ impl<'a> Track<'a> {
         Turns::new(self, hertz, upper, from, to)
     }
 
-    // The piece that has sample `n`, before `to`: this one, or else the one that begins there.
-    fn piece_with(&self, piece: Piece, n: u64, to: u64) -> Piece
+    /// The piece that has sample `n`, before `to`: this one, or else the one that begins there. It ends at a knot, or where the
+    /// next polynomial begins.
+    pub fn piece_with(&self, piece: Piece, n: u64, to: u64) -> Piece
         requires order { n < to }
         requires inside { to ≤ self.now.samples }
         requires within { piece.to ≤ to }

@@ -31,19 +31,6 @@ chans_value-beside chans i p chan n ne =
       | inr q ↦ chans_value-past (slice_set chans i p) chan n (omega (arith, q, length-set chans i p)) ∙ sym (chans_value-past chans chan n q)
     ]
 
--- set to planes of the same values they have the values that they had
-pub chans_value-alike : (chans : List PlanesFields) (i : ℕ) (old new : PlanesFields) → i < length chans → old ≡ get_or chans i old
-    → ((n : ℤ) → plane_value new n ≡ plane_value old n)
-    → (chan : ℕ) (n : ℤ) → chans_value (slice_set chans i new) chan n ≡ chans_value chans chan n
-chans_value-alike chans i old new h is same chan n =
-    elim (cases_eq chan i) [
-      | inl e ↦
-          ap (λ (k : ℕ). chans_value (slice_set chans i new) k n) e
-          ∙ chans_value-set chans i new n h ∙ same n ∙ ap (λ (q : PlanesFields). plane_value q n) is
-          ∙ sym (chans_value-there chans i n old h) ∙ ap (λ (k : ℕ). chans_value chans k n) (sym e)
-      | inr ne ↦ chans_value-beside chans i new chan n ne
-    ]
-
 -- the planes of a station set
 pub planed-set : (stations : List (List PlanesFields)) (i : ℕ) (chans : List PlanesFields) (chan : ℕ) (n : ℤ) → i < length stations
     → planed (slice_set stations i chans) i chan n ≡ chans_value chans chan n
@@ -59,22 +46,6 @@ pub items-at : (stations : List (Vec PlanesFields Global)) (i : ℕ) (v : Vec Pl
 items-at stations i v h is =
     let x = there stations i h in
     mapped items_of stations i x.0 [] h x.1 ∙ ap items_of (sym (is ∙ x.1 v))
-
-pub planed-alike : (stations : List (Vec PlanesFields Global)) (i : ℕ) (old new : Vec PlanesFields Global) → i < length stations
-    → old ≡ get_or stations i old
-    → ((chan : ℕ) (n : ℤ) → chans_value new.items chan n ≡ chans_value old.items chan n)
-    → (station chan : ℕ) (n : ℤ) → planed (map items_of (slice_set stations i new)) station chan n ≡ planed (map items_of stations) station chan n
-planed-alike stations i old new h is same station chan n =
-    ap (λ (s : List (List PlanesFields)). planed s station chan n) (map-set items_of stations i new)
-    ∙ elim (cases_eq station i) [
-      | inl e ↦
-          ap (λ (k : ℕ). planed (slice_set (map items_of stations) i new.items) k chan n) e
-          ∙ planed-set (map items_of stations) i new.items chan n (omega (arith, h, length-map stations items_of))
-          ∙ same chan n
-          ∙ ap (λ (c : List PlanesFields). chans_value c chan n) (sym (items-at stations i old h is))
-          ∙ ap (λ (k : ℕ). planed (map items_of stations) k chan n) (sym e)
-      | inr ne ↦ planed-beside (map items_of stations) i new.items station chan n ne
-    ]
 
 -- one more channel's planes without a value
 pub AreRooms-more : (count : ℕ) (from to : ℤ) (planes : List PlanesFields) (p : PlanesFields) → AreRooms count from to planes
@@ -126,12 +97,6 @@ rooms-none stations chans from to all station chan n =
 pub AllLevelled-none : (stations : List (List PlanesFields)) → ((station chan : ℕ) (n : ℤ) → planed stations station chan n ≡ None)
     → AllLevelled (planed stations)
 AllLevelled-none stations none station chan n = subst (λ (v : Value). IfSome v AreLevelled) (sym (none station chan n)) tt
-
--- so do planes with the values of others
-pub AllLevelled-alike : (old new : List (List PlanesFields))
-    → ((station chan : ℕ) (n : ℤ) → planed new station chan n ≡ planed old station chan n)
-    → AllLevelled (planed old) → AllLevelled (planed new)
-AllLevelled-alike old new same all station chan n = subst (λ (v : Value). IfSome v AreLevelled) (sym (same station chan n)) (all station chan n)
 
 -- a stream's values by the codes of a channel, where a function gives the value of a code and none for the code 0
 stream_value-codes : (f : ℕ → Value) (none : f 0 ≡ None) (s : StreamFields) (chan : ℕ) (codes : List ℕ) (n : ℤ) → get_or s.values chan [] ≡ map f codes
@@ -204,23 +169,17 @@ module _ (s : StreamFields) (old new : List PlanesFields) (long : length new ≡
 pub room-part : (s : StreamFields) (planes : List PlanesFields) → IsRoomOf s planes → All (IsPartOf s) planes
 room-part s planes room k d h =
     let range = room.range.each k d h in
-    record { begin = omega (arith, ints, range.begin); end = omega (arith, ints, range.end); word = begins (get_or planes k d).from range.begin }
-  where
-    begins : (from : ℤ) → from ≡ s.from → unsigned_abs (s.from -ℤ from) % 64 ≡ 0
-    begins from e =
-        let none : unsigned_abs (s.from -ℤ from) ≡ 0 = omega (arith, ints, e) in
-        ap (λ (k : ℕ). k % 64) none
+    record { begin = omega (arith, ints, range.begin); end = omega (arith, ints, range.end) }
 
 -- so are those of a range that the window lies in
 pub range-part : (stations chans : ℕ) (from to : ℤ) (planes : List (List PlanesFields)) (station : ℕ) (s : StreamFields)
     → HaveRange stations chans from to planes → station < stations → from ≤ℤ s.from → s.to ≤ℤ to
-    → unsigned_abs (s.from -ℤ from) % 64 ≡ 0 → All (IsPartOf s) (get_or planes station [])
-range-part stations chans from to planes station s range h begun ended word k d inside =
+    → All (IsPartOf s) (get_or planes station [])
+range-part stations chans from to planes station s range h begun ended k d inside =
     let own = (range.each station [] (omega (arith, h, range.count))).each k d inside in
     record {
       begin = omega (arith, ints, own.begin, begun);
       end = omega (arith, ints, own.end, ended);
-      word = subst (λ (f : ℤ). unsigned_abs (s.from -ℤ f) % 64 ≡ 0) (sym own.begin) word;
     }
 
 -- room holds the stream's values once they are taken

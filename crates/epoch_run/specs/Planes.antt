@@ -1,5 +1,5 @@
--- Planes of bits of the channels of stations.
-use Rattle.std.specs.Prelude.{◌≡◌, ℕ, ◌%◌, ◌^◌, ◌<◌, ℤ, ◌-ℤ◌, ◌≤ℤ◌, ◌<ℤ◌, unsigned_abs, min, List, [], length, Some, None, Vec, option_and_then, slice_get, slice_index_or}
+-- Planes of the channels of stations.
+use Rattle.std.specs.Prelude.{◌≡◌, ℕ, ◌^◌, ◌<◌, ℤ, ◌≤ℤ◌, ◌<ℤ◌, min, List, [], length, Some, None, Vec, option_and_then, slice_get, slice_index_or}
 use Rattle.std.specs.List.{All}
 use Rattle.std.specs.Global.{Global}
 use Rattle.corr_model.specs.declared.cell.Pair.{Pair}
@@ -47,11 +47,10 @@ pub record HaveRange (stations chans : ℕ) (from to : ℤ) (planes : List (List
   pub count : length planes ≡ stations
   pub each : All (AreOfRange chans from to) planes
 
--- a stream's window lies in that of planes, and begins with the first sample of a word
+-- a stream's window lies in that of planes
 pub record IsPartOf (s : StreamFields) (p : PlanesFields) : Type 0 where
   pub begin : p.from ≤ℤ s.from
   pub end : s.to ≤ℤ p.to
-  pub word : unsigned_abs (s.from -ℤ p.from) % 64 ≡ 0
 
 -- planes whose values are those of a stream's channel from the window's first sample on, and the old ones before it
 pub record HasTaken (s : StreamFields) (chan : ℕ) (old new : PlanesFields) : Type 0 where

@@ -15,7 +15,6 @@ mod team;
 mod tests;
 mod values;
 mod window;
-mod words;
 mod work;
 
 pub use planes::EpochPlanes;

@@ -1,4 +1,4 @@
-//! The planes of bits of all channels of an epoch's stations.
+//! The planes of all channels of an epoch's stations.
 ghost use Rattle.std.specs.Prelude.{◌≡◌, ◌≢◌, ◌<◌, ◌≤◌, ◌^◌, ◌≤ℤ◌, ◌<ℤ◌, ℕ, ℤ, pos, None, [], IfOk, length, slice_index_or};
 ghost use Rattle.std.specs.List.{All};
 ghost use Rattle.bit_planes.specs.Planes.{plane_value};
@@ -9,7 +9,6 @@ ghost use Rattle.epoch_run.specs.Planes.{HaveRange, HoldStreams, IsPartOf, plane
 
 use crate::rooms::{rooms, stream_rooms};
 use crate::window::{fill_chans, fill_streams};
-use crate::words::{are_in_runs, write_all};
 use bit_planes::Planes;
 use station_stream::Stream;
 use std::alloc::{AllocError, Global};
@@ -61,7 +60,7 @@ impl EpochPlanes {
     }
 
     /// Sets the values of a station, by its place, at the samples of a stream's window to those of the stream. From the window's first
-    /// sample on, which is the first of a word, the station has no value yet.
+    /// sample on the station has no value yet.
     pub fn fill(&mut self, station: usize, stream: &Stream)
         requires station { station < length self.old }
         requires few { length stream.now.values ≤ 2 ^ 32 }
@@ -78,17 +77,6 @@ impl EpochPlanes {
         fill_chans(stream, &mut self.stations[station]);
     }
 
-    /// Sets words too where the values of some channel are not in runs: a pair is summed by words where one of its channels has no
-    /// runs. The values stay.
-    pub fn finish(&mut self)
-        ensures values { (station chan : ℕ) (n : ℤ) → planed self.new station chan n ≡ planed self.old station chan n }
-        ensures count { length self.new ≡ length self.old }
-    {
-        if !are_in_runs(&self.stations) {
-            write_all(&mut self.stations);
-        }
-    }
-
     /// The planes of streams: station `a` is the stream at place `a`. All room is taken first.
     pub fn build(alloc: Global, streams: &[Stream]) -> Result<EpochPlanes, AllocError>
         ensures { IfOk result (λ p. HoldStreams p streams.now) }
@@ -97,9 +85,7 @@ impl EpochPlanes {
         let nothing = Planes::room(alloc, 0, 0)?;
         let mut stations = stream_rooms(alloc, streams)?;
         fill_streams(streams, &mut stations);
-        let mut planes = EpochPlanes { stations, nothing };
-        planes.finish();
-        Ok(planes)
+        Ok(EpochPlanes { stations, nothing })
     }
 
     /// The planes of a channel of a station, those of nothing where there is no such channel.

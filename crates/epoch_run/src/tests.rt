@@ -231,7 +231,6 @@ fn planed(
 {
     let mut planes = EpochPlanes::room(alloc, spare, 1, 1, 0, 128)?;
     planes.fill(0, stream);
-    planes.finish();
     Ok(planes)
 }
 
@@ -331,7 +330,6 @@ fn planed_by_halves(alloc: Global, shelf: &mut MemShelf) -> Result<EpochPlanes, 
     let mut planes = EpochPlanes::room(alloc, None, 1, 1, 0, 128)?;
     planes.fill(0, &part_of(alloc, shelf, 0, 64)?);
     planes.fill(0, &part_of(alloc, shelf, 64, 128)?);
-    planes.finish();
     Ok(planes)
 }
 

@@ -1,9 +1,3 @@
 pub mod HeldLemmas
 pub mod PartsLemmas
-pub mod WordLemmas
-pub mod MaskLemmas
-pub mod PlaneLemmas
-pub mod IntProducts
-pub mod TurnLemmas
-pub mod RunLemmas
-pub mod SideLemmas
+pub mod RowLemmas

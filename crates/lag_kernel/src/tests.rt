@@ -1,13 +1,12 @@
-//! The cells of planes are those of the values, sample by sample.
+//! The cells of all lags, from values and from planes, are the direct sums.
 ghost use Rattle.std.specs.Prelude.{◌≡◌, ◌+◌, ◌*◌, ◌%◌, ◌==◌, ◌<◌, ◌≤◌, None, slice_index, slice_index_or, unsigned_abs, length, if◌then◌else◌, IfSome};
 ghost use Rattle.corr_model.specs.Cell.{AreSmall, is_inside};
 ghost use Rattle.value_codes.specs.Codes.{value_of};
 ghost use Rattle.lag_kernel.specs.declared.tests.TheConstants.{KINDS};
 
-use crate::sides::Side;
 use crate::{plain_lags, plane_lags};
 use bit_planes::Planes;
-use corr_model::{Cell, Pair, Values};
+use corr_model::{Cell, Pair, Values, plain_cell};
 use std::alloc::{AllocError, Global};
 use std::process::Abort;
 use std::test::Fail;
@@ -31,6 +30,52 @@ const PAIR: Pair = Pair {
     b: 1,
     y: 0,
 };
+
+// The cell of each lag is the direct sum of that lag.
+fn are_direct<V: Values>(v: &V, from: u64, to: u64, samples: u64, cells: &[Cell]) -> bool
+    requires order { from ≤ to }
+    requires inside { to ≤ samples }
+    requires few { samples ≤ 40000 }
+    requires most { length cells.now ≤ 1024 }
+{
+    let back = (cells.len() / 2) as i32;
+    for i in 0..cells.len() {
+        if cells[i] != plain_cell(v, &PAIR, from, to, samples, i as i32 - back) {
+            return false;
+        }
+    }
+    true
+}
+
+// Both ways over a range of a scan of this many samples, at so many lags, all that was in the cells before being lost.
+fn same_lags<V: Values>(
+    rt: &impl Abort,
+    v: &V,
+    a: &Planes,
+    b: &Planes,
+    from: u64,
+    to: u64,
+    samples: u64,
+    lags: usize,
+) -> Result<(), Fail>
+    requires order { from ≤ to }
+    requires inside { to ≤ samples }
+    requires few { samples ≤ 40000 }
+    requires even { lags % 2 ≡ 0 }
+    requires most { lags ≤ 1024 }
+{
+    let mut slow = [Cell::ZERO; 1024];
+    let mut fast = [Cell {
+        re: 7,
+        im: 7,
+        count: 7,
+    }; 1024];
+    plain_lags(v, &PAIR, from, to, samples, &mut slow[..lags]);
+    plane_lags(a, b, from, to, samples, &mut fast[..lags]);
+    assert!(rt; are_direct(v, from, to, samples, &fast[..lags]));
+    assert_eq!(rt; &fast[..lags], &slow[..lags]);
+    Ok(())
+}
 
 // Two stations' values of 200 samples, by the numbers of their kinds: sample 0 of both, sample 1 of both, ..
 #[derive(Drop)]
@@ -66,42 +111,22 @@ fn planes_of(alloc: Global, v: &Mixed, station: u32) -> Result<Planes, AllocErro
     Planes::build(alloc, v, station, 0, 0, 200)
 }
 
-// Both ways over a range of a scan of this many samples, all that was in the cells before being lost.
-fn same_cells(
-    rt: &impl Abort,
-    alloc: Global,
-    v: &Mixed,
-    from: u64,
-    to: u64,
-    samples: u64,
-) -> Result<(), Fail>
-    requires order { from ≤ to }
-    requires inside { to ≤ samples }
-    requires few { samples ≤ 1000 }
-{
-    let (a, b) = (planes_of(alloc, v, 0)?, planes_of(alloc, v, 1)?);
-    let mut slow = [Cell::ZERO; 140];
-    let mut fast = [Cell {
-        re: 7,
-        im: 7,
-        count: 7,
-    }; 140];
-    plain_lags(v, &PAIR, from, to, samples, &mut slow);
-    plane_lags(&a, &b, from, to, samples, &mut fast);
-    assert_eq!(rt; fast.as_slice(), slow.as_slice());
-    Ok(())
-}
-
+// Ranges that end before the scan, with it, and where neither station has values.
 #[test]
 fn plane_lags_are_plain_lags(rt: HostRuntime) -> Result<(), Fail> {
     let alloc = rt.alloc();
-    let v = Mixed::new(1);
-    same_cells(&rt, alloc, &v, 0, 200, 200)?;
-    same_cells(&rt, alloc, &v, 0, 0, 200)?;
-    same_cells(&rt, alloc, &v, 63, 65, 200)?;
-    same_cells(&rt, alloc, &v, 17, 145, 150)?;
-    same_cells(&rt, alloc, &v, 100, 260, 300)?;
-    same_cells(&rt, alloc, &Mixed::new(2), 1, 130, 131)
+    for seed in 1..3_u64 {
+        let v = Mixed::new(seed);
+        let (a, b) = (planes_of(alloc, &v, 0)?, planes_of(alloc, &v, 1)?);
+        same_lags(&rt, &v, &a, &b, 0, 200, 200, 140)?;
+        same_lags(&rt, &v, &a, &b, 0, 0, 200, 140)?;
+        same_lags(&rt, &v, &a, &b, 63, 65, 200, 1024)?;
+        same_lags(&rt, &v, &a, &b, 17, 145, 150, 140)?;
+        same_lags(&rt, &v, &a, &b, 1, 130, 131, 2)?;
+        same_lags(&rt, &v, &a, &b, 100, 260, 300, 140)?;
+        same_lags(&rt, &v, &a, &b, 700, 750, 1000, 1024)?;
+    }
+    Ok(())
 }
 
 // Two stations' values by codes: runs of two directions, and gaps.
@@ -131,16 +156,24 @@ fn second_direction(place: usize) -> Option<u8> {
     }
 }
 
-fn code_of(level: u8, direction: Option<u8>) -> u8 {
+// The code of a level turned by a direction and `turn` more.
+fn code_of(level: u8, direction: Option<u8>, turn: usize) -> u8 {
     match direction {
-        Some(direction) => 8 + 64 * (level % 4) + direction % 8,
+        Some(direction) => 8 + 64 * (level % 4) + (direction % 8 + (turn % 8) as u8) % 8,
         None => 0,
     }
 }
 
 impl Coded {
-    // So many samples, `scale` of them at each place.
-    fn new(alloc: Global, mut seed: u64, samples: usize, scale: usize) -> Result<Coded, AllocError>
+    // So many samples, `scale` of them at each place. From one sample to the next the first station's direction turns by `turn`,
+    // and the second one's by three times as much.
+    fn new(
+        alloc: Global,
+        mut seed: u64,
+        samples: usize,
+        scale: usize,
+        turn: usize,
+    ) -> Result<Coded, AllocError>
         requires { 0 < scale }
     {
         let mut a = Vec::new(alloc);
@@ -149,8 +182,10 @@ impl Coded {
             seed = seed
                 .wrapping_mul(6_364_136_223_846_793_005)
                 .wrapping_add(1_442_695_040_888_963_407);
-            a.push(code_of((seed >> 40 & 3) as u8, first_direction(n / scale)))?;
-            b.push(code_of((seed >> 62) as u8, second_direction(n / scale)))?;
+            let turned = turn % 8 * (n % 8);
+            let (first, second) = (first_direction(n / scale), second_direction(n / scale));
+            a.push(code_of((seed >> 40 & 3) as u8, first, turned))?;
+            b.push(code_of((seed >> 62) as u8, second, 3 * turned))?;
         }
         Ok(Coded { a, b })
     }
@@ -191,57 +226,46 @@ fn filled(alloc: Global, codes: &[u8], from: usize, to: usize) -> Result<Planes,
     Ok(planes)
 }
 
-// Both ways over a range of a scan of this many samples, at so many lags.
-fn same_lags(
-    rt: &impl Abort,
-    v: &Coded,
-    a: &Planes,
-    b: &Planes,
-    from: u64,
-    to: u64,
-    samples: u64,
-    lags: usize,
-) -> Result<(), Fail>
-    requires order { from ≤ to }
-    requires inside { to ≤ samples }
-    requires few { samples ≤ 40000 }
-    requires even { lags % 2 ≡ 0 }
-    requires most { lags ≤ 140 }
-{
-    assert!(rt; Side::of(a).is_some() && Side::of(b).is_some());
-    let mut slow = [Cell::ZERO; 140];
-    let mut fast = [Cell::ZERO; 140];
-    plain_lags(v, &PAIR, from, to, samples, &mut slow[..lags]);
-    plane_lags(a, b, from, to, samples, &mut fast[..lags]);
-    assert_eq!(rt; fast.as_slice(), slow.as_slice());
-    Ok(())
-}
-
-// Ranges that begin and end inside runs and words, over the ends of both stations and of the scan.
+// Ranges that begin and end inside runs, over the ends of both stations and of the scan.
 #[test]
 fn runs_are_plain_lags(rt: HostRuntime) -> Result<(), Fail> {
     let alloc = rt.alloc();
-    let v = Coded::new(alloc, 1, 1400, 1)?;
+    let v = Coded::new(alloc, 1, 1400, 1, 0)?;
     let a = filled(alloc, &v.a, 5, 1305)?;
     let b = filled(alloc, &v.b, 70, 1370)?;
-    same_lags(&rt, &v, &a, &b, 0, 1500, 1500, 140)?;
+    same_lags(&rt, &v, &a, &b, 0, 1500, 1500, 70)?;
     same_lags(&rt, &v, &a, &b, 0, 1500, 1500, 2)?;
-    same_lags(&rt, &v, &a, &b, 0, 1380, 1400, 64)?;
+    same_lags(&rt, &v, &a, &b, 0, 1380, 1400, 32)?;
     same_lags(&rt, &v, &a, &b, 200, 200, 1400, 64)?;
     same_lags(&rt, &v, &a, &b, 266, 1048, 1100, 140)?;
-    for place in 0..64_u64 {
-        same_lags(&rt, &v, &a, &b, 128 + place, 900 - place, 1000, 64)?;
+    for place in 0..4_u64 {
+        same_lags(&rt, &v, &a, &b, 128 + place, 900 - place, 1000, 32)?;
     }
     same_lags(&rt, &v, &a, &b, 700, 1370, 1371, 140)
 }
 
-// A range of more than one block. The second station's planes begin before the first one's, and neither at a whole byte.
+// A range of more than one block. The second station's planes begin before the first one's.
 #[test]
 fn blocks_are_plain_lags(rt: HostRuntime) -> Result<(), Fail> {
     let alloc = rt.alloc();
-    let v = Coded::new(alloc, 2, 36_000, 26)?;
+    let v = Coded::new(alloc, 2, 36_000, 26, 0)?;
     let a = filled(alloc, &v.a, 133, 33_931)?;
     let b = filled(alloc, &v.b, 67, 35_621)?;
-    same_lags(&rt, &v, &a, &b, 9, 35_990, 36_000, 140)?;
-    same_lags(&rt, &v, &a, &b, 101, 33_000, 33_003, 140)
+    same_lags(&rt, &v, &a, &b, 9, 35_990, 36_000, 8)?;
+    same_lags(&rt, &v, &a, &b, 101, 33_000, 33_003, 4)
+}
+
+// Values whose directions turn from sample to sample, at up to 1,024 lags, where the scan ends before the stations and behind them.
+#[test]
+fn turning_values_are_plain_lags(rt: HostRuntime) -> Result<(), Fail> {
+    let alloc = rt.alloc();
+    for turn in 1..4_usize {
+        let v = Coded::new(alloc, 3, 9_800, 7, turn)?;
+        let a = filled(alloc, &v.a, 30, 9_140)?;
+        let b = filled(alloc, &v.b, 1_100, 9_600)?;
+        same_lags(&rt, &v, &a, &b, 3, 9_790, 9_800, 8)?;
+        same_lags(&rt, &v, &a, &b, 4_100, 8_300, 8_303, 10)?;
+        same_lags(&rt, &v, &a, &b, 7_000, 7_060, 7_400, 1024)?;
+    }
+    Ok(())
 }

@@ -243,7 +243,6 @@ fn model<'a>(
     samples: u64,
 ) -> Option<StationModel<'a>>
     ensures samples { IfSome result (λ m. m.samples ≡ samples) }
-    ensures clocks { IfSome result (λ m. m.clocks.now ≡ clocks.now) }
 {
     let in_years = |second: i64| 0 <= second && second < 4_102_444_800;
     let polys_fit = polys.entries().iter().all(|e| in_years(e.second));
@@ -280,7 +279,6 @@ fn track<'a>(
     samples: u64,
 ) -> Option<Track<'a>>
     ensures samples { IfSome result (λ t. t.samples ≡ samples) }
-    ensures clocks { IfSome result (λ t. t.clocks.now ≡ clocks.now) }
 {
     let model = model(polys, clocks, rate, knot, samples)?;
     if !model.has_model() || !model.has_clock() {

@@ -1,12 +1,13 @@
 -- The edges of a bin, and the samples on one side of an edge.
-use Rattle.std.proofs.Common.{◌≡◌, ℕ, zero, suc, ◌-◌, ◌*◌, ◌/◌, ◌%◌, ◌^◌, ◌≤◌, ◌<◌, ℤ, pos, negsuc, neg_ℤ, ◌+ℤ◌, ◌-ℤ◌, ◌*ℤ◌, ◌≤ℤ◌, ◌<ℤ◌, unsigned_abs, sym, ap, ◌∙◌, arith}
+use Rattle.std.proofs.Common.{◌≡◌, ℕ, zero, suc, ◌-◌, ◌*◌, ◌/◌, ◌%◌, ◌^◌, ◌≤◌, ◌<◌, ℤ, pos, negsuc, neg_ℤ, ◌+ℤ◌, ◌-ℤ◌, ◌*ℤ◌, ◌≤ℤ◌, ◌<ℤ◌, unsigned_abs, ⊎_elim, refl, sym, ap, ◌∙◌, arith}
 use Rattle.std.specs.Int.{int_div_euclid, int_rem_euclid}
 use Rattle.std.proofs.Math.Nat.{mul_comm}
-use Rattle.std.proofs.lemmas.Int.{ints, by_lt_z}
-use Rattle.std.proofs.lemmas.Nat.{le-div, mul-le}
-use Rattle.corr_model.specs.Delay.{between, nearest}
+use Rattle.std.proofs.lemmas.Int.{ints}
+use Rattle.std.proofs.lemmas.Nat.{div_below, le-div, mul-le}
+use Rattle.std.proofs.lemmas.Bool.{cases_lt}
+use Rattle.corr_model.specs.Delay.{between}
 use Rattle.delay_line.specs.Interval.{IsIn, IsIntervalOf}
-use Rattle.delay_line.proofs.Floors.{floor_neg-falls, floor_split, floor_unique, rest_below}
+use Rattle.delay_line.proofs.Floors.{floor_neg-not_below, floor_neg-below, floor_neg-falls, floor_split, floor_unique, rest_below}
 use Rattle.delay_line.proofs.Intervals.{rising_interval}
 use Rattle.delay_track.proofs.Samples.{product_sum}
 use Rattle.pulsar_bins.specs.Bin.{past_turn, bin_of}
@@ -95,80 +96,65 @@ same-behind count x next r some small rest is y begun before =
     } in
     same_bin count x y some (interval.same y within)
 
--- a line moved as a whole
-moved-between : (first next by : ℤ) (n k : ℕ) → between (first +ℤ by) (next +ℤ by) n k ≡ between first next n k +ℤ by
-moved-between first next by n k =
-    let rise : (next +ℤ by) -ℤ (first +ℤ by) ≡ next -ℤ first = omega (arith, ints) in
-    rw rise (moves (int_div_euclid ((next -ℤ first) *ℤ pos n) (pos k)))
+-- a line that rises so far in a knot
+rising : (first next : ℤ) (rise k n : ℕ) → pos rise ≡ next -ℤ first → between first next n k ≡ first +ℤ pos (rise * n / k)
+rising first next rise k n e = rw (sym e) refl
+
+pub rising-before : (first next edge : ℤ) (rise gap k n : ℕ) → 0 < k → pos rise ≡ next -ℤ first → pos gap ≡ edge -ℤ first
+    → rise * n < gap * k → between first next n k <ℤ edge
+rising-before first next edge rise gap k n some e g less =
+    let low = div_below (rise * n) k gap some less in
+    rw (rising first next rise k n e) (omega (arith, ints, low, g))
+
+pub before-rising : (first next edge : ℤ) (rise gap k n : ℕ) → 0 < k → pos rise ≡ next -ℤ first → pos gap ≡ edge -ℤ first
+    → between first next n k <ℤ edge → rise * n < gap * k
+before-rising first next edge rise gap k n some e g before =
+    ⊎_elim (λ less. less)
+    (λ more. absurd (past (le-div gap (rise * n) k some more) (rw (rising first next rise k n e) at before)))
+    (cases_lt (rise * n) (gap * k))
   where
-    moves : (part : ℤ) → (first +ℤ by) +ℤ part ≡ (first +ℤ part) +ℤ by
-    moves part = omega (arith, ints)
+    past : gap ≤ rise * n / k → (first +ℤ pos (rise * n / k)) <ℤ edge → ⊥
+    past more less = omega (arith, ints, g)
 
--- The nearest whole turn steps at an edge that is half a turn past one.
-nearest-before : (edge by x : ℤ) → by ≡ pos (2 ^ 31) -ℤ int_rem_euclid edge (pos (2 ^ 32)) → x <ℤ edge
-    → nearest (x +ℤ by) ≤ℤ int_div_euclid edge (pos (2 ^ 32))
-nearest-before edge by x is before =
-    let rest = rest_below (x +ℤ by +ℤ pos (2 ^ 31)) (2 ^ 32) (omega arith) in
-    low (int_div_euclid edge (pos (2 ^ 32))) (nearest (x +ℤ by)) (int_rem_euclid edge (pos (2 ^ 32))) (int_rem_euclid (x +ℤ by +ℤ pos (2 ^ 31)) (pos (2 ^ 32))) rest.0
-    (floor_split edge (2 ^ 32) (omega arith)) (floor_split (x +ℤ by +ℤ pos (2 ^ 31)) (2 ^ 32) (omega arith)) is rest.1
+-- a line that falls so far in a knot
+falling : (first next : ℤ) (fall k n : ℕ) → pos fall ≡ first -ℤ next
+    → between first next n k ≡ first +ℤ int_div_euclid (neg_ℤ (pos (fall * n))) (pos k)
+falling first next fall k n e =
+    let down : next -ℤ first ≡ neg_ℤ (pos fall) = omega (arith, ints, e) in
+    rw (down, neg-product fall n) refl
+
+pub falling-behind : (first next edge : ℤ) (fall gap k n : ℕ) → 0 < k → pos fall ≡ first -ℤ next → pos gap ≡ first -ℤ edge
+    → fall * n ≤ gap * k → edge ≤ℤ between first next n k
+falling-behind first next edge fall gap k n some e g less =
+    let low = floor_neg-not_below (fall * n) k gap some less in
+    rw (falling first next fall k n e) (omega (arith, ints, low, g))
+
+pub behind-falling : (first next edge : ℤ) (fall gap k n : ℕ) → 0 < k → pos fall ≡ first -ℤ next → pos gap ≡ first -ℤ edge
+    → edge ≤ℤ between first next n k → fall * n ≤ gap * k
+behind-falling first next edge fall gap k n some e g behind =
+    ⊎_elim
+    (λ more. absurd (past (floor_neg-below (fall * n) k gap some more) (rw (falling first next fall k n e) at behind)))
+    (λ less. less)
+    (cases_lt (gap * k) (fall * n))
   where
-    low : (q p t u : ℤ) (r : ℕ) → edge ≡ q *ℤ pos (2 ^ 32) +ℤ t → x +ℤ by +ℤ pos (2 ^ 31) ≡ p *ℤ pos (2 ^ 32) +ℤ u → by ≡ pos (2 ^ 31) -ℤ t → u ≡ pos r → p ≤ℤ q
-    low q p t u r a b c d = omega (arith, ints, before)
-
-nearest-behind : (edge by x : ℤ) → by ≡ pos (2 ^ 31) -ℤ int_rem_euclid edge (pos (2 ^ 32)) → edge ≤ℤ x
-    → int_div_euclid edge (pos (2 ^ 32)) <ℤ nearest (x +ℤ by)
-nearest-behind edge by x is behind =
-    let rest = rest_below (x +ℤ by +ℤ pos (2 ^ 31)) (2 ^ 32) (omega arith) in
-    high (int_div_euclid edge (pos (2 ^ 32))) (nearest (x +ℤ by)) (int_rem_euclid edge (pos (2 ^ 32))) (int_rem_euclid (x +ℤ by +ℤ pos (2 ^ 31)) (pos (2 ^ 32))) rest.0
-    (floor_split edge (2 ^ 32) (omega arith)) (floor_split (x +ℤ by +ℤ pos (2 ^ 31)) (2 ^ 32) (omega arith)) is rest.1 rest.2
-  where
-    high : (q p t u : ℤ) (r : ℕ) → edge ≡ q *ℤ pos (2 ^ 32) +ℤ t → x +ℤ by +ℤ pos (2 ^ 31) ≡ p *ℤ pos (2 ^ 32) +ℤ u → by ≡ pos (2 ^ 31) -ℤ t → u ≡ pos r → r < 2 ^ 32 → q <ℤ p
-    high q p t u r a b c d e = omega (arith, ints, behind)
-
--- two phases of one nearest turn are on one side
-apart : (p p' q : ℤ) → p' ≡ p → p ≤ℤ q → q <ℤ p' → ⊥
-apart p p' q same low high = omega (arith, ints)
-
-step-before : (edge by x y : ℤ) → by ≡ pos (2 ^ 31) -ℤ int_rem_euclid edge (pos (2 ^ 32)) → nearest (y +ℤ by) ≡ nearest (x +ℤ by) → x <ℤ edge → y <ℤ edge
-step-before edge by x y is same before =
-    by_lt_z y edge (λ less. less)
-    (λ more. absurd (apart (nearest (x +ℤ by)) (nearest (y +ℤ by)) (int_div_euclid edge (pos (2 ^ 32))) same (nearest-before edge by x is before) (nearest-behind edge by y is more)))
-
-step-behind : (edge by x y : ℤ) → by ≡ pos (2 ^ 31) -ℤ int_rem_euclid edge (pos (2 ^ 32)) → nearest (y +ℤ by) ≡ nearest (x +ℤ by) → edge ≤ℤ x → edge ≤ℤ y
-step-behind edge by x y is same behind =
-    by_lt_z y edge
-    (λ less. absurd (apart (nearest (y +ℤ by)) (nearest (x +ℤ by)) (int_div_euclid edge (pos (2 ^ 32))) (sym same) (nearest-before edge by y is less) (nearest-behind edge by x is behind)))
-    (λ more. more)
-
-pub side-before : (first next edge by : ℤ) (k from n : ℕ) → by ≡ pos (2 ^ 31) -ℤ int_rem_euclid edge (pos (2 ^ 32))
-    → nearest (between (first +ℤ by) (next +ℤ by) n k) ≡ nearest (between (first +ℤ by) (next +ℤ by) from k)
-    → between first next from k <ℤ edge → between first next n k <ℤ edge
-side-before first next edge by k from n is e before =
-    step-before edge by (between first next from k) (between first next n k) is
-    (sym (ap nearest (moved-between first next by n k)) ∙ e ∙ ap nearest (moved-between first next by from k)) before
-
-pub side-behind : (first next edge by : ℤ) (k from n : ℕ) → by ≡ pos (2 ^ 31) -ℤ int_rem_euclid edge (pos (2 ^ 32))
-    → nearest (between (first +ℤ by) (next +ℤ by) n k) ≡ nearest (between (first +ℤ by) (next +ℤ by) from k)
-    → edge ≤ℤ between first next from k → edge ≤ℤ between first next n k
-side-behind first next edge by k from n is e behind =
-    step-behind edge by (between first next from k) (between first next n k) is
-    (sym (ap nearest (moved-between first next by n k)) ∙ e ∙ ap nearest (moved-between first next by from k)) behind
+    past : int_div_euclid (neg_ℤ (pos (fall * n))) (pos k) <ℤ neg_ℤ (pos gap) → edge ≤ℤ (first +ℤ int_div_euclid (neg_ℤ (pos (fall * n))) (pos k)) → ⊥
+    past low high = omega (arith, ints, g)
 
 -- a line that does not fall rises, and one that does not rise falls
 pub between-rises : (first next : ℤ) (k m n : ℕ) → 0 < k → first ≤ℤ next → m ≤ n → between first next m k ≤ℤ between first next n k
 between-rises first next k m n some up order = goes (unsigned_abs (next -ℤ first)) (omega (arith, ints))
   where
-    goes : (rise : ℕ) → next -ℤ first ≡ pos rise → between first next m k ≤ℤ between first next n k
+    goes : (rise : ℕ) → pos rise ≡ next -ℤ first → between first next m k ≤ℤ between first next n k
     goes rise e =
         let more : rise * m ≤ rise * n = mul-le rise m rise n (omega arith) order in
         let high = le-div (rise * m / k) (rise * n) k some (omega arith) in
-        rw e (omega (arith, ints, high))
+        rw (rising first next rise k m e, rising first next rise k n e) (omega (arith, ints, high))
 
 pub between-falls : (first next : ℤ) (k m n : ℕ) → 0 < k → next ≤ℤ first → m ≤ n → between first next n k ≤ℤ between first next m k
 between-falls first next k m n some down order = goes (unsigned_abs (next -ℤ first)) (omega (arith, ints))
   where
-    goes : (fall : ℕ) → next -ℤ first ≡ neg_ℤ (pos fall) → between first next n k ≤ℤ between first next m k
+    goes : (fall : ℕ) → pos fall ≡ first -ℤ next → between first next n k ≤ℤ between first next m k
     goes fall e =
         let more : fall * m ≤ fall * n = mul-le fall m fall n (omega arith) order in
         let low = floor_neg-falls (fall * m) (fall * n) k some more in
-        rw (e, neg-product fall m, neg-product fall n) (omega (arith, ints, low))
+        rw (falling first next fall k m e, falling first next fall k n e) (omega (arith, ints, low))

@@ -3,5 +3,4 @@ pub mod CellLemmas
 pub mod EdgeLemmas
 pub mod EntryLemmas
 pub mod FirstLemmas
-pub mod KnotLemmas
 pub mod ReadLemmas

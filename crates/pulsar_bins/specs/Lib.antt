@@ -8,6 +8,4 @@ pub mod Bins
 pub mod Answer
 pub mod Scans
 pub mod Cells
-pub mod Line
-pub mod Piece
 pub mod Runs

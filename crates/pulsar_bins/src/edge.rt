@@ -1,8 +1,8 @@
 //! How long a bin stays the same on a line of phases.
-ghost use Rattle.std.specs.Prelude.{◌≡◌, ℕ, ℤ, ◌/◌, ◌^◌, ◌≤◌, ◌<◌, pos, ◌+ℤ◌, ◌-ℤ◌, ◌*ℤ◌, ◌≤ℤ◌, ◌<ℤ◌, unsigned_abs};
+ghost use Rattle.std.specs.Prelude.{◌≡◌, ℕ, ℤ, ◌*◌, ◌/◌, ◌^◌, ◌≤◌, ◌<◌, pos, ◌+ℤ◌, ◌-ℤ◌, ◌*ℤ◌, ◌≤ℤ◌, ◌<ℤ◌, unsigned_abs};
 ghost use Rattle.std.specs.Int.{int_rem_euclid};
+ghost use Rattle.corr_model.specs.Delay.{between};
 ghost use Rattle.pulsar_bins.specs.Bin.{bin_of};
-ghost use Rattle.pulsar_bins.specs.Line.{phase_past, IsPhaseLine};
 
 use delay_line::Line;
 
@@ -27,7 +27,7 @@ fn in_phase(part: u64, count: u32) -> i64
 // The first phase of the bin of this one.
 fn first_phase(count: u32, phase: i64) -> i64
     requires some { 0 < count }
-    requires small { unsigned_abs phase < 2 ^ 58 }
+    requires small { unsigned_abs phase < 2 ^ 59 }
     ensures begun { result ≤ℤ phase }
     ensures near { phase <ℤ (result +ℤ pos (2 ^ 32)) }
     ensures same { (y : ℤ) → result ≤ℤ y → y ≤ℤ phase → bin_of count y ≡ bin_of count phase }
@@ -38,7 +38,7 @@ fn first_phase(count: u32, phase: i64) -> i64
 // The first phase behind the bin of this one.
 fn next_phase(count: u32, phase: i64) -> i64
     requires some { 0 < count }
-    requires small { unsigned_abs phase < 2 ^ 58 }
+    requires small { unsigned_abs phase < 2 ^ 59 }
     ensures after { phase <ℤ result }
     ensures near { result ≤ℤ (phase +ℤ pos (2 ^ 32)) }
     ensures same { (y : ℤ) → phase ≤ℤ y → y <ℤ result → bin_of count y ≡ bin_of count phase }
@@ -46,58 +46,85 @@ fn next_phase(count: u32, phase: i64) -> i64
     phase + in_phase((1 << 32) - 1 - past_edge(count, phase), count) + 1
 }
 
-// By how much to move a phase to half a turn past the whole turns.
-fn to_half(phase: i64) -> i64
-    ensures value { result ≡ pos (2 ^ 31) -ℤ int_rem_euclid phase (pos (2 ^ 32)) }
-    ensures bound { unsigned_abs result ≤ 2 ^ 31 }
+// How far one phase is behind another.
+fn gap(low: i64, high: i64) -> u64
+    requires { low ≤ℤ high }
+    ensures { pos result ≡ high -ℤ low }
 {
-    (1 << 31) - phase.rem_euclid(1 << 32)
+    (i128::from(high) - i128::from(low)) as u64
 }
 
-// A line whose phases are so much later.
-fn moved(line: &Line, by: i64) -> Line
-    requires phases { IsPhaseLine line.now }
-    requires near { unsigned_abs by ≤ 2 ^ 31 }
-    ensures first { result.first ≡ line.now.first +ℤ by }
-    ensures next { result.next ≡ line.now.next +ℤ by }
-    ensures knot { result.knot ≡ line.now.knot }
+// A gap of phases times the samples from one knot to the next.
+fn over_knot(gap: u64, knot: u32) -> u128
+    ensures value { result ≡ gap * knot }
+    ensures bound { result < 2 ^ 96 }
 {
-    Line {
-        first: line.first + by,
-        next: line.next + by,
-        knot: line.knot,
-    }
+    u128::from(gap) * u128::from(knot)
 }
 
-// The end of a stretch whose phases are all before an edge as that of `from`, or all not. The whole turns of the line are
-// those of a line moved so that the edge is where the nearest one steps.
-fn side_end(line: &Line, edge: i64, from: u32, to: u32) -> u32
-    requires phases { IsPhaseLine line.now }
+// The end of the samples from `from` on, and before `to`, whose products with a slope are below `top`.
+fn end_below(slope: u64, top: u128, from: u32, to: u32) -> u32
+    requires begun { slope * from < top }
     requires order { from < to }
-    requires within { to ≤ line.now.knot }
     ensures after { from < result }
     ensures within { result ≤ to }
-    ensures before { phase_past line.now from <ℤ edge → (n : ℕ) → from ≤ n → n < result → phase_past line.now n <ℤ edge }
-    ensures behind { edge ≤ℤ phase_past line.now from → (n : ℕ) → from ≤ n → n < result → edge ≤ℤ phase_past line.now n }
+    ensures below { (n : ℕ) → n < result → slope * n < top }
 {
-    moved(line, to_half(edge)).whole_end(from, to)
+    if slope == 0 {
+        return to;
+    }
+    ((top - 1) / u128::from(slope) + 1).min(u128::from(to)) as u32
+}
+
+// The first sample behind `from`, or else `to`, at which a line that does not fall has come to an edge.
+fn rising_end(line: &Line, edge: i64, from: u32, to: u32) -> u32
+    requires rises { line.now.first ≤ℤ line.now.next }
+    requires order { from < to }
+    requires within { to ≤ line.now.knot }
+    requires begun { between line.now.first line.now.next from line.now.knot <ℤ edge }
+    ensures after { from < result }
+    ensures within { result ≤ to }
+    ensures before { (n : ℕ) → n < result → between line.now.first line.now.next n line.now.knot <ℤ edge }
+{
+    let slope = gap(line.first, line.next);
+    end_below(slope, over_knot(gap(line.first, edge), line.knot), from, to)
+}
+
+// The first sample behind `from`, or else `to`, at which a line that does not rise is before an edge.
+fn falling_end(line: &Line, edge: i64, from: u32, to: u32) -> u32
+    requires falls { line.now.next ≤ℤ line.now.first }
+    requires order { from < to }
+    requires within { to ≤ line.now.knot }
+    requires begun { edge ≤ℤ between line.now.first line.now.next from line.now.knot }
+    ensures after { from < result }
+    ensures within { result ≤ to }
+    ensures behind { (n : ℕ) → n < result → edge ≤ℤ between line.now.first line.now.next n line.now.knot }
+{
+    let slope = gap(line.next, line.first);
+    end_below(
+        slope,
+        over_knot(gap(edge, line.first), line.knot) + 1,
+        from,
+        to,
+    )
 }
 
 /// The end of a stretch of one bin from `from` on and before `to`, counted in samples past the line's first knot; the bin may
 /// be the same behind it.
 pub(crate) fn bin_end(line: &Line, count: u32, from: u32, to: u32) -> u32
-    requires phases { IsPhaseLine line.now }
     requires some { 0 < count }
     requires order { from < to }
     requires within { to ≤ line.now.knot }
     ensures after { from < result }
     ensures within { result ≤ to }
-    ensures same { (n : ℕ) → from ≤ n → n < result → bin_of count (phase_past line.now n) ≡ bin_of count (phase_past line.now from) }
+    ensures same { (n : ℕ) → from ≤ n → n < result
+        → bin_of count (between line.now.first line.now.next n line.now.knot)
+        ≡ bin_of count (between line.now.first line.now.next from line.now.knot) }
 {
     let phase = line.delay(from);
     if line.first < line.next {
-        side_end(line, next_phase(count, phase), from, to)
+        rising_end(line, next_phase(count, phase), from, to)
     } else {
-        side_end(line, first_phase(count, phase), from, to)
+        falling_end(line, first_phase(count, phase), from, to)
     }
 }

@@ -2,17 +2,15 @@
 //! own, without a clock, whose units of 2^-32 are those of a turn of the pulse. `read_bins` reads a text of such entries,
 //! `covers` says whether each sample of a plan has a phase, `bin` gives the bin of a sample, `bin_runs` the longest runs of one
 //! bin through a range of samples, and the cells of all bins add up to the cell of the direct sum (`laws`). It stands on
-//! `job_lines` for lines and fields, on `delay_track` for the phase, on `delay_line` for the line between two knots, on
-//! `corr_model` for cells and on `job_plan` for plans. Only `read_bins` takes memory.
+//! `job_lines` for lines and fields, on `delay_track` for the phase and for the pieces in which it lies on one line, on
+//! `delay_line` for that line, on `corr_model` for cells and on `job_plan` for plans. Only `read_bins` takes memory.
 #![tactic(auto)]
 
 mod bins;
 mod edge;
 mod fault;
-mod knots;
 pub mod laws;
 mod phase;
-mod piece;
 mod read;
 mod rows;
 mod runs;

@@ -1,5 +1,5 @@
 //! The bin of a sample.
-ghost use Rattle.std.specs.Prelude.{◌≡◌, ◌≤◌, ◌<◌, []};
+ghost use Rattle.std.specs.Prelude.{◌≡◌, ◌≤◌, ◌<◌};
 ghost use Rattle.delay_track.specs.Track.{model_of};
 ghost use Rattle.pulsar_bins.specs.Bin.{bin_of, bin_at};
 
@@ -21,12 +21,11 @@ pub(crate) fn bin_of(phase: i64, count: u32) -> u32
 }
 
 /// The bin, counted from 0, of sample `n` of a scan, where a turn of the pulse has `count` bins. The track has the phase's
-/// entries in place of a station's polynomials, and no clock.
+/// entries in place of a station's polynomials, and no clock: one would be added to the phase.
 pub fn bin(track: &Track<'_>, count: u32, n: u64) -> u32
     requires inside { n < track.now.samples }
     requires some { 2 ≤ count }
     requires few { count ≤ 64 }
-    requires no_clock { track.now.clocks.now ≡ [] }
     ensures value { result ≡ bin_at count (model_of track.now) n }
     ensures within { result < count }
 {

@@ -1,13 +1,13 @@
 //! Runs of one bin.
-ghost use Rattle.std.specs.Prelude.{◌≡◌, ℕ, ◌≤◌, ◌<◌, ◌-◌, []};
+ghost use Rattle.std.specs.Prelude.{◌≡◌, ℕ, ◌≤◌, ◌<◌, ◌-◌};
+ghost use Rattle.delay_track.specs.Piece.{IsPiece};
 ghost use Rattle.delay_track.specs.Track.{model_of};
 ghost use Rattle.pulsar_bins.specs.Bin.{bin_at};
-ghost use Rattle.pulsar_bins.specs.Piece.{IsPhasePiece};
 ghost use Rattle.pulsar_bins.specs.Runs.{IsBinRun, IsNextBinRun};
 
-use crate::knots::piece_at;
-use crate::piece::Piece;
-use delay_track::Track;
+use crate::edge;
+use crate::phase::bin_of;
+use delay_track::{Piece, Track};
 use std::marker::Model;
 
 /// The samples from `from` up to, not including, `to`, all of which are of one bin, counted from 0.
@@ -30,9 +30,8 @@ pub struct BinRuns<'a> {
     ghost few: { count ≤ 64 },
     ghost order: { at ≤ to },
     ghost inside: { to ≤ track.samples },
-    ghost no_clock: { track.clocks.now ≡ [] },
     ghost within: { piece.to ≤ to },
-    ghost line: { IsPhasePiece (model_of track) piece },
+    ghost line: { IsPiece (model_of track) piece },
 }
 
 impl<'a> Model for BinRuns<'a> {
@@ -44,35 +43,16 @@ impl<'a> Model for BinRuns<'a> {
     ghost view = { λ r. record { model = model_of r.track; count = r.count; at = r.at; to = r.to } };
 }
 
-// The piece that has sample `n`, before `to`: this one, or else the one that begins there.
-fn piece_with(track: &Track<'_>, piece: Piece, n: u64, to: u64) -> Piece
-    requires order { n < to }
-    requires inside { to ≤ track.now.samples }
-    requires no_clock { track.now.clocks.now ≡ [] }
-    requires within { piece.to ≤ to }
-    requires line { IsPhasePiece (model_of track.now) piece }
-    ensures begun { result.from ≤ n }
-    ensures before { n < result.to }
-    ensures within { result.to ≤ to }
-    ensures line { IsPhasePiece (model_of track.now) result }
-{
-    if piece.has(n) {
-        piece
-    } else {
-        piece_at(track, n, to)
-    }
-}
-
 // The bin of sample `n` of a piece.
 fn bin_on(track: &Track<'_>, count: u32, piece: &Piece, n: u64) -> u32
     requires some { 2 ≤ count }
     requires few { count ≤ 64 }
     requires begun { piece.now.from ≤ n }
     requires before { n < piece.now.to }
-    requires line { IsPhasePiece (model_of track.now) piece.now }
+    requires line { IsPiece (model_of track.now) piece.now }
     ensures { result ≡ bin_at count (model_of track.now) n }
 {
-    piece.bin(count, n)
+    bin_of(piece.delay(n), count)
 }
 
 // Up to which sample of a piece the bin is that of sample `n`; it may be the same behind that.
@@ -80,12 +60,13 @@ fn bin_end(track: &Track<'_>, count: u32, piece: &Piece, n: u64) -> u64
     requires some { 2 ≤ count }
     requires begun { piece.now.from ≤ n }
     requires before { n < piece.now.to }
-    requires line { IsPhasePiece (model_of track.now) piece.now }
+    requires line { IsPiece (model_of track.now) piece.now }
     ensures after { n < result }
     ensures within { result ≤ piece.now.to }
     ensures same { (i : ℕ) → n ≤ i → i < result → bin_at count (model_of track.now) i ≡ bin_at count (model_of track.now) n }
 {
-    piece.bin_end(count, n)
+    let past = piece.past(n);
+    n + u64::from(edge::bin_end(&piece.line, count, past, piece.past(piece.to)) - past)
 }
 
 // The run of sample `from`, before `to`, and the piece at its end. A run goes on from one piece to the next, and from one turn
@@ -95,18 +76,17 @@ fn run_from(track: &Track<'_>, count: u32, piece: Piece, from: u64, to: u64) -> 
     requires few { count ≤ 64 }
     requires order { from < to }
     requires inside { to ≤ track.now.samples }
-    requires no_clock { track.now.clocks.now ≡ [] }
     requires within { piece.to ≤ to }
-    requires line { IsPhasePiece (model_of track.now) piece }
+    requires line { IsPiece (model_of track.now) piece }
     ensures run { IsBinRun (model_of track.now) count from to result.0 }
     ensures within { result.1.to ≤ to }
-    ensures line { IsPhasePiece (model_of track.now) result.1 }
+    ensures line { IsPiece (model_of track.now) result.1 }
 {
-    let mut piece = piece_with(track, piece, from, to);
+    let mut piece = track.piece_with(piece, from, to);
     let bin = bin_on(track, count, &piece, from);
     let mut end = bin_end(track, count, &piece, from);
     while end < to {
-        piece = piece_with(track, piece, end, to);
+        piece = track.piece_with(piece, end, to);
         if bin_on(track, count, &piece, end) != bin {
             return (BinRun { from, to: end, bin }, piece);
         }
@@ -116,14 +96,13 @@ fn run_from(track: &Track<'_>, count: u32, piece: Piece, from: u64, to: u64) -> 
 }
 
 /// The longest runs of one bin, in order, through the samples from `from` up to, not including, `to`, where a turn of the pulse
-/// has `count` bins. The track has the phase's entries in place of a station's polynomials, and no clock. The end of a run is
-/// found by division, with no walk over the samples.
+/// has `count` bins. The track has the phase's entries in place of a station's polynomials, and no clock: one would be
+/// added to the phase. The end of a run is found by division, with no walk over the samples.
 pub fn bin_runs<'a>(track: &Track<'a>, count: u32, from: u64, to: u64) -> BinRuns<'a>
     requires some { 2 ≤ count }
     requires few { count ≤ 64 }
     requires order { from ≤ to }
     requires inside { to ≤ track.now.samples }
-    requires no_clock { track.now.clocks.now ≡ [] }
     ensures { result ≡ record { model = model_of track.now; count = count; at = from; to = to } }
 {
     BinRuns {

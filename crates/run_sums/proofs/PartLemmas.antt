@@ -29,24 +29,19 @@ pub count-at : (stations chans : ℕ) (from to : ℤ) (planes : List (List Plane
 count-at stations chans from to planes place range there = (at-place stations chans from to planes place range there).count
 
 IsPartOf-range : (s : StreamFields) (p : PlanesFields) (from to at end : ℕ) → IsOfRange (pos from) (pos to) p → IsOfWindow at end s
-    → from ≤ at → end ≤ to → (at - from) % 64 ≡ 0 → IsPartOf s p
-IsPartOf-range s p from to at end range window begin last word =
+    → from ≤ at → end ≤ to → IsPartOf s p
+IsPartOf-range s p from to at end range window begin last =
     let p_from : p.from ≡ pos from = range.begin in
     let p_to : p.to ≡ pos to = range.end in
     let s_from : s.from ≡ pos at = window.begin in
     let s_to : s.to ≡ pos end = window.end in
-    let far : unsigned_abs (s.from -ℤ p.from) ≡ at - from = omega (arith, ints) in
-    record {
-      begin = omega (arith, ints);
-      end = omega (arith, ints);
-      word = ap (λ (k : ℕ). k % 64) far ∙ word;
-    }
+    record { begin = omega (arith, ints); end = omega (arith, ints) }
 
--- a part that begins with a word of the window lies in the window of each channel's planes
+-- a part of the window lies in the window of each channel's planes
 pub parts-at : (stations chans from to at end : ℕ) (planes : List (List PlanesFields)) (place : ℕ) (s : StreamFields) → HaveRange stations chans (pos from) (pos to) planes → place < stations
-    → IsOfWindow at end s → from ≤ at → end ≤ to → (at - from) % 64 ≡ 0 → All (IsPartOf s) (get_or planes place [])
-parts-at stations chans from to at end planes place s range there window begin last word k d inside =
-    IsPartOf-range s _ from to at end ((at-place stations chans (pos from) (pos to) planes place range there).each k d inside) window begin last word
+    → IsOfWindow at end s → from ≤ at → end ≤ to → All (IsPartOf s) (get_or planes place [])
+parts-at stations chans from to at end planes place s range there window begin last k d inside =
+    IsPartOf-range s _ from to at end ((at-place stations chans (pos from) (pos to) planes place range there).each k d inside) window begin last
 
 -- ---- the values of one part more
 

@@ -1,5 +1,5 @@
 //! The planes of an epoch's stations, read part by part.
-ghost use Rattle.std.specs.Prelude.{◌≡◌, ◌<◌, ◌≤◌, ◌-◌, ◌%◌, pos, ℕ, ℤ, None, IfOk, OnOk, length};
+ghost use Rattle.std.specs.Prelude.{◌≡◌, ◌<◌, ◌≤◌, ◌-◌, pos, ℕ, ℤ, None, IfOk, OnOk, length};
 ghost use Rattle.dev_traits.specs.Told.{WhereTold};
 ghost use Rattle.job_plan.specs.Ranges.{IsPlan, IsScanPlan};
 ghost use Rattle.station_stream.specs.Faults.{CountsReads};
@@ -17,13 +17,12 @@ use std::alloc::{AllocError, Global};
 // The bytes that the codes of a part have, about: so many stay in a processor's cache.
 const CODES: u64 = 262_144;
 
-// The samples of a part of a station with so many channels, whole words.
+// The samples of a part of a station with so many channels.
 fn part_len(chans: u64) -> u64
     ensures some { 0 < result }
-    ensures words { result % 64 ≡ 0 }
     ensures most { result ≤ 262144 }
 {
-    64 * (CODES / 64 / chans.max(1)).max(1)
+    (CODES / chans.max(1)).max(1)
 }
 
 /// Room for the planes of a scan's stations at the samples from `from` up to, not including, `to`, in that of the planes `spare`

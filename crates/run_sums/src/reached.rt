@@ -50,6 +50,5 @@ pub fn reach<F: Shelf>(
         to,
         &mut planes,
     )?;
-    planes.finish();
     Ok(EpochValues { pairs, planes })
 }

@@ -1,4 +1,2 @@
 pub mod ByteLemmas
-pub mod DirectionLemmas
-pub mod LaneLemmas
 pub mod TakeLemmas

@@ -12,14 +12,3 @@ turned_by level direction = turned level (2 * direction)
 
 abbrev pub value_of : ℕ → Value
 value_of code = if code == 0 then None else Some (turned_by (level_of 2 (code / 64 % 4)) (code % 8))
-
--- the two bits of the level's code, and 0 where there is no value
-abbrev pub high_of : ℕ → ℕ
-high_of code = code / 128 % 2
-
-abbrev pub low_of : ℕ → ℕ
-low_of code = code / 64 % 2
-
--- The direction. It says nothing where there is no value.
-abbrev pub direction_of : ℕ → ℕ
-direction_of code = code % 8

@@ -1,15 +1,6 @@
 use super::*;
 use std::test::*;
 
-// Sixteen codes of each level, of the directions 0 to 7 twice.
-fn each_code() -> [u8; 64] {
-    let mut codes = [0; 64];
-    for k in 0..64 {
-        codes[k] = 8 + 64 * (k as u8 / 16) + k as u8 % 8;
-    }
-    codes
-}
-
 #[test]
 fn values_in_bytes(rt: HostRuntime) {
     assert_eq!(rt; value_of(0), None);
@@ -17,59 +8,6 @@ fn values_in_bytes(rt: HostRuntime) {
     assert_eq!(rt; value_of(72 + 4), Some((1, 0)));
     assert_eq!(rt; value_of(200 + 1), Some((3, 3)));
     assert_eq!(rt; value_of(200 + 2), Some((0, 3)));
-}
-
-#[test]
-fn bits_of_each_code(rt: HostRuntime) {
-    let bits = code_bits(&each_code());
-    assert_eq!(rt; bits.there, 0xFFFF_FFFF_FFFF_FFFF);
-    assert_eq!(rt; bits.high, 0xFFFF_FFFF_0000_0000);
-    assert_eq!(rt; bits.low, 0xFFFF_0000_FFFF_0000);
-    assert_eq!(rt;
-        level_bits(&each_code()),
-        (0xFFFF_FFFF_0000_0000, 0xFFFF_0000_FFFF_0000)
-    );
-}
-
-#[test]
-fn directions_of_each_code(rt: HostRuntime) {
-    let codes = each_code();
-    assert_eq!(rt; direction_bits(&codes, 0), 0x0101_0101_0101_0101);
-    assert_eq!(rt; direction_bits(&codes, 3), 0x0808_0808_0808_0808);
-    assert_eq!(rt; direction_bits(&codes, 7), 0x8080_8080_8080_8080);
-}
-
-#[test]
-fn codes_of_one_direction(rt: HostRuntime) {
-    let mut codes = [8 + 128 + 3; 64];
-    codes[5] = 8 + 3;
-    assert!(rt; are_of(&codes, 3));
-    assert!(rt; !are_of(&codes, 2));
-    codes[63] = 0;
-    assert!(rt; !are_of(&codes, 3));
-}
-
-#[test]
-fn codes_without_values(rt: HostRuntime) {
-    let mut codes = [0; 64];
-    assert!(rt; are_none(&codes));
-    assert!(rt; !are_of(&codes, 0));
-    codes[48] = 8;
-    assert!(rt; !are_none(&codes));
-}
-
-#[test]
-fn codes_at_the_borders_of_registers(rt: HostRuntime) {
-    let mut codes = [0; 64];
-    codes[15] = 8 + 192;
-    codes[16] = 8 + 64 + 7;
-    codes[63] = 8 + 128 + 1;
-    let bits = code_bits(&codes);
-    assert_eq!(rt; bits.there, 1 << 15 | 1 << 16 | 1 << 63);
-    assert_eq!(rt; bits.high, 1 << 15 | 1 << 63);
-    assert_eq!(rt; bits.low, 1 << 15 | 1 << 16);
-    assert_eq!(rt; direction_bits(&codes, 1), 1 << 63);
-    assert_eq!(rt; direction_bits(&codes, 7), 1 << 16);
 }
 
 // The byte E4 has the codes 0 to 3, the lowest bits first, and the byte 1B has them the other way round.

@@ -25,6 +25,10 @@ mod writer;
 pub use fault::{VisFault, VisKind};
 pub use head::{VisBaseline, VisHead, VisProduct, VisScan};
 pub use lines::dump;
+pub use numbers::{put_u32, put_u64};
 pub use read::read_all;
 pub use vis::Vis;
-pub use writer::{SinkFault, write_end, write_head, write_record};
+pub use writer::{
+    SinkFault, end, put_cells, put_names, put_products, put_scans, write_end, write_head,
+    write_record,
+};

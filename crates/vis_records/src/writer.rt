@@ -58,8 +58,8 @@ pub fn write_end<S: Sink>(count: u64, out: &mut S) -> Result<(), SinkFault>
     end(stretch, out)
 }
 
-// Hands over what is held.
-pub(crate) fn end<S: Sink>(stretch: Stretch, out: &mut S) -> Result<(), SinkFault>
+/// Hands over what is held.
+pub fn end<S: Sink>(stretch: Stretch, out: &mut S) -> Result<(), SinkFault>
     ensures { Ends stretch (S.told out.old) (S.told out.new) (S.faults out.old) (S.faults out.new) result }
 {
     match stretch.finish(out) {
@@ -79,8 +79,8 @@ fn put_sizes<S: Sink>(head: &VisHead, stretch: &mut Stretch, out: &mut S)
     put_u32(head.stations().len() as u32, stretch, out);
 }
 
-// Puts names.
-fn put_names<S: Sink>(names: &[Name], stretch: &mut Stretch, out: &mut S)
+/// Puts names, each with its length before it.
+pub fn put_names<S: Sink>(names: &[Name], stretch: &mut Stretch, out: &mut S)
     requires { All IsName names.now }
     ensures { Puts (flat_map name_text names.now) stretch.old stretch.new (S.told out.old) (S.told out.new) (S.faults out.old) (S.faults out.new) }
 {
@@ -89,8 +89,8 @@ fn put_names<S: Sink>(names: &[Name], stretch: &mut Stretch, out: &mut S)
     }
 }
 
-// Puts products.
-fn put_products<S: Sink>(products: &[VisProduct], stretch: &mut Stretch, out: &mut S)
+/// Puts products, each by its two names.
+pub fn put_products<S: Sink>(products: &[VisProduct], stretch: &mut Stretch, out: &mut S)
     requires { All AreNames products.now }
     ensures { Puts (flat_map (λ p. product_text (product_of p)) products.now) stretch.old stretch.new (S.told out.old) (S.told out.new) (S.faults out.old) (S.faults out.new) }
 {
@@ -108,8 +108,8 @@ fn put_product<S: Sink>(product: &VisProduct, stretch: &mut Stretch, out: &mut S
     put_name(&product.y, stretch, out);
 }
 
-// Puts scans.
-fn put_scans<S: Sink>(scans: &[VisScan], stretch: &mut Stretch, out: &mut S)
+/// Puts scans, each with its baselines.
+pub fn put_scans<S: Sink>(scans: &[VisScan], stretch: &mut Stretch, out: &mut S)
     requires { All IsShort scans.now }
     ensures { Puts (flat_map (λ s. scan_text (scan_of s)) scans.now) stretch.old stretch.new (S.told out.old) (S.told out.new) (S.faults out.old) (S.faults out.new) }
 {
@@ -158,8 +158,8 @@ fn put_place<S: Sink>(at: &RecordAt, stretch: &mut Stretch, out: &mut S)
     put_u32(at.baseline, stretch, out);
 }
 
-// Puts cells.
-fn put_cells<S: Sink>(cells: &[Cell], stretch: &mut Stretch, out: &mut S)
+/// Puts cells, each by its three numbers.
+pub fn put_cells<S: Sink>(cells: &[Cell], stretch: &mut Stretch, out: &mut S)
     ensures { Puts (flat_map cell_text cells.now) stretch.old stretch.new (S.told out.old) (S.told out.new) (S.faults out.old) (S.faults out.new) }
 {
     for cell in cells {

@@ -3,9 +3,11 @@ ghost use Rattle.std.specs.Prelude.{◌<◌};
 
 use crate::texts::{append_run, append_runs};
 use anyhow::{Result, bail};
-use std::alloc::Global;
+use rand_core::{Rng, SeedableRng};
+use rand_xoshiro::SplitMix64;
+use std::alloc::{AllocError, Global};
 
-/// A frame: the fields of its header, and its data.
+/// A frame: the fields of its header, and its data, behind which come so many words of noise.
 #[derive(Drop)]
 pub struct Frame {
     epoch: u32,
@@ -16,6 +18,8 @@ pub struct Frame {
     bits: u32,
     chans: u32,
     data: Vec<u8>,
+    seed: u32,
+    noise: u32,
     invalid: bool,
     legacy: bool,
     complex: bool,
@@ -33,6 +37,8 @@ impl Frame {
             bits: 2,
             chans: 0,
             data: Vec::new(alloc),
+            seed: 0,
+            noise: 0,
             invalid: false,
             legacy: false,
             complex: false,
@@ -41,7 +47,7 @@ impl Frame {
             let (name, value) = word.split_once('=').unwrap_or((word, ""));
             frame.set(name, value)?;
         }
-        if frame.data.is_empty() {
+        if frame.data.is_empty() && frame.noise == 0 {
             append_run(&mut frame.data, 0xFF, 8)?;
         }
         Ok(frame)
@@ -58,6 +64,8 @@ impl Frame {
             "bits" => self.bits = value.parse::<u32>()?,
             "chans" => self.chans = value.parse::<u32>()?,
             "data" => append_runs(&mut self.data, value)?,
+            "seed" => self.seed = value.parse::<u32>()?,
+            "noise" => self.noise = value.parse::<u32>()?,
             "invalid" => self.invalid = true,
             "legacy" => self.legacy = true,
             "complex" => self.complex = true,
@@ -71,19 +79,19 @@ impl Frame {
         self.append_as(self.number, bytes)
     }
 
-    /// Appends so many such frames, numbered from 0 on.
+    /// Appends so many such frames, numbered from its own number on.
     pub fn append_many(&self, count: u32, bytes: &mut Vec<u8>) -> Result<()> {
         for number in 0..count {
-            self.append_as(number, bytes)?;
+            self.append_as(self.number.saturating_add(number), bytes)?;
         }
         Ok(())
     }
 
-    // Appends the frame with this number: four words, the lowest byte of each first, four words of zeros unless it is legacy, and
-    // the data. The length is that of what is appended.
+    // Appends the frame with this number: four words, the lowest byte of each first, four words of zeros unless it is legacy, the
+    // data and the noise. The length is that of what is appended.
     fn append_as(&self, number: u32, bytes: &mut Vec<u8>) -> Result<()> {
         let rest = if self.legacy { 0 } else { 16 };
-        let units = (16 + rest + self.data.len()) / 8;
+        let units = (16 + rest + self.data.len() + 8 * self.noise as usize) / 8;
         let w0 = mark(self.invalid, 31) | mark(self.legacy, 30) | (self.second % (1 << 30));
         let w1 = ((self.epoch % 64) << 24) | (number % (1 << 24));
         let w2 = ((self.chans % 32) << 24) | ((units % (1 << 24)) as u32);
@@ -96,8 +104,25 @@ impl Frame {
         }
         append_run(bytes, 0, rest as u32)?;
         bytes.extend_from_slice(&self.data)?;
+        append_noise(bytes, self.state_at(number), self.noise)?;
         Ok(())
     }
+
+    // With what the noise of the frame of this number begins.
+    fn state_at(&self, number: u32) -> u64 {
+        (u64::from(self.seed) << 32)
+            | (u64::from(self.second % 65536) << 16)
+            | u64::from(number % 65536)
+    }
+}
+
+// Appends so many words, the lowest byte of each first.
+fn append_noise(bytes: &mut Vec<u8>, state: u64, words: u32) -> Result<(), AllocError> {
+    let mut noise = SplitMix64::seed_from_u64(state);
+    for _ in 0..words {
+        bytes.extend_from_slice(&noise.next_u64().to_le_bytes())?;
+    }
+    Ok(())
 }
 
 // A mark at this bit.

@@ -1,9 +1,10 @@
-"""The command `vlbi-plot`: pictures of a record file.
+"""The command `vlbi-plot`: pictures of a record file, or of a text of the cells of bins.
 
     vlbi-plot sky.vis                    in a window
     vlbi-plot sky.vis sky.png            into a file
     vlbi-plot --what map --baseline Ef-Wb --product CH01,CH01 sky.vis sky.png
     vlbi-plot --certificate sky.peaks sky.vis sky.png
+    vlbi-plot pulsar.bins pulsar.png
 """
 from __future__ import annotations
 
@@ -19,7 +20,7 @@ from vlbi.faults import Fault
 
 if TYPE_CHECKING:
     from vlbi.plot import Pair
-    from vlbi.records import Records, Scan
+    from vlbi.records import BinRecords, Records, Scan
 
 NAME = "vlbi-plot"
 NAMED = 12  # names in a line that says which there are
@@ -32,10 +33,11 @@ def main(words: Sequence[str] | None = None) -> int:
 
 def parser() -> argparse.ArgumentParser:
     made = parser_of(NAME, "Pictures of a record file of the correlator vlbi.")
-    made.add_argument("records", help="the record file")
+    made.add_argument("records", help="the record file, or the text of the cells of bins")
     made.add_argument("picture", nargs="?", help="a PNG, PDF or SVG that is written; a window where none is named")
-    made.add_argument("--what", choices=("page", "lags", "time", "map"), default="page",
-                      help="all three in a row for each fringe (page); amplitude and phase over lag; over time; lag against residual rate")
+    made.add_argument("--what", choices=("page", "lags", "time", "map", "bins"),
+                      help="all three in a row for each fringe (page); amplitude and phase over lag; over time; lag against residual rate; of a text of "
+                      "the cells of bins, amplitude over bin and lag (bins), where the others draw the sum over its bins")
     made.add_argument("--scan", default="0", help="a scan by its name, or by its number from 0 (0)")
     made.add_argument("--baseline", action="append", default=[], metavar="A-B", help="a baseline, more than once for more (all)")
     made.add_argument("--product", action="append", default=[], metavar="X,Y", help="a product, more than once for more (all)")
@@ -53,14 +55,16 @@ def plot(given: argparse.Namespace) -> int:
 
     if given.picture:
         pictures.check_picture(given.picture)
-    found = records.read(given.records)
-    certified = certificate.read(given.certificate, found) if given.certificate else None
+    found = records.read_either(given.records)
+    what = given.what or ("bins" if isinstance(found, records.BinRecords) else "page")
+    check_kind(found, what, given)
+    certified = certificate.read(given.certificate, found) if given.certificate and isinstance(found, records.Records) else None
     try:
         scan = chosen_scan(found, given.scan)
-        pairs = chosen_pairs(scan, given)
-        if certified:
+        pairs = chosen_pairs(scan.summed if isinstance(scan, records.BinScan) and what != "bins" else scan, given)
+        if certified and isinstance(found, records.Records):
             pictures.certify(pairs, certified, found.scans.index(scan))
-        pages = pictures.pages(pairs, given.what)
+        pages = pictures.pages(pairs, what)
         if len(pages) > 1 and not given.pages:
             print(f"{NAME}: {given.records}: the first {len(pages[0])} of {len(pairs)} fringes; --baseline and --product choose others, "
                   f"--pages draws all on {len(pages)} pages", file=sys.stderr)
@@ -68,17 +72,27 @@ def plot(given: argparse.Namespace) -> int:
         begins = time.strftime("%Y-%m-%d %H:%M:%S", time.gmtime(scan.start))
         title = f"{os.path.basename(given.records)}   scan {scan.name}   {begins} UTC   {scan.samples / found.head.rate:g} s"
         if given.picture:
-            for path in pictures.save(pages, given.what, title, given.picture, given.dpi):
+            for path in pictures.save(pages, what, title, given.picture, given.dpi):
                 print(path)
         else:
-            pictures.show(pages, given.what, title)
+            pictures.show(pages, what, title)
     except Fault as fault:
         fault.name_file(given.records)
         raise
     return 0
 
 
-def chosen_scan(found: Records, name: str) -> Scan:
+def check_kind(found: Records | BinRecords, what: str, given: argparse.Namespace) -> None:
+    """Fault where what is asked is not for a file of this kind."""
+    from vlbi.records import BinRecords
+
+    if what == "bins" and not isinstance(found, BinRecords):
+        raise Fault("this is a record file, and --what bins is for a text of the cells of bins", given.records)
+    if given.certificate and isinstance(found, BinRecords):
+        raise Fault("this is a text of the cells of bins, and a certificate is of a record file", given.records)
+
+
+def chosen_scan(found: Records | BinRecords, name: str) -> Scan:
     """The scan of this name, or else of this number; Fault where there is none, or nothing in it."""
     try:
         scan = found.scan(name)

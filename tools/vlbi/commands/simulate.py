@@ -18,10 +18,14 @@ from __future__ import annotations
 import argparse
 import sys
 from collections.abc import Callable, Sequence
-from typing import NamedTuple
+from fractions import Fraction
+from typing import TYPE_CHECKING, NamedTuple
 
 from vlbi.commands import Progress, parser_of, told
 from vlbi.faults import Fault
+
+if TYPE_CHECKING:
+    from vlbi.simulate import Pulse
 
 NAME = "vlbi-simulate"
 STATED = {           # what a schedule says, and what is taken without one
@@ -29,6 +33,7 @@ STATED = {           # what a schedule says, and what is taken without one
     "apart": False, "blind_integration": None,
 }
 OF_SKY = ("scan", "no_atmosphere")  # what counts with a schedule alone
+OF_PULSES = ("duty", "pulse_epoch", "period_derivative")  # what counts with a period alone
 
 
 class Asked(NamedTuple):
@@ -60,6 +65,11 @@ def parser() -> argparse.ArgumentParser:
     made.add_argument("--frequency", type=int, metavar="HZ", help="sky frequency of the first channel's edge (8400000000)")
     made.add_argument("--sideband", metavar="U|L..", help="of all channels, or a letter for each, as UULL (U)")
     made.add_argument("--common", type=float, default=0.1, help="part of a station's power that all have in common (0.1)")
+    made.add_argument("--period", type=exact_number, metavar="S", help="the source pulses, with this period in seconds; else it is always on")
+    made.add_argument("--duty", type=float, metavar="PART", help="part of each period in which it is on (0.1)")
+    made.add_argument("--pulse-epoch", type=exact_number, metavar="MJD",
+                      help="modified julian date in UTC at which a pulse begins (the start of the first scan)")
+    made.add_argument("--period-derivative", type=exact_number, metavar="S/S", help="seconds that the period gains in each second (0)")
     made.add_argument("--bits", type=int, choices=(1, 2), default=2, help="bits in a sample (2)")
     made.add_argument("--apart", action="store_true", default=None, help="each channel in a thread of its own; so it is where their number is no power of two")
     made.add_argument("--missing", type=float, default=0, help="part of the frames that are left out (0)")
@@ -93,6 +103,30 @@ def station_of(words: str) -> Asked:
     return made
 
 
+def exact_number(word: str) -> Fraction:
+    """A number as it is written, with all its digits."""
+    try:
+        return Fraction(word)
+    except (ValueError, ZeroDivisionError):
+        raise argparse.ArgumentTypeError(f"no number: {word}") from None
+
+
+def pulse_of(given: argparse.Namespace) -> Pulse | None:
+    """How the source pulses; None where it does not."""
+    from vlbi import job
+    from vlbi.simulate import Pulse
+
+    if given.period is None:
+        for word in OF_PULSES:
+            if getattr(given, word) is not None:
+                raise Fault(f"{option(word)} goes with --period")
+        return None
+    return Pulse(
+        given.period, 0.1 if given.duty is None else given.duty, None if given.pulse_epoch is None else job.mjd_second(given.pulse_epoch),
+        given.period_derivative or 0,
+    )
+
+
 def simulate(given: argparse.Namespace) -> int:
     """Makes what is asked; the exit status."""
     from vlbi import job
@@ -112,7 +146,7 @@ def simulate(given: argparse.Namespace) -> int:
     sky = made.Sky(
         stations=tuple(stations), rate=given.rate, seconds=given.seconds, start=start, channels=given.channels, frequency=given.frequency,
         sideband=given.sideband, common=given.common, bits=given.bits, apart=given.apart or given.channels & (given.channels - 1) != 0,
-        missing=given.missing, invalid=given.invalid, seed=given.seed,
+        missing=given.missing, invalid=given.invalid, seed=given.seed, pulse=pulse_of(given),
     )
     paths = made.simulate(
         sky, given.folder, given.lags, given.integration, given.blind_integration, given.auto, progress_of(given, sky.seconds)
@@ -129,8 +163,9 @@ def observe(given: argparse.Namespace) -> int:
     for word in STATED:
         if getattr(given, word) is not None:
             raise Fault(f"{option(word)} does not go with --sky: the schedule says that")
+    pulse = pulse_of(given)
     schedule = vex.read(given.sky)
-    asked = scheduled.Asked(given.common, given.bits, given.missing, given.invalid, given.seed, not given.no_atmosphere)
+    asked = scheduled.Asked(given.common, given.bits, given.missing, given.invalid, given.seed, not given.no_atmosphere, pulse)
     night = scheduled.Night(schedule, vex.chosen_scans(schedule, given.scan), asked)
     text = night.job_text(given.lags, given.integration, given.auto)
     for path in night.write(given.folder, text, progress_of(given, night.seconds)):

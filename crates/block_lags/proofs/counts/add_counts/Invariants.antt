@@ -1,7 +1,8 @@
 -- The cells so far have their pairs, and the others are as they were.
 use Rattle.std.proofs.Common.{◌≡◌, ◌<◌, ◌≤◌, ◌+◌, ◌^◌, ℕ, length, slice_index_or}
 use Rattle.byte_sums.specs.Sums.{lag_sum}
-use Rattle.byte_lags.specs.Streams.{AreWithin, no_cell}
+use Rattle.byte_lags.specs.Streams.{AreWithin}
+use Rattle.corr_model.specs.Cell.{no_cell}
 use Rattle.block_lags.specs.Counts.{IsCounted}
 use Rattle.block_lags.proofs.counts.add_counts.Given as goal
 

@@ -1,7 +1,7 @@
 use Rattle.std.proofs.Common.{◌≡◌, ◌+◌, ◌*◌, ◌^◌, ◌<◌, ℕ, refl, subst, ◌∙◌, min, length, arith, slice_index_or}
 use Rattle.std.proofs.lemmas.Grind.{div_ceil_times}
 use Rattle.corr_model.specs.declared.cell.Cell.{Cell}
-use Rattle.byte_lags.specs.Streams.{no_cell}
+use Rattle.corr_model.specs.Cell.{no_cell}
 use Rattle.byte_streams.specs.Streams.{value_in}
 use Rattle.block_lags.specs.Cells.{IsGrown, lag_cell}
 use Rattle.block_lags.proofs.Bounds.{within-more}

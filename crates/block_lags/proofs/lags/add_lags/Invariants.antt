@@ -1,6 +1,7 @@
 -- The cells have the pairs of the blocks so far.
 use Rattle.std.proofs.Common.{◌≡◌, ◌<◌, ◌+◌, ◌*◌, ◌^◌, ℕ, min, length, slice_index_or}
-use Rattle.byte_lags.specs.Streams.{AreWithin, no_cell}
+use Rattle.byte_lags.specs.Streams.{AreWithin}
+use Rattle.corr_model.specs.Cell.{no_cell}
 use Rattle.byte_streams.specs.Streams.{value_in}
 use Rattle.block_lags.specs.Cells.{IsGrown, lag_cell}
 use Rattle.block_lags.proofs.lags.add_lags.Given as goal

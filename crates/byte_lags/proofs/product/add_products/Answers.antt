@@ -1,7 +1,8 @@
 use Rattle.std.proofs.Common.{◌≡◌, ◌<◌, ◌+◌, ◌*◌, ◌^◌, ℕ, ℤ, ◌+ℤ◌, ◌*ℤ◌, w64, to_z, of_z, sym, subst, ap, ◌∙◌, arith, get_or-set_same, get_or-set_other, length-set, below_more, slice_index_or, slice_set, length, inl, inr}
 use Rattle.std.proofs.lemmas.Bool.{cases_eq}
 use Rattle.std.proofs.lemmas.Int.{to_z-of_z, fits_signed_from_abs}
-use Rattle.byte_lags.specs.Streams.{IsAdded, IsBiased, IsWithin, no_cell, product_sum}
+use Rattle.byte_lags.specs.Streams.{IsAdded, IsBiased, IsWithin, product_sum}
+use Rattle.corr_model.specs.Cell.{no_cell}
 use Rattle.byte_lags.proofs.Biased.{value_is}
 use Rattle.byte_lags.proofs.Windows.{window-small}
 use Rattle.byte_lags.proofs.product.add_products.Goals as goal

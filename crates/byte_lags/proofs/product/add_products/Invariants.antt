@@ -1,6 +1,7 @@
 -- The cells so far have their sums, the others are as they were, and the window is that of the next cell.
 use Rattle.std.proofs.Common.{◌≡◌, ◌<◌, ◌≤◌, ◌+◌, ◌^◌, ℕ, ℤ, length, slice_index_or}
-use Rattle.byte_lags.specs.Streams.{AreWithin, IsAdded, IsBiased, no_cell, window}
+use Rattle.byte_lags.specs.Streams.{AreWithin, IsAdded, IsBiased, window}
+use Rattle.corr_model.specs.Cell.{no_cell}
 use Rattle.byte_lags.proofs.product.add_products.Given as goal
 
 abbrev pub invariant-loop-i : goal.invariant-loop-i

@@ -1,4 +1,4 @@
-use Rattle.std.proofs.Common.{◌∙◌, ℤ, pos, ◌-ℤ◌, ◌%◌, [], unsigned_abs, ap, sym, arith}
+use Rattle.std.proofs.Common.{◌∙◌, pos, [], sym, arith}
 use Rattle.std.proofs.lemmas.Int.{ints}
 use Rattle.epoch_run.proofs.PlaneFills.{range-part}
 use Rattle.epoch_run.proofs.tests.planed_by_halves.Goals as goal
@@ -18,4 +18,4 @@ fill-requires-2-clause-window c =
     let range = c.fill.ensures.range 1 1 (pos 0) (pos 128) c.in_ok-planes.ensures.range in
     let window = c.in_ok-part_of-2.ensures.window in
     range-part 1 1 (pos 0) (pos 128) c.fill.new.self 0 c.in_ok-part_of-2.field-0 range (omega arith)
-    (omega (arith, ints, window.0)) (omega (arith, ints, window.1.0)) (ap (λ (f : ℤ). unsigned_abs (f -ℤ pos 0) % 64) window.0)
+    (omega (arith, ints, window.0)) (omega (arith, ints, window.1.0))

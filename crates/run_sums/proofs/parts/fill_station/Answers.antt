@@ -9,7 +9,6 @@ pub loop-at-init : goal.loop-at-init
 loop-at-init g c = record {
   begun = omega arith;
   within = c.requires.order;
-  word = λ less. omega arith;
   same = refl;
   faults = refl;
   range = c.requires.range;
@@ -28,7 +27,7 @@ fill-requires-clause-chans g c =
 pub fill-requires-clause-window : goal.fill-requires-clause-window
 fill-requires-clause-window g c =
     parts-at _ _ c.args.from c.args.to c.loop-at.at _ c.loop-at.planes c.args.place c.in_ok-stream.stream c.loop-at.invariant.range c.requires.place
-    c.in_ok-stream.ensures.window c.loop-at.invariant.begun (omega arith) (c.loop-at.invariant.word c.loop-at-test.true)
+    c.in_ok-stream.ensures.window c.loop-at.invariant.begun (omega arith)
 
 pub fill-requires-clause-none : goal.fill-requires-clause-none
 fill-requires-clause-none g c chan n past =
@@ -42,7 +41,6 @@ loop-at-preserved g c =
     record {
       begun = omega (arith, c.loop-at.invariant.begun);
       within = omega arith;
-      word = λ less. omega (arith, less, c.loop-at.invariant.begun, c.loop-at.invariant.word c.loop-at-test.true, c.part_len-part.ensures.words);
       same = c.in_ok-stream.ensures.same ∙ c.loop-at.invariant.same;
       faults = c.in_ok-stream.ensures.counts.kept ∙ c.loop-at.invariant.faults;
       range = c.fill.ensures.range _ _ _ _ c.loop-at.invariant.range;

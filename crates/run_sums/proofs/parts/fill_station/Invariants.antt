@@ -1,4 +1,4 @@
-use Rattle.std.proofs.Common.{◌≡◌, ◌<◌, ◌≤◌, ◌-◌, ◌%◌, pos, length}
+use Rattle.std.proofs.Common.{◌≡◌, ◌<◌, ◌≤◌, ◌-◌, pos, length}
 use Rattle.dev_traits.specs.Told.{WhereTold}
 use Rattle.epoch_run.specs.Planes.{HaveRange}
 use Rattle.run_sums.specs.Parts.{HoldPart, HaveNone, AreSameBeside}
@@ -8,7 +8,6 @@ abbrev pub invariant-loop-at : goal.invariant-loop-at
 invariant-loop-at g l = record {
   begun : l.from ≤ l.at;
   within : l.at ≤ l.to;
-  word : l.at < l.to → (l.at - l.from) % 64 ≡ 0;
   same : g.F.Shelf.told l.shelf ≡ g.F.Shelf.told l.initial.shelf;
   faults : g.F.Shelf.faults l.shelf ≡ g.F.Shelf.faults l.initial.shelf;
   range : HaveRange (length l.scan.stays) (length l.plan.channels) (pos l.from) (pos l.to) l.planes;

@@ -16,7 +16,6 @@ fill_stations-requires-clause-recorded g c = rw (c.plan-plan.ensures.same, c.der
 pub returns-clause-values : goal.returns-clause-values
 returns-clause-values g c =
     IsReached-filled (g.F.Shelf.told c.args.shelf.now) c.args.ready.now c.plan-plan.result.now c.args.i c.found.result.0 c.found.result.1.now
-    c.reach_from-from.result c.reach_to-to.result c.fill_stations.new.planes _
+    c.reach_from-from.result c.reach_to-to.result _
     c.plan-plan.ensures.same c.found.ensures c.reach_from-from.ensures c.reach_to-to.ensures
-    c.in_ok-pairs.ensures (c.finish.ensures.count ∙ c.in_ok-fill_stations.ensures.range.count)
-    c.finish.ensures.values c.in_ok-fill_stations.ensures.values
+    c.in_ok-pairs.ensures c.in_ok-fill_stations.ensures.range.count c.in_ok-fill_stations.ensures.values

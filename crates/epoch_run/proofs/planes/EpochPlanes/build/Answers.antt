@@ -4,8 +4,8 @@ use Rattle.epoch_run.specs.Planes.{AreFilled}
 use Rattle.epoch_run.proofs.PlaneValues.{AllLevelled-filled, HoldStreams-filled, kept_items}
 use Rattle.epoch_run.proofs.planes.EpochPlanes.build.Goals as goal
 
-pub invariant_of-planes : goal.invariant_of-planes
-invariant_of-planes c =
+pub invariant_of-result-2 : goal.invariant_of-result-2
+invariant_of-result-2 c =
     let streams = c.args.streams.now in
     let old = c.in_ok-stations.stations in
     let new = c.fill_streams.new.stations in
@@ -22,7 +22,6 @@ returns c station chan n h k =
     let new = c.fill_streams.new.stations in
     let long : length new ≡ length old.items =
     c.fill_streams.ensures.count ∙ ap (λ (s : List (Vec PlanesFields Global)). length s) c.deref_mut.ensures.value in
-    c.finish.ensures.values station chan n
-    ∙ HoldStreams-filled streams _
+    HoldStreams-filled streams _
     (subst (λ (stations : List (Vec PlanesFields Global)). AreFilled streams stations) (sym (kept_items old new long)) c.fill_streams.ensures.filled)
     station chan n h k

@@ -1,0 +1,4 @@
+pub mod QuotientLemmas
+pub mod Eighths
+pub mod Rooms
+pub mod LineLemmas

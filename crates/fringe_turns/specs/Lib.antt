@@ -1,0 +1,4 @@
+pub mod Direction
+pub mod Turns
+pub mod Eighths
+pub mod Lines

@@ -1,0 +1,179 @@
+-- Rows of values: what is cut out of them, how large it is, and the cells that it gives.
+use Rattle.std.specs.Prelude.{◌==◌, IfSome, if◌then◌else◌}
+use Rattle.std.proofs.Common.{◌≡◌, ℕ, zero, suc, ◌+◌, ◌-◌, ◌*◌, ◌/◌, min, ◌<◌, ◌≤◌, Bool, true, false, List, length, get_or, ℤ, pos, negsuc, ◌+ℤ◌, ◌-ℤ◌, Some, None, refl, sym, subst, ap, ap₂, ◌∙◌, arith, inl, inr}
+use Rattle.std.proofs.Math.Dec.{leb}
+use Rattle.std.proofs.lemmas.Bool.{cases_lt, and_right, lt-leb}
+use Rattle.std.proofs.lemmas.Int.{ints}
+use Rattle.std.proofs.lemmas.List.{get_or_past, get_or_default}
+use Rattle.block_lags.specs.Cells.{IsGrown as HasMore}
+use Rattle.block_lags.specs.Scans.{AreRows}
+use Rattle.bit_planes.specs.Planes.{PlanesFields, plane_value}
+use Rattle.byte_streams.specs.Values.{byte_value}
+use Rattle.byte_streams.specs.Streams.{value_at, value_in}
+use Rattle.byte_streams.specs.declared.streams.Streams.{Streams}
+use Rattle.corr_model.specs.declared.cell.Cell.{Cell}
+use Rattle.corr_model.specs.Cell.{Value, no_cell, cell_plus, is_inside, product_of, product_at, sum_from, cell_in, AreSmall, IsProduct}
+use Rattle.corr_model.specs.Lags.{lag_of}
+use Rattle.corr_model.proofs.CellLemmas.{same_cell, product-small, IsGrown, IsGrown-none, IsGrown-more, cell_in-sum, cell_in-values}
+use Rattle.lag_kernel.specs.Held.{AddsEach}
+use Rattle.lag_kernel.specs.Planes.{plane_pair, plane_samples}
+use Rattle.lag_kernel.specs.Rows.{row_value, row_inside, row_samples}
+use Rattle.lag_kernel.specs.declared.row.Row.{Row}
+use Rattle.lag_kernel.proofs.HeldLemmas.{inside-true, IsGrown-plus}
+
+-- the value of small bytes
+small-by : (b : Bool) (bias re im : ℕ) → bias ≤ 15 → re ≤ 2 * bias → im ≤ 2 * bias
+    → IfSome (if b then None else Some (pos re -ℤ pos bias, pos im -ℤ pos bias)) AreSmall
+small-by true bias re im low x y = tt
+small-by false bias re im low x y = ((omega (arith, ints), omega (arith, ints)), (omega (arith, ints), omega (arith, ints)))
+
+pub value_at-small : (s : Streams) (n : ℤ) → IfSome (value_at s n) AreSmall
+value_at-small s (pos k) =
+    small-by (get_or s.there.now k 0 == 0) s.bias (get_or s.re.now k 0) (get_or s.im.now k 0) s.streams.low (s.streams.re k) (s.streams.im k)
+value_at-small s (negsuc k) = tt
+
+none-small : IsProduct no_cell
+none-small = record {
+  re_low = omega (arith, ints);
+  re_high = omega (arith, ints);
+  im_low = omega (arith, ints);
+  im_high = omega (arith, ints);
+  count = omega arith;
+}
+
+-- the product of small values
+product_of-small : (v w : Value) → IfSome v AreSmall → IfSome w AreSmall → IsProduct (product_of v w)
+product_of-small (Some a) (Some b) small_a small_b =
+    let rr = product-small a.0 b.0 small_a.0 small_b.0 in
+    let ii = product-small a.1 b.1 small_a.1 small_b.1 in
+    let ir = product-small a.1 b.0 small_a.1 small_b.0 in
+    let ri = product-small a.0 b.1 small_a.0 small_b.1 in
+    record {
+      re_low = omega (arith, ints, rr.0, ii.0);
+      re_high = omega (arith, ints, rr.1, ii.1);
+      im_low = omega (arith, ints, ir.0, ri.1);
+      im_high = omega (arith, ints, ir.1, ri.0);
+      count = omega arith;
+    }
+product_of-small (Some a) None small_a small_b = none-small
+product_of-small None w small_a small_b = none-small
+
+-- what pairs of small values add up to
+sum_from-grown : (f : ℕ → Cell) (from n : ℕ) → ((k : ℕ) → IsProduct (f k)) → IsGrown (sum_from f from n) n
+sum_from-grown f from zero each = IsGrown-none 0
+sum_from-grown f from (suc n) each =
+    IsGrown-more (sum_from f from n) (f (from + n)) n (suc n) (sum_from-grown f from n each) (each (from + n)) (omega arith)
+
+pair-small : (v w : Value) (b : Bool) → IfSome v AreSmall → IfSome w AreSmall → IsProduct (if b then product_of v w else no_cell)
+pair-small v w true small_v small_w = product_of-small v w small_v small_w
+pair-small v w false small_v small_w = none-small
+
+pub row_cell-grown : (a b : Row) (samples : ℕ) (lag : ℤ) (from to : ℕ) → IsGrown (cell_in (row_samples a b) plane_pair samples lag from to) (to - from)
+row_cell-grown a b samples lag from to =
+    subst (λ (c : Cell). IsGrown c (to - from)) (sym (cell_in-sum (row_samples a b) plane_pair samples lag from to))
+    (sum_from-grown (product_at (row_samples a b) plane_pair samples lag) from (to - from) (λ n.
+    pair-small (row_value a (pos n)) (row_value b (pos n +ℤ lag)) (is_inside (pos n +ℤ lag) samples)
+    (value_at-small a.streams (pos n -ℤ pos a.from)) (value_at-small b.streams ((pos n +ℤ lag) -ℤ pos b.from))))
+
+-- cells to which others are added
+adds-each : (more : ℕ → Cell) (old new : List Cell) → length new ≡ length old
+    → ((i : ℕ) → i < length old → HasMore (more i) (get_or old i no_cell) (get_or new i no_cell))
+    → AddsEach old new more
+adds-each more old new same each = λ k d h.
+    let one = each k h in
+    get_or_default new k d no_cell (omega (arith, same, h))
+    ∙ same_cell _ _ _ _ _ _ one.re one.im one.count
+    ∙ ap (λ (c : Cell). cell_plus c (more k)) (get_or_default old k no_cell d h)
+
+pub adds-grown : (more : ℕ → Cell) (old new : List Cell) (n m : ℕ) → AddsEach old new more
+    → ((k : ℕ) (d : Cell) → k < length old → IsGrown (get_or old k d) n)
+    → ((k : ℕ) → IsGrown (more k) m)
+    → (k : ℕ) (d : Cell) → k < length old → IsGrown (get_or new k d) (n + m)
+adds-grown more old new n m adds grown each k d h =
+    subst (λ (c : Cell). IsGrown c (n + m)) (sym (adds k d h)) (IsGrown-plus (get_or old k d) (more k) n m (grown k d h) (each k))
+
+-- values of two rows hold the samples of the scan
+pub rows-are : (a b : Row) (samples at : ℕ) (least start : ℤ) (s t : Streams)
+    → at + length s.there.now ≤ samples
+    → start ≡ pos at +ℤ least
+    → ((k : ℕ) → k < length s.there.now → value_in s k ≡ row_inside a samples (pos at +ℤ pos k))
+    → ((k : ℕ) → k < length t.there.now → value_in t k ≡ row_inside b samples (start +ℤ pos k))
+    → AreRows (row_samples a b) plane_pair samples at least s t
+rows-are a b samples at least start s t inside begin first second = record {
+  first = λ k lt.
+      let place : pos at +ℤ pos k ≡ pos (at + k) = omega (arith, ints) in
+      first k lt
+      ∙ ap (row_inside a samples) place
+      ∙ ap (λ (b : Bool). if b then row_value a (pos (at + k)) else None) (inside-true (at + k) samples (omega (arith, inside, lt)));
+  second = λ j lt.
+      let place : start +ℤ pos j ≡ pos (at + j) +ℤ least = omega (arith, ints, begin) in
+      second j lt ∙ ap (row_inside b samples) place;
+}
+
+-- what a block adds to each cell
+pub rows-add : (a b : Row) (samples at stop n : ℕ) (least : ℤ) (old new : List Cell) → length new ≡ length old
+    → least ≡ pos 0 -ℤ pos (length old / 2)
+    → at + n ≡ stop
+    → ((i : ℕ) → i < length old → HasMore (cell_in (row_samples a b) plane_pair samples (least +ℤ pos i) at (at + n)) (get_or old i no_cell) (get_or new i no_cell))
+    → AddsEach old new (λ i. cell_in (row_samples a b) plane_pair samples (lag_of (length old) i) at stop)
+rows-add a b samples at stop n least old new same is end each =
+    adds-each (λ i. cell_in (row_samples a b) plane_pair samples (lag_of (length old) i) at stop) old new same (λ i lt.
+    let lag : least +ℤ pos i ≡ lag_of (length old) i = omega (arith, ints, is) in
+    let cell : cell_in (row_samples a b) plane_pair samples (least +ℤ pos i) at (at + n) ≡ cell_in (row_samples a b) plane_pair samples (lag_of (length old) i) at stop =
+    ap₂ (λ (l : ℤ) (m : ℕ). cell_in (row_samples a b) plane_pair samples l at m) lag end in
+    subst (λ (c : Cell). HasMore c (get_or old i no_cell) (get_or new i no_cell)) cell (each i lt))
+
+-- no value past the last one
+value_in-past : (s : Streams) (k : ℕ) → length s.there.now ≤ k → value_in s k ≡ None
+value_in-past s k past = ap (byte_value s.bias (get_or s.re.now k 0) (get_or s.im.now k 0)) (get_or_past s.there.now k 0 past)
+
+none-by : (v : Value) (b : Bool) → v ≡ None → None ≡ (if b then v else None)
+none-by v true e = sym e
+none-by v false e = refl
+
+-- a sample number past the scan's end
+inside-false : (k n : ℕ) → n ≤ k → is_inside (pos k) n ≡ false
+inside-false k n h = and_right (leb 0 k) (leb (suc k) n) (lt-leb (suc k) n (omega (arith, h)))
+
+-- the values of a row as far as the scan goes
+pub inside-value : (r : Row) (samples held : ℕ) (p : Streams) (n m : ℤ) → m ≡ n -ℤ pos r.from
+    → held ≡ min (length r.streams.there.now) (samples - r.from)
+    → length p.there.now ≡ held
+    → ((k : ℕ) → k < held → value_in p k ≡ value_in r.streams (0 + k))
+    → value_at p m ≡ (if is_inside n samples then value_at r.streams m else None)
+inside-value r samples held p n (negsuc j) is least long same = none-by None (is_inside n samples) refl
+inside-value r samples held p n (pos k) is least long same =
+    let number : n ≡ pos (r.from + k) = omega (arith, ints, is) in
+    elim (cases_lt k held) [
+      | inl lt ↦
+          let place : 0 + k ≡ k = omega arith in
+          let here : is_inside n samples ≡ true =
+          ap (λ (x : ℤ). is_inside x samples) number ∙ inside-true (r.from + k) samples (omega (arith, lt, least)) in
+          same k lt ∙ ap (value_in r.streams) place ∙ sym (ap (λ (b : Bool). if b then value_in r.streams k else None) here)
+      | inr past ↦
+          value_in-past p k (omega (arith, past, long))
+          ∙ elim (cases_lt k (length r.streams.there.now)) [
+            | inl lt ↦
+                let gone : is_inside n samples ≡ false =
+                ap (λ (x : ℤ). is_inside x samples) number ∙ inside-false (r.from + k) samples (omega (arith, past, least, lt)) in
+                sym (ap (λ (b : Bool). if b then value_in r.streams k else None) gone)
+            | inr end ↦ none-by (value_in r.streams k) (is_inside n samples) (value_in-past r.streams k end)
+          ]
+    ]
+
+-- what is cut out of a row's values inside the scan
+pub cut-values : (r : Row) (samples count : ℕ) (s p : Streams) (place n : ℤ)
+    → ((m : ℤ) → value_at s (m -ℤ pos r.from) ≡ row_inside r samples m)
+    → ((k : ℕ) → k < count → value_in p k ≡ value_at s (place +ℤ pos k))
+    → place ≡ n -ℤ pos r.from
+    → (k : ℕ) → k < count → value_in p k ≡ row_inside r samples (n +ℤ pos k)
+cut-values r samples count s p place n inside cut is k lt =
+    let here : place +ℤ pos k ≡ (n +ℤ pos k) -ℤ pos r.from = omega (arith, ints, is) in
+    cut k lt ∙ ap (value_at s) here ∙ inside (n +ℤ pos k)
+
+-- rows of the values of planes give the cells of the planes
+pub rows-planes : (r s : Row) (a b : PlanesFields) → ((n : ℤ) → row_value r n ≡ plane_value a n) → ((n : ℤ) → row_value s n ≡ plane_value b n)
+    → (samples : ℕ) (lag : ℤ) (from to : ℕ)
+    → cell_in (row_samples r s) plane_pair samples lag from to ≡ cell_in (plane_samples a b) plane_pair samples lag from to
+rows-planes r s a b first second samples lag from to =
+    cell_in-values (row_samples r s) (plane_samples a b) plane_pair plane_pair samples lag from to (λ n _ _. first (pos n)) (λ n _ _ _. second (pos n +ℤ lag))

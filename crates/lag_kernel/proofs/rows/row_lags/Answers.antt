@@ -1,0 +1,49 @@
+use Rattle.std.proofs.Common.{◌≡◌, ℕ, ◌+◌, ◌-◌, ◌<◌, ◌≤◌, length, get_or, ap, sym, subst, ◌∙◌, arith}
+use Rattle.std.proofs.lemmas.List.FromFn.{fill_by_all}
+use Rattle.corr_model.specs.declared.cell.Cell.{Cell}
+use Rattle.corr_model.specs.Cell.{cell_in, cell_plus, no_cell}
+use Rattle.corr_model.specs.Lags.{lag_of}
+use Rattle.corr_model.proofs.CellLemmas.{IsGrown, IsGrown-none, cell_in-none}
+use Rattle.lag_kernel.specs.Planes.{plane_pair}
+use Rattle.lag_kernel.specs.Rows.{row_samples}
+use Rattle.lag_kernel.proofs.HeldLemmas.{cell-more}
+use Rattle.lag_kernel.proofs.rows.row_lags.Goals as goal
+
+pub loop-at-init : goal.loop-at-init
+loop-at-init c = record {
+  begun = omega arith;
+  within = c.requires.order;
+  cells = λ k d h. c.clear.ensures k d h ∙ sym (cell_in-none (row_samples c.args.a.now c.args.b.now) plane_pair c.args.samples (lag_of (length c.args.out.now) k) c.args.from);
+  grown = λ k d h. subst (λ (cell : Cell). IsGrown cell (c.args.from - c.args.from)) (sym (c.clear.ensures k d h)) (IsGrown-none (c.args.from - c.args.from));
+}
+
+pub loop-at-preserved : goal.loop-at-preserved
+loop-at-preserved c =
+    let z = row_samples c.args.a.now c.args.b.now in
+    let stop = c.min-stop.result in
+    let at = c.loop-at.at in
+    let same : length c.loop-at.out ≡ length c.args.out.now = c.loop-at.auto.out ∙ c.clear.auto.out in
+    let above : at ≤ stop = omega (arith, c.min-stop.ensures, c.loop-at-test.true) in
+    let below : stop ≤ c.args.to = omega (arith, c.min-stop.ensures) in
+    let begun : c.args.from ≤ at = c.loop-at.invariant.begun in
+    let count : at - c.args.from + (stop - at) ≡ stop - c.args.from = omega (arith, above, begun) in
+    record {
+      begun = omega (arith, above, begun);
+      within = below;
+      cells = λ k d h.
+          cell-more z plane_pair c.args.samples (lag_of (length c.args.out.now) k) c.args.from at stop (get_or c.loop-at.out k d) (get_or c.add_block.new.out k d)
+          begun above (c.loop-at.invariant.cells k d h)
+          (subst (λ n. get_or c.add_block.new.out k d ≡ cell_plus (get_or c.loop-at.out k d) (cell_in z plane_pair c.args.samples (lag_of n k) at stop)) same
+          (c.add_block.ensures.adds k d (subst (λ n. k < n) (sym same) h)));
+      grown = λ k d h.
+          subst (λ n. IsGrown (get_or c.add_block.new.out k d) n) count
+          (c.add_block.ensures.grown k d (subst (λ n. k < n) (sym same) h));
+    }
+
+pub returns : goal.returns
+returns c =
+    let end : c.loop-at.at ≡ c.args.to = omega (arith, c.loop-at-test.false, c.loop-at.invariant.within) in
+    let f : ℕ → Cell = λ i. cell_in (row_samples c.args.a.now c.args.b.now) plane_pair c.args.samples (lag_of (length c.args.out.now) i) c.args.from c.args.to in
+    fill_by_all f c.loop-at.out (length c.args.out.now) no_cell
+    (c.loop-at.auto.out ∙ c.clear.auto.out)
+    (λ k h. c.loop-at.invariant.cells k no_cell h ∙ ap (cell_in (row_samples c.args.a.now c.args.b.now) plane_pair c.args.samples (lag_of (length c.args.out.now) k) c.args.from) end)

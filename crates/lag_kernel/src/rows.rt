@@ -1,0 +1,141 @@
+//! All lags of a range, from rows of values as streams of bytes.
+ghost use Rattle.std.specs.Prelude.{◌≡◌, ℕ, ℤ, ◌+◌, ◌-◌, ◌<◌, ◌≤◌, ◌^◌, ◌+ℤ◌, ◌-ℤ◌, pos, unsigned_abs, length, map, slice_index_or};
+ghost use Rattle.std.specs.List.{range_with_len};
+ghost use Rattle.byte_streams.specs.Streams.{value_at, value_in};
+ghost use Rattle.corr_model.specs.declared.cell.Cell.{Cell};
+ghost use Rattle.corr_model.specs.Cell.{cell_in};
+ghost use Rattle.corr_model.specs.Lags.{lag_of};
+ghost use Rattle.corr_model.proofs.CellLemmas.{IsGrown};
+ghost use Rattle.lag_kernel.specs.Held.{AddsEach};
+ghost use Rattle.lag_kernel.specs.Planes.{plane_pair};
+ghost use Rattle.lag_kernel.specs.Rows.{row_inside, row_samples};
+
+use crate::lags::clear;
+use crate::row::Row;
+use block_lags::add_lags;
+use byte_streams::{Streams, cut_streams};
+use corr_model::Cell;
+
+/// The samples of a block.
+const BLOCK: u64 = 4096;
+
+/// The most lags.
+const LAGS: usize = 1024;
+
+/// The samples of a block with those of all its lags.
+const WIDE: usize = 5120;
+
+// Room for values that are cut out of a row.
+#[derive(Drop)]
+struct Cut {
+    re: [u8; WIDE],
+    im: [u8; WIDE],
+    there: [u8; WIDE],
+}
+
+// The working room of a call.
+#[derive(Drop)]
+struct Room {
+    first: Cut,
+    second: Cut,
+    numbers: [u8; WIDE],
+    sums: [u32; LAGS],
+}
+
+impl Cut {
+    fn new() -> Cut {
+        Cut {
+            re: [0; WIDE],
+            im: [0; WIDE],
+            there: [0; WIDE],
+        }
+    }
+}
+
+impl Room {
+    fn new() -> Room {
+        Room {
+            first: Cut::new(),
+            second: Cut::new(),
+            numbers: [0; WIDE],
+            sums: [0; LAGS],
+        }
+    }
+}
+
+// The values of `count` places from `start` on; none before the first place and past the last one. Where they are all there, no
+// byte is copied.
+fn cut_out<'r>(s: &Streams<'r>, start: i64, count: usize, room: &'r mut Cut) -> Streams<'r>
+    requires few { count ≤ WIDE }
+    requires place { unsigned_abs start ≤ 2 ^ 41 }
+    requires size { length s.now.there.now ≤ 2 ^ 40 }
+    ensures len { length result.there.now ≡ count }
+    ensures values { (k : ℕ) → k < count → value_in result k ≡ value_at s.now (start +ℤ pos k) }
+{
+    if start >= 0 && start as usize + count <= s.there.len() {
+        return s.part(start as usize, count);
+    }
+    let re = &mut room.re;
+    let im = &mut room.im;
+    let there = &mut room.there;
+    let (re, im, there) = (&mut re[..count], &mut im[..count], &mut there[..count]);
+    cut_streams(s, start, re, im, there);
+    Streams {
+        re,
+        im,
+        there,
+        bias: s.bias,
+    }
+}
+
+/// Sets `out[i]` to the cell of lag `i - L/2`, `L` being the length of `out`, from the rows of the first station and the second one.
+/// Where a row holds no value, also before its first sample and behind its last one, there is none.
+pub(crate) fn row_lags(a: &Row, b: &Row, from: u64, to: u64, samples: u64, out: &mut [Cell])
+    requires most { length out.old ≤ 1024 }
+    requires order { from ≤ to }
+    requires inside { to ≤ samples }
+    requires scan { samples ≤ 2 ^ 40 }
+    requires range { to - from ≤ 2 ^ 36 }
+    ensures { out.new ≡ map (λ i. cell_in (row_samples a.now b.now) plane_pair samples (lag_of (length out.old) i) from to) (range_with_len 0 (length out.old)) }
+{
+    clear(out);
+    let mut room = Room::new();
+    let mut at = from;
+    while at < to {
+        let stop = (at + BLOCK).min(to);
+        add_block(a, b, at, stop, samples, at - from, &mut room, out);
+        at = stop;
+    }
+}
+
+// Adds the pairs of a block, the samples from `at` up to, not including, `stop`, to each lag's cell. `pairs` pairs at
+// most were added to each before.
+fn add_block(
+    a: &Row,
+    b: &Row,
+    at: u64,
+    stop: u64,
+    samples: u64,
+    pairs: u64,
+    room: &mut Room,
+    out: &mut [Cell],
+)
+    requires lags { length out.old ≤ 1024 }
+    requires order { at ≤ stop }
+    requires block { stop ≤ at + 4096 }
+    requires inside { stop ≤ samples }
+    requires scan { samples ≤ 2 ^ 40 }
+    requires most { pairs + (stop - at) ≤ 2 ^ 36 }
+    requires grown { (k : ℕ) (d : Cell) → k < length out.old → IsGrown (slice_index_or out.old k d) pairs }
+    ensures adds { AddsEach out.old out.new (λ i. cell_in (row_samples a.now b.now) plane_pair samples (lag_of (length out.old) i) at stop) }
+    ensures grown { (k : ℕ) (d : Cell) → k < length out.old → IsGrown (slice_index_or out.new k d) (pairs + (stop - at)) }
+{
+    let (len, lags) = ((stop - at) as usize, out.len());
+    let place = at as i64 - a.from as i64;
+    let other = at as i64 - (lags / 2) as i64 - b.from as i64;
+    let (mine, theirs) = (a.inside(samples), b.inside(samples));
+    let first = cut_out(&mine, place, len, &mut room.first);
+    let second = cut_out(&theirs, other, len + lags, &mut room.second);
+    let sums = &mut room.sums[..];
+    add_lags(&first, &second, &mut room.numbers, &mut sums[..lags], out);
+}

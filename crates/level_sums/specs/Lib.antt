@@ -1,4 +1,0 @@
-pub mod Levels
-pub mod Weights
-pub mod Counts
-pub mod Held

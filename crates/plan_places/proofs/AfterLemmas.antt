@@ -1,0 +1,231 @@
+-- The place after an epoch.
+use Rattle.std.specs.Prelude.{slice_get, IfSome}
+use Rattle.std.proofs.Common.{◌≡◌, ◌∙◌, sym, ap, refl, subst, ℕ, ◌+◌, ◌-◌, ◌*◌, ◌<◌, ◌≤◌, drop, Option, Some, None, ltb, ⊎_elim, arith}
+use Rattle.std.proofs.Math.Nat.{mul-le-mul_left}
+use Rattle.std.proofs.lemmas.Bool.{cases_lt, cond-true, cond-false, lt-ltb, le-ltb}
+use Rattle.piece_plan.specs.declared.job.ScanSize.{ScanSize}
+use Rattle.piece_plan.specs.declared.epoch.EpochPlan.{EpochPlan}
+use Rattle.piece_plan.specs.Epochs.{JobSizes, IsJob, IsEpoch, integration_at}
+use Rattle.piece_plan.specs.Order.{Place, place_of, first_place, place_in, place_after}
+use Rattle.plan_places.specs.Places.{IsPlace, IsUpTo, IsBefore}
+use Rattle.plan_places.specs.Search.{IsIn}
+use Rattle.plan_places.proofs.Orders.{place-eq}
+use Rattle.plan_places.proofs.FirstPlaces.{slice_get-drop, first_place-is, first_place-reaches}
+
+pub after-is : (job : JobSizes) (e : EpochPlan) (size : ScanSize) → slice_get job.scans e.scan ≡ Some size
+    → place_after job e ≡ place_in job e (Some size)
+unfolding place_after
+after-is job e size at = ap (place_in job e) at
+
+pub after-inside : (job : JobSizes) (e : EpochPlan) (size : ScanSize) → slice_get job.scans e.scan ≡ Some size
+    → e.to < (integration_at job size e.m).to → place_after job e ≡ Some (record { scan = e.scan; m = e.m; from = e.to })
+after-inside job e size at inside =
+    after-is job e size at ∙ cond-true (ltb e.to (integration_at job size e.m).to) _ _ (lt-ltb _ _ inside)
+
+pub after-integration : (job : JobSizes) (e : EpochPlan) (size : ScanSize) → slice_get job.scans e.scan ≡ Some size
+    → (integration_at job size e.m).to ≤ e.to → e.to < size.samples
+    → place_after job e ≡ Some (record { scan = e.scan; m = e.m + 1; from = e.to })
+after-integration job e size at end inside =
+    after-is job e size at ∙ cond-false (ltb e.to (integration_at job size e.m).to) _ _ (le-ltb _ _ end)
+    ∙ cond-true (ltb e.to size.samples) _ _ (lt-ltb _ _ inside)
+
+pub after-scan : (job : JobSizes) (e : EpochPlan) (size : ScanSize) → slice_get job.scans e.scan ≡ Some size
+    → (integration_at job size e.m).to ≤ e.to → size.samples ≤ e.to
+    → place_after job e ≡ first_place (e.scan + 1) (drop (e.scan + 1) job.scans)
+after-scan job e size at end last =
+    after-is job e size at ∙ cond-false (ltb e.to (integration_at job size e.m).to) _ _ (le-ltb _ _ end)
+    ∙ cond-false (ltb e.to size.samples) _ _ (le-ltb _ _ last)
+
+-- it is behind the epoch's begin
+pub after-before : (job : JobSizes) (e : EpochPlan) (q : Place) → IsEpoch job e → place_after job e ≡ Some q → IsBefore (place_of e) q
+after-before job e q is after =
+    ⊎_elim
+    (λ inside.
+    let same : ◌≡◌ {A = Option Place} (Some (record { scan = e.scan; m = e.m; from = e.to })) (Some q) =
+    sym (after-inside job e is.size is.scan inside) ∙ after in
+    let place : ◌≡◌ {A = Place} (record { scan = e.scan; m = e.m; from = e.to }) q = cc in
+    subst (λ (p : Place). IsBefore (place_of e) p) place
+    (record { scan = omega arith; m = λ s. omega arith; from = λ s t. is.some }))
+    (λ end.
+    ⊎_elim
+    (λ inside.
+    let same : ◌≡◌ {A = Option Place} (Some (record { scan = e.scan; m = e.m + 1; from = e.to })) (Some q) =
+    sym (after-integration job e is.size is.scan end inside) ∙ after in
+    let place : ◌≡◌ {A = Place} (record { scan = e.scan; m = e.m + 1; from = e.to }) q = cc in
+    subst (λ (p : Place). IsBefore (place_of e) p) place
+    (record { scan = omega arith; m = λ s. omega arith; from = λ s t. is.some }))
+    (λ last.
+    let first = first_place-is (e.scan + 1) (drop (e.scan + 1) job.scans) q (sym (after-scan job e is.size is.scan end last) ∙ after) in
+    record {
+      scan = omega (arith, first.scan);
+      m = λ s. absurd (omega (arith, first.scan, s));
+      from = λ s t. absurd (omega (arith, first.scan, s));
+    })
+    (cases_lt e.to is.size.samples))
+    (cases_lt e.to (integration_at job is.size e.m).to)
+
+pub same_size : (job : JobSizes) (p : Place) (e : EpochPlan) (place : IsPlace job p) (is : IsEpoch job e) → e.scan ≡ p.scan → place.size ≡ is.size
+same_size job p e place is scan =
+    let other : slice_get job.scans p.scan ≡ Some is.size = ap (slice_get job.scans) (sym scan) ∙ is.scan in
+    let both : ◌≡◌ {A = Option ScanSize} (Some place.size) (Some is.size) = sym place.scan ∙ other in
+    cc
+
+-- before the place after it that is in the same scan
+in-inside : (job : JobSizes) (p : Place) (e : EpochPlan) → IsPlace job p → IsEpoch job e → IsUpTo (place_of e) p
+    → IsBefore p (record { scan = e.scan; m = e.m; from = e.to }) → IsIn p e
+in-inside job p e place is begun before =
+    let scan : e.scan ≡ p.scan = omega (arith, begun.scan, before.scan) in
+    let back : p.scan ≡ e.scan = omega (arith, scan) in
+    let m : e.m ≡ p.m = omega (arith, begun.m scan, before.m back) in
+    let m_back : p.m ≡ e.m = omega (arith, m) in
+    record { scan = scan; m = m; to = before.from back m_back }
+
+in-integration : (job : JobSizes) (p : Place) (e : EpochPlan) → IsPlace job p → (is : IsEpoch job e) → IsUpTo (place_of e) p
+    → (integration_at job is.size e.m).to ≤ e.to
+    → IsBefore p (record { scan = e.scan; m = e.m + 1; from = e.to }) → IsIn p e
+in-integration job p e place is begun end before =
+    let scan : e.scan ≡ p.scan = omega (arith, begun.scan, before.scan) in
+    let back : p.scan ≡ e.scan = omega (arith, scan) in
+    let size = same_size job p e place is scan in
+    let samples : place.size.samples ≡ is.size.samples = ap (λ (s : ScanSize). s.samples) size in
+    ⊎_elim
+    (λ less.
+    let m : e.m ≡ p.m = omega (arith, begun.m scan, less) in
+    let times : p.m * job.integration ≡ e.m * job.integration = ap (λ n. n * job.integration) (sym m) in
+    record { scan = scan; m = m; to = omega (arith, place.inside, samples, end, times) })
+    (λ past.
+    let m : p.m ≡ e.m + 1 = omega (arith, before.m back, past) in
+    let from = before.from back m in
+    let times : p.m * job.integration ≡ (e.m + 1) * job.integration = ap (λ n. n * job.integration) m in
+    absurd (omega (arith, place.from, is.to, from, times)))
+    (cases_lt p.m (e.m + 1))
+
+-- at the end of a scan
+in-scan : (job : JobSizes) (p : Place) (e : EpochPlan) → IsPlace job p → (is : IsEpoch job e) → IsUpTo (place_of e) p
+    → is.size.samples ≤ e.to
+    → ((q : Place) → first_place (e.scan + 1) (drop (e.scan + 1) job.scans) ≡ Some q → IsBefore p q) → IsIn p e
+in-scan job p e place is begun last before =
+    ⊎_elim
+    (λ later.
+    let count : e.scan + 1 + (p.scan - (e.scan + 1)) ≡ p.scan = omega (arith, later) in
+    let at : slice_get (drop (e.scan + 1) job.scans) (p.scan - (e.scan + 1)) ≡ Some place.size =
+    slice_get-drop (e.scan + 1) job.scans (p.scan - (e.scan + 1)) ∙ ap (slice_get job.scans) count ∙ place.scan in
+    let reached = first_place-reaches (e.scan + 1) (drop (e.scan + 1) job.scans) (p.scan - (e.scan + 1)) place.size at (omega (arith, place.inside)) in
+    let less = before _ reached.is in
+    let scan : p.scan ≡ e.scan + 1 + reached.j = omega (arith, less.scan, reached.within, count) in
+    let m : p.m ≡ 0 = omega (arith, less.m scan) in
+    absurd (omega (arith, less.from scan m)))
+    (λ same.
+    let scan : e.scan ≡ p.scan = omega (arith, begun.scan, same) in
+    let size = same_size job p e place is scan in
+    let samples : place.size.samples ≡ is.size.samples = ap (λ (s : ScanSize). s.samples) size in
+    let inside : p.from < e.to = omega (arith, place.inside, samples, last) in
+    ⊎_elim
+    (λ more.
+    let step : job.integration * (e.m + 1) ≤ job.integration * p.m = mul-le-mul_left job.integration (omega (arith, more)) in
+    absurd (omega (arith, step, place.from, is.to, inside)))
+    (λ less.
+    record { scan = scan; m = omega (arith, begun.m scan, less); to = inside })
+    (cases_lt e.m p.m))
+    (cases_lt e.scan p.scan)
+
+-- a place that is not before an epoch's begin, and before the place after it, is in the epoch
+pub in-epoch : (job : JobSizes) (p : Place) (e : EpochPlan) → IsPlace job p → IsEpoch job e → IsUpTo (place_of e) p
+    → ((q : Place) → place_after job e ≡ Some q → IsBefore p q) → IsIn p e
+in-epoch job p e place is begun before =
+    ⊎_elim
+    (λ inside. in-inside job p e place is begun (before _ (after-inside job e is.size is.scan inside)))
+    (λ end.
+    ⊎_elim
+    (λ inside. in-integration job p e place is begun end (before _ (after-integration job e is.size is.scan end inside)))
+    (λ last. in-scan job p e place is begun last (λ q first. before q (after-scan job e is.size is.scan end last ∙ first)))
+    (cases_lt e.to is.size.samples))
+    (cases_lt e.to (integration_at job is.size e.m).to)
+
+-- some place of the job is not before its first
+pub first-before : (job : JobSizes) (p : Place) → IsPlace job p → (q : Place) × (first_place 0 job.scans ≡ Some q) × IsUpTo q p
+first-before job p place =
+    let reached = first_place-reaches 0 job.scans p.scan place.size place.scan (omega (arith, place.inside)) in (
+      record { scan = 0 + reached.j; m = 0; from = 0 },
+      reached.is,
+      record { scan = omega (arith, reached.within); m = λ s. omega arith; from = λ s t. omega arith },
+    )
+
+begin-IsPlace : (job : JobSizes) (k : ℕ) (size : ScanSize) → IsJob job → slice_get job.scans k ≡ Some size → 0 < size.samples
+    → IsPlace job (record { scan = k; m = 0; from = 0 })
+begin-IsPlace job k size is at some = record {
+  size = size;
+  scan = at;
+  from = omega arith;
+  inside = omega (arith, is.integration, some);
+}
+
+pub first-IsPlace : (job : JobSizes) (n : ℕ) (p : Place) → IsJob job → first_place n (drop n job.scans) ≡ Some p → IsPlace job p
+first-IsPlace job n p is first =
+    let there = first_place-is n (drop n job.scans) p first in
+    let at : slice_get job.scans (n + there.k) ≡ Some there.size = sym (slice_get-drop n job.scans there.k) ∙ there.at in
+    let place = begin-IsPlace job (n + there.k) there.size is at there.some in
+    let same : ◌≡◌ {A = Place} (record { scan = n + there.k; m = 0; from = 0 }) p = place-eq _ _ (sym there.scan) (sym there.m) (sym there.from) in
+    subst (λ (q : Place). IsPlace job q) same place
+
+pub begin_of-IsPlace : (job : JobSizes) (e : EpochPlan) → IsEpoch job e → IsPlace job (place_of e)
+begin_of-IsPlace job e is = record {
+  size = is.size;
+  scan = is.scan;
+  from = is.from;
+  inside = omega (arith, is.some, is.to);
+}
+
+-- where it ends, in its integration
+pub end-IsPlace : (job : JobSizes) (e : EpochPlan) → (is : IsEpoch job e) → e.to < (integration_at job is.size e.m).to
+    → IsPlace job (record { scan = e.scan; m = e.m; from = e.to })
+end-IsPlace job e is inside = record {
+  size = is.size;
+  scan = is.scan;
+  from = omega (arith, is.from, is.some);
+  inside = inside;
+}
+
+next-IsPlace : (job : JobSizes) (e : EpochPlan) → IsJob job → (is : IsEpoch job e) → (integration_at job is.size e.m).to ≤ e.to
+    → e.to < is.size.samples → IsPlace job (record { scan = e.scan; m = e.m + 1; from = e.to })
+next-IsPlace job e job_is is end inside =
+    let here : e.to ≡ (e.m + 1) * job.integration = omega (arith, end, inside, is.to) in
+    let next : (e.m + 1 + 1) * job.integration ≡ (e.m + 1) * job.integration + job.integration = omega arith in
+    record {
+      size = is.size;
+      scan = is.scan;
+      from = omega (arith, here);
+      inside = omega (arith, here, next, inside, job_is.integration);
+    }
+
+pub some-IfSome : {A : Type 0} (o : Option A) (P : A → Type 0) → ((x : A) → o ≡ Some x → P x) → IfSome o P
+some-IfSome None P h = tt
+some-IfSome (Some x) P h = h x refl
+
+pub after-IsPlace : (job : JobSizes) (e : EpochPlan) → IsJob job → IsEpoch job e → IfSome (place_after job e) (IsPlace job)
+after-IsPlace job e job_is is =
+    ⊎_elim
+    (λ inside. subst (λ (o : Option Place). IfSome o (IsPlace job)) (sym (after-inside job e is.size is.scan inside)) (end-IsPlace job e is inside))
+    (λ end.
+    ⊎_elim
+    (λ inside. subst (λ (o : Option Place). IfSome o (IsPlace job)) (sym (after-integration job e is.size is.scan end inside)) (next-IsPlace job e job_is is end inside))
+    (λ last. subst (λ (o : Option Place). IfSome o (IsPlace job)) (sym (after-scan job e is.size is.scan end last))
+    (some-IfSome _ (IsPlace job) (λ p first. first-IsPlace job (e.scan + 1) p job_is first)))
+    (cases_lt e.to is.size.samples))
+    (cases_lt e.to (integration_at job is.size e.m).to)
+
+-- it is the same after epochs that end at one sample
+pub after-same : (job : JobSizes) (e d : EpochPlan) (size : ScanSize) → slice_get job.scans e.scan ≡ Some size
+    → e.scan ≡ d.scan → e.m ≡ d.m → e.to ≡ d.to → place_after job e ≡ place_after job d
+after-same job e d size at a b c =
+    after-is job e size at
+    ∙ (λ i. place_in job (record {
+      scan = a i;
+      m = b i;
+      from = e.from;
+      to = c i;
+      products = e.products;
+      baselines = e.baselines;
+      lags = e.lags;
+    }) (Some size))
+    ∙ sym (after-is job d size (ap (slice_get job.scans) (sym a) ∙ at))

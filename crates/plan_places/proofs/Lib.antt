@@ -1,0 +1,11 @@
+pub mod Orders
+pub mod FirstPlaces
+pub mod AfterLemmas
+pub mod OrderedEpochs
+pub mod Searched
+pub mod CutLemmas
+pub mod Counts
+pub mod WalkLemmas
+pub mod CountedLemmas
+pub mod WholeWalks
+pub mod OwnWalk

@@ -1,0 +1,47 @@
+//! What follows from the definitions. The functions do nothing: a call brings its law.
+ghost use Rattle.std.specs.Prelude.{◌≡◌, ◌≤◌, ℕ, List, Option, IfSome, Some, None};
+ghost use Rattle.piece_plan.specs.declared.epoch.EpochPlan.{EpochPlan};
+ghost use Rattle.piece_plan.specs.Epochs.{JobSizes, IsJob, IsEpoch, epochs_of};
+ghost use Rattle.piece_plan.specs.Order.{Place, first_place, place_after, AreInOrder, CoverJob};
+ghost use Rattle.plan_places.specs.Places.{IsPlace};
+ghost use Rattle.plan_places.specs.Walk.{cut_at, IsWalk};
+
+/// An epoch that is cut from a place is one of the job.
+pub fn cut_epochs_fit()
+    ensures { (job : JobSizes) (epoch : ℕ) (p : Place) (e : EpochPlan) → IsPlace job p → 1 ≤ epoch → epoch ≤ 4194304
+        → cut_at job epoch p ≡ Some e → IsEpoch job e }
+{}
+
+/// The place after an epoch of the job is one of the job.
+pub fn places_after_are_places()
+    ensures { (job : JobSizes) (e : EpochPlan) → IsJob job → IsEpoch job e → IfSome (place_after job e) (IsPlace job) }
+{}
+
+/// The epochs of a walk are in order from where it stands to the end of the job.
+pub fn walks_are_in_order()
+    ensures { (job : JobSizes) (epoch : ℕ) (due : Option Place) (epochs : List EpochPlan) → IsJob job → 1 ≤ epoch → epoch ≤ 4194304
+        → IfSome due (IsPlace job) → IsWalk job epoch due epochs → AreInOrder job due epochs None }
+{}
+
+/// A walk from the start of a job goes through it in order: each integration of each scan once.
+pub fn walks_cover_job()
+    ensures { (job : JobSizes) (epoch : ℕ) (epochs : List EpochPlan) → IsJob job → 1 ≤ epoch → epoch ≤ 4194304
+        → IsWalk job epoch (first_place 0 job.scans) epochs → CoverJob job epochs }
+{}
+
+/// There is a walk from each place.
+pub fn walks_end()
+    ensures { (job : JobSizes) (epoch : ℕ) (due : Option Place) → IsJob job → 1 ≤ epoch → epoch ≤ 4194304
+        → IfSome due (IsPlace job) → (epochs : List EpochPlan) × IsWalk job epoch due epochs }
+{}
+
+/// There is one walk from a place.
+pub fn walks_are_alone()
+    ensures { (job : JobSizes) (epoch : ℕ) (due : Option Place) (epochs others : List EpochPlan)
+        → IsWalk job epoch due epochs → IsWalk job epoch due others → epochs ≡ others }
+{}
+
+/// Where epochs are as long as the job says, its epochs are the walk from its start.
+pub fn epochs_of_job_are_walk()
+    ensures { (job : JobSizes) → IsJob job → IsWalk job job.epoch (first_place 0 job.scans) (epochs_of job) }
+{}

@@ -1,0 +1,184 @@
+ghost use Rattle.std.specs.Prelude.{◌≡◌, ◌≤◌, ◌<◌, IfSome, slice_get, Some};
+ghost use Rattle.piece_plan.specs.Epochs.{IsJob};
+ghost use Rattle.plan_places.specs.Places.{place_at, IsPlace};
+
+use super::*;
+use piece_plan::{EpochPlan, JobPlan, ScanSize};
+use std::process::Abort;
+use std::test::*;
+
+fn size(samples: u64) -> ScanSize
+    ensures { result ≡ record { samples = samples; products = 2; baselines = 3 } }
+{
+    ScanSize {
+        samples,
+        products: 2,
+        baselines: 3,
+    }
+}
+
+fn place(scan: u32, m: u64, from: u64) -> Place {
+    Place { scan, m, from }
+}
+
+fn epoch(scan: u32, m: u64, from: u64, to: u64) -> EpochPlan {
+    EpochPlan {
+        scan,
+        m,
+        from,
+        to,
+        products: 2,
+        baselines: 3,
+        lags: 4,
+    }
+}
+
+// The walk from a place with epochs of so many samples is this one.
+fn has_walk(rt: &impl Abort, plan: &JobPlan, from: Option<Place>, samples: u64, want: &[EpochPlan])
+    requires job { IsJob plan.now }
+    requires place { IfSome from (λ p. IsPlace plan.now (place_at p)) }
+    requires some { 1 ≤ samples }
+    requires short { samples ≤ 4194304 }
+{
+    assert_eq!(rt; left(plan, from, samples), want.len() as u64);
+    let mut at = from;
+    for e in want {
+        let Some(p) = at else {
+            panic!(rt; "the walk is over");
+        };
+        assert!(rt; is_place(plan, &p));
+        let next = cut(plan, &p, samples);
+        assert_eq!(rt; next, *e);
+        at = after(plan, &next);
+    }
+    assert_eq!(rt; at, None);
+}
+
+// Whether each of these is a place.
+fn are_places(rt: &impl Abort, plan: &JobPlan, want: bool, places: &[Place]) {
+    for p in places {
+        assert_eq!(rt; is_place(plan, p), want);
+    }
+}
+
+// Scans of 100, 0 and 70 samples in integrations of 64: each has a whole one and a shorter one, and the scan without a
+// sample has none.
+#[test]
+fn places_of_a_job(rt: HostRuntime) -> Result<(), Fail> {
+    let scans = [size(100), size(0), size(70)];
+    let plan = JobPlan::new(rt.alloc(), &scans, 64, 40, 4)?;
+    assert_eq!(rt; start(&plan), Some(place(0, 0, 0)));
+    are_places(
+        &rt,
+        &plan,
+        true,
+        &[
+            place(0, 0, 0),
+            place(0, 0, 39),
+            place(0, 0, 40),
+            place(0, 0, 63),
+            place(0, 1, 64),
+            place(0, 1, 99),
+            place(2, 0, 0),
+            place(2, 0, 63),
+            place(2, 1, 64),
+            place(2, 1, 69),
+        ],
+    );
+    are_places(
+        &rt,
+        &plan,
+        false,
+        &[
+            place(0, 0, 64),
+            place(0, 1, 63),
+            place(0, 1, 100),
+            place(0, 2, 128),
+            place(1, 0, 0),
+            place(2, 1, 70),
+            place(3, 0, 0),
+            place(u32::MAX, u64::MAX, u64::MAX),
+        ],
+    );
+    Ok(())
+}
+
+#[test]
+fn walks_of_a_job(rt: HostRuntime) -> Result<(), Fail> {
+    let scans = [size(100), size(0), size(70)];
+    let plan = JobPlan::new(rt.alloc(), &scans, 64, 40, 4)?;
+    has_walk(
+        &rt,
+        &plan,
+        start(&plan),
+        64,
+        &[
+            epoch(0, 0, 0, 64),
+            epoch(0, 1, 64, 100),
+            epoch(2, 0, 0, 64),
+            epoch(2, 1, 64, 70),
+        ],
+    );
+    has_walk(
+        &rt,
+        &plan,
+        start(&plan),
+        28,
+        &[
+            epoch(0, 0, 0, 28),
+            epoch(0, 0, 28, 56),
+            epoch(0, 0, 56, 64),
+            epoch(0, 1, 64, 92),
+            epoch(0, 1, 92, 100),
+            epoch(2, 0, 0, 28),
+            epoch(2, 0, 28, 56),
+            epoch(2, 0, 56, 64),
+            epoch(2, 1, 64, 70),
+        ],
+    );
+    Ok(())
+}
+
+// From inside an integration, where no epoch of the plan begins.
+#[test]
+fn walks_from_inside(rt: HostRuntime) -> Result<(), Fail> {
+    let scans = [size(0), size(100), size(0), size(70), size(0)];
+    let plan = JobPlan::new(rt.alloc(), &scans, 64, 40, 4)?;
+    let at = place(1, 0, 50);
+    assert!(rt; is_place(&plan, &at));
+    has_walk(
+        &rt,
+        &plan,
+        Some(at),
+        28,
+        &[
+            epoch(1, 0, 50, 64),
+            epoch(1, 1, 64, 92),
+            epoch(1, 1, 92, 100),
+            epoch(3, 0, 0, 28),
+            epoch(3, 0, 28, 56),
+            epoch(3, 0, 56, 64),
+            epoch(3, 1, 64, 70),
+        ],
+    );
+    let last = place(3, 1, 69);
+    assert!(rt; is_place(&plan, &last));
+    has_walk(&rt, &plan, Some(last), 4194304, &[epoch(3, 1, 69, 70)]);
+    has_walk(&rt, &plan, None, 64, &[]);
+    Ok(())
+}
+
+#[test]
+fn places_at_the_limits(rt: HostRuntime) -> Result<(), Fail> {
+    let none = JobPlan::new(rt.alloc(), &[], 1, 1, 4)?;
+    assert_eq!(rt; start(&none), None);
+    let empty = JobPlan::new(rt.alloc(), &[size(0)], 1, 1, 4)?;
+    assert_eq!(rt; start(&empty), None);
+    let scans = [size(1 << 40), size(1 << 40)];
+    let plan = JobPlan::new(rt.alloc(), &scans, 1 << 36, 4194304, 4)?;
+    let first = place(0, 0, 1);
+    assert!(rt; is_place(&plan, &first));
+    assert_eq!(rt; left(&plan, Some(first), 1), (1 << 41) - 1);
+    assert_eq!(rt; left(&plan, Some(first), 4194304), 1 << 19);
+    Ok(())
+}

@@ -74,6 +74,7 @@ impl JobPlan {
     pub fn epochs(&self) -> u64
         ensures many { result ≡ length (epochs_of self.now) }
         ensures cover { CoverJob self.now (epochs_of self.now) }
+        ensures job { IsJob self.now }
         ensures bound { result ≤ 2 ^ 63 }
     {
         let scans = self.ends.len();

@@ -14,7 +14,6 @@ use piece_plan::JobPlan;
 /// The number of epochs from a place on to the end of the job, if each is cut with `epoch` samples, 1 to
 /// 4,194,304; 0 behind the end. The time grows with the number of scans, and not with that of epochs.
 pub fn left(plan: &JobPlan, at: Option<Place>, epoch: u64) -> u64
-    requires job { IsJob plan.now }
     requires place { IfSome at (λ p. IsPlace plan.now (place_at p)) }
     requires some { 1 ≤ epoch }
     requires short { epoch ≤ 4194304 }

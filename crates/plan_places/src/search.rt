@@ -1,7 +1,7 @@
 //! Where a place stands among the epochs of the plan.
 ghost use Rattle.std.specs.Prelude.{◌≡◌, ◌+◌, ◌^◌, ◌<◌, ◌≤◌, slice_get, Some};
 ghost use Rattle.std.specs.Bool.{MatchBool};
-ghost use Rattle.piece_plan.specs.Epochs.{epochs_of, IsEpoch, IsOfPlan};
+ghost use Rattle.piece_plan.specs.Epochs.{epochs_of, IsEpoch, IsJob, IsOfPlan};
 ghost use Rattle.piece_plan.specs.Order.{place_of, place_after, CoverJob};
 ghost use Rattle.plan_places.specs.Places.{place_at, IsPlace, IsUpTo, IsBefore};
 ghost use Rattle.plan_places.specs.Search.{begin_at, IsIn, IsCount, EndsIntegration, EndsScan};
@@ -26,6 +26,7 @@ fn is_up_to(e: &EpochPlan, at: &Place) -> bool
 fn number_up_to(plan: &JobPlan, at: &Place) -> u64
     ensures count { IsCount (epochs_of plan.now) (place_at at.now) result }
     ensures bound { result ≤ 2 ^ 63 }
+    ensures job { IsJob plan.now }
     ensures cover { CoverJob plan.now (epochs_of plan.now) }
 {
     let mut low = 0;
@@ -65,6 +66,7 @@ pub(crate) fn integration_last(plan: &JobPlan, at: &Place) -> (u64, EpochPlan)
     requires { IsPlace plan.now (place_at at.now) }
     ensures at { slice_get (epochs_of plan.now) result.0 ≡ Some result.1 }
     ensures bound { result.0 < 2 ^ 63 }
+    ensures job { IsJob plan.now }
     ensures last { EndsIntegration plan.now (place_at at.now) result.1 }
     ensures next { place_after plan.now result.1 ≡ begin_at (epochs_of plan.now) (result.0 + 1) }
     ensures of_plan { IsOfPlan result.1 }

@@ -1,5 +1,4 @@
 ghost use Rattle.std.specs.Prelude.{◌≡◌, ◌≤◌, ◌<◌, IfSome, slice_get, Some};
-ghost use Rattle.piece_plan.specs.Epochs.{IsJob};
 ghost use Rattle.plan_places.specs.Places.{place_at, IsPlace};
 
 use super::*;
@@ -35,7 +34,6 @@ fn epoch(scan: u32, m: u64, from: u64, to: u64) -> EpochPlan {
 
 // The walk from a place with epochs of so many samples is this one.
 fn has_walk(rt: &impl Abort, plan: &JobPlan, from: Option<Place>, samples: u64, want: &[EpochPlan])
-    requires job { IsJob plan.now }
     requires place { IfSome from (λ p. IsPlace plan.now (place_at p)) }
     requires some { 1 ≤ samples }
     requires short { samples ≤ 4194304 }

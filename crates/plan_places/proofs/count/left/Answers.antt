@@ -16,7 +16,7 @@ returns-in-None c =
 
 pub left_from-requires-clause-begin : goal.left_from-requires-clause-begin
 left_from-requires-clause-begin c =
-    last-BeginsAt c.args.plan.now c.integration_last-i.result.0 _ c.integration_last-i.result.1 c.requires.job c.integration_last-i.ensures.at c.integration_last-i.ensures.last
+    last-BeginsAt c.args.plan.now c.integration_last-i.result.0 _ c.integration_last-i.result.1 c.integration_last-i.ensures.job c.integration_last-i.ensures.at c.integration_last-i.ensures.last
 
 pub left_from-requires-clause-within : goal.left_from-requires-clause-within
 left_from-requires-clause-within c =
@@ -28,4 +28,4 @@ returns-in-Some c =
     let place = subst (λ (o : Option Spot). IfSome o (λ p. IsPlace c.args.plan.now (place_at p))) c.in-Some.is c.requires.place in
     subst (λ (o : Option Spot). AreLeft c.args.plan.now c.args.epoch (option_map place_at o) (c.div_ceil.result + c.left_from.result)) (sym c.in-Some.is)
     (left-some c.args.plan.now c.args.epoch c.integration_last-i.result.0 c.div_ceil.result c.left_from.result (place_at c.in-Some.p) c.integration_last-i.result.1
-    c.requires.job c.requires.some c.requires.short place c.integration_last-i.ensures.last c.integration_last-i.ensures.next c.div_ceil.ensures c.left_from.ensures.count)
+    c.integration_last-i.ensures.job c.requires.some c.requires.short place c.integration_last-i.ensures.last c.integration_last-i.ensures.next c.div_ceil.ensures c.left_from.ensures.count)

@@ -5,6 +5,7 @@
 #![tactic(auto)]
 
 mod counts;
+mod cut;
 mod lags;
 mod pairs;
 mod side;

@@ -45,7 +45,7 @@ fn add_block(
     add_counts(first.there, second.there, sums, cells);
 }
 
-/// Adds to each cell the pairs of the first values and the second values, these as many places on as the cell's number. The second row
+/// Adds to each cell the pairs of the first values, at most 2^24, and the second values, these as many places on as the cell's number. The second row
 /// begins where the first lag has the first sample's pair, and goes on to the last sample's pair at the last lag, and one place
 /// further; where there is no sample, as outside a scan, its streams hold none. `sums` has a place for each cell, and `numbers`
 /// 4,096 and one for each cell; both are overwritten.

@@ -10,6 +10,9 @@ use std::alloc::{AllocError, Global};
 // What makes each component positive.
 pub(crate) const BIAS: u8 = 3;
 
+// The codes that are filled in at once: their bytes fit the first cache.
+const STRETCH: usize = 4_096;
+
 // Of each value a byte for its real component, one for its imaginary one, and 1 where there is a value.
 #[derive(Drop)]
 pub(crate) struct Bytes {
@@ -54,8 +57,30 @@ impl Bytes {
         bytes
     }
 
-    // Sets the bytes from place `first` on to those of the codes' values, in the room that there is; behind them there is none.
+    // Sets the bytes from place `first` on to those of the codes' values, in the room that there is; behind them there is none. It goes
+    // by stretches, so that the bytes that a stretch adds are still at hand when they are set.
     pub(crate) fn fill(&mut self, first: usize, codes: &[u8])
+        requires scan { first + length codes.now ≤ 2 ^ 40 }
+        requires streams { AreBytes self.old }
+        requires room { HaveRoom (first + length codes.now) self.old }
+        ensures room { (size : ℕ) → HaveRoom size self.old → HaveRoom size self.new }
+        ensures streams { AreBytes self.new }
+        ensures long { length self.new.there.items ≡ first + length codes.now }
+        ensures before { (k : ℕ) → k < first → value_in self.new k ≡ value_in self.old k }
+        ensures here { (k : ℕ) → value_in self.new (first + k) ≡ value_of (slice_index codes.now k) }
+    {
+        // where there are no codes this alone cuts off
+        self.fill_part(first, &[]);
+        let mut done = 0;
+        while done < codes.len() {
+            let count = (codes.len() - done).min(STRETCH);
+            self.fill_part(first + done, &codes[done..done + count]);
+            done += count;
+        }
+    }
+
+    // Sets the bytes from place `first` on to those of one stretch of codes; behind them there is none.
+    fn fill_part(&mut self, first: usize, codes: &[u8])
         requires scan { first + length codes.now ≤ 2 ^ 40 }
         requires streams { AreBytes self.old }
         requires room { HaveRoom (first + length codes.now) self.old }

@@ -265,3 +265,28 @@ fn no_values_without_codes(rt: HostRuntime) -> Result<(), Fail> {
     assert!(rt; are_filled(&[], &planes, 220));
     Ok(())
 }
+
+// Codes of all kinds, more than are filled in at once.
+fn many_codes() -> [u8; 9_000] {
+    let mut codes = [0; 9_000];
+    let mut state = 1_u32;
+    for code in codes.iter_mut() {
+        state = state.wrapping_mul(1_664_525).wrapping_add(1_013_904_223);
+        *code = numbered_code((state >> 24) as u8 % 36);
+    }
+    codes
+}
+
+// Planes filled from many codes show their values, also those on both sides of places 4,096 and 8,192.
+#[test]
+fn planes_of_many_codes(rt: HostRuntime) -> Result<(), Fail> {
+    let codes = many_codes();
+    let mut planes = Planes::room(rt.alloc(), 7, 9_007)?;
+    planes.fill(7, &codes);
+    assert_eq!(rt; planes.streams().there.len(), 9_000);
+    assert!(rt; is_filled(&codes, &planes, 0));
+    assert!(rt; is_filled(&codes, &planes, 4_064));
+    assert!(rt; is_filled(&codes, &planes, 8_160));
+    assert!(rt; is_filled(&codes, &planes, 8_960));
+    Ok(())
+}

@@ -9,6 +9,7 @@ ghost use Rattle.block_lags.specs.Cells.{IsGrown, lag_cell};
 ghost use Rattle.block_lags.specs.Scans.{AreRows};
 
 use crate::counts::add_counts;
+use crate::cut::block_size;
 use crate::pairs::add_pairs;
 use crate::turning::BLOCK;
 use byte_streams::Streams;
@@ -44,7 +45,7 @@ fn add_block(
     add_counts(first.there, second.there, sums, cells);
 }
 
-/// Adds to each cell the pairs of the first values and the second values, these as many places on as the cell's number. The second row
+/// Adds to each cell the pairs of the first values, at most 2^24, and the second values, these as many places on as the cell's number. The second row
 /// begins where the first lag has the first sample's pair, and goes on to the last sample's pair at the last lag, and one place
 /// further; where there is no sample, as outside a scan, its streams hold none. `sums` has a place for each cell, and `numbers`
 /// 4,096 and one for each cell; both are overwritten.
@@ -55,7 +56,7 @@ pub fn add_lags(
     sums: &mut [u32],
     cells: &mut [Cell],
 )
-    requires size { length first.now.there.now ≤ 2 ^ 36 }
+    requires size { length first.now.there.now ≤ 2 ^ 24 }
     requires room { length first.now.there.now + length cells.old ≤ length second.now.there.now }
     requires numbers { 4096 + length cells.old ≤ length numbers.old }
     requires work { length sums.old ≡ length cells.old }
@@ -67,11 +68,12 @@ pub fn add_lags(
         → IsGrown (cell_in z pair samples (least +ℤ pos i) from (from + length first.now.there.now)) (slice_index_or cells.old i no_cell) (slice_index_or cells.new i no_cell) }
 {
     let count = first.there.len();
-    for q in 0..count.div_ceil(BLOCK) {
-        let at = BLOCK * q;
-        let size = BLOCK.min(count - at);
+    let mut at = 0;
+    while at < count {
+        let size = block_size(first, second, at, cells.len());
         let here = first.part(at, size);
         let there = second.part(at, size + cells.len());
         add_block(&here, &there, numbers, sums, cells);
+        at += size;
     }
 }

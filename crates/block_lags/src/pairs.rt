@@ -42,10 +42,7 @@ pub(crate) fn add_pairs(
     ensures within { (most : ℕ) → AreWithin most cells.old → AreWithin (most + 3 * 2 ^ 34) cells.new }
 {
     let greatest = greatest(first.bias, second.bias);
-    let mut space = [0; BLOCK];
-    let mine = side_of(first, &mut space[..first.there.len()]);
-    let other = side_of(second, numbers);
-    match (mine, other) {
+    match (side_of(first), side_of(second)) {
         (Some(a), Some(b)) => add_levels(&a, &b, greatest, sums, cells),
         (Some(a), None) => add_with_level(&a, second, greatest, sums, cells),
         (None, Some(b)) => add_to_level(first, &b, greatest, sums, cells),

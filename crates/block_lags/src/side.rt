@@ -3,9 +3,9 @@ ghost use Rattle.std.specs.Prelude.{◌≡◌, ◌<◌, ◌≤◌, ◌+◌, ◌*
 ghost use Rattle.byte_streams.specs.Streams.{value_in};
 ghost use Rattle.block_lags.specs.Sides.{IsSide};
 
-use crate::uniform::are_all;
+use crate::uniform::{are_all, are_opposite, are_same};
 use byte_lags::{Stream, Weights};
-use byte_streams::{Streams, component_differences, component_sums};
+use byte_streams::Streams;
 
 /// A row of values that all have one direction or its opposite: a level for each, and how many times it is in the real part and
 /// in the imaginary one.
@@ -17,39 +17,37 @@ pub(crate) struct Side<'a> {
     ghost side: { IsSide (value_in row) row.bias (length row.there.now) level direction },
 }
 
-/// The row with its direction, where it has one. `numbers` has a place for each value, and is overwritten.
-pub(crate) fn side_of<'a>(s: &Streams<'a>, numbers: &mut [u8]) -> Option<Side<'a>>
-    requires { length numbers.old ≡ length s.now.there.now }
-    ensures len { length numbers.new ≡ length numbers.old }
-    ensures row { IfSome result (λ d. d.row ≡ s.now) }
+/// The row with its direction, where it has one.
+pub(crate) fn side_of<'a>(s: &Streams<'a>) -> Option<Side<'a>>
+    ensures { IfSome result (λ d. d.row ≡ s.now) }
 {
-    if are_all(s.im, s.bias) {
+    let re = s.reals();
+    let im = s.imaginaries();
+    if are_all(im.bytes, s.bias) {
         return Some(Side {
             row: *s,
-            level: s.reals(),
+            level: re,
             direction: Weights { re: 1, im: 0 },
         });
     }
-    if are_all(s.re, s.bias) {
+    if are_all(re.bytes, s.bias) {
         return Some(Side {
             row: *s,
-            level: s.imaginaries(),
+            level: im,
             direction: Weights { re: 0, im: 1 },
         });
     }
-    component_differences(s, numbers);
-    if are_all(numbers, 2 * s.bias) {
+    if are_same(re.bytes, im.bytes) {
         return Some(Side {
             row: *s,
-            level: s.reals(),
+            level: re,
             direction: Weights { re: 1, im: 1 },
         });
     }
-    component_sums(s, numbers);
-    if are_all(numbers, 2 * s.bias) {
+    if are_opposite(re.bytes, im.bytes, 2 * s.bias) {
         return Some(Side {
             row: *s,
-            level: s.reals(),
+            level: re,
             direction: Weights { re: 1, im: -1 },
         });
     }

@@ -1,12 +1,19 @@
 -- The sums of so many bytes from a place on.
-use Rattle.std.proofs.Common.{◌≡◌, ℕ, zero, suc, ◌+◌, ◌*◌, ◌<◌, ◌≤◌, List, get_or, refl, ap, arith, w8, Fits, add-zero, zero-add, add-one}
+use Rattle.std.proofs.Common.{◌≡◌, ℕ, zero, suc, ◌+◌, ◌*◌, ◌<◌, ◌≤◌, List, get_or, refl, ap, ◌∙◌, arith, w8, Fits, add-zero, zero-add, add-one}
 use Rattle.byte_sums.specs.Sums.{nat_sum}
 use Rattle.byte_lags.specs.Streams.{window}
-use Rattle.byte_sums.proofs.Chunks.{nat_sum-within}
+use Rattle.byte_sums.proofs.Chunks.{nat_sum-same, nat_sum-split, nat_sum-within}
 
-pub window-more : (bytes : List ℕ) (n : ℕ) → window bytes 0 (n + 1) ≡ window bytes 0 n + get_or bytes n 0
+-- a byte more
+pub window-more : (bytes : List ℕ) (at n : ℕ) → window bytes at (n + 1) ≡ window bytes at n + get_or bytes (at + n) 0
 unfolding nat_sum
-window-more bytes n = rw (add-one n) (ap (λ k. window bytes 0 n + get_or bytes k 0) (zero-add n))
+window-more bytes at n = rw (add-one n) refl
+
+-- a window more
+pub window-join : (bytes : List ℕ) (at n : ℕ) → window bytes 0 (at + n) ≡ window bytes 0 at + window bytes at n
+window-join bytes at n =
+    nat_sum-split (λ i. get_or bytes (0 + i) 0) at n
+    ∙ ap (λ s. window bytes 0 at + s) (nat_sum-same _ _ n (λ i _. ap (λ k. get_or bytes k 0) (zero-add (at + i))))
 
 pub window-none : (bytes : List ℕ) (at : ℕ) → 0 ≡ window bytes at 0
 unfolding nat_sum

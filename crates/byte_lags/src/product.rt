@@ -7,6 +7,9 @@ ghost use Rattle.corr_model.specs.Cell.{no_cell};
 use byte_sums::lag_sums;
 use corr_model::Cell;
 
+// How many bytes have a sum of 16 bits, whichever they are.
+const STRETCH: usize = 256;
+
 /// Numbers as bytes: each with the bias, which makes it positive.
 #[derive(Clone, Copy)]
 pub struct Stream<'a> {
@@ -21,7 +24,21 @@ pub struct Weights {
     pub im: i64,
 }
 
-// The sum of the first `count` bytes.
+// The sum of a stretch of bytes, which 16 bits hold.
+#[inline(always)]
+fn stretch_sum(bytes: &[u8], at: usize, count: usize) -> u16
+    requires room { at + count ≤ length bytes.now }
+    requires size { count ≤ STRETCH }
+    ensures { result ≡ window bytes.now at count }
+{
+    let mut sum: u16 = 0;
+    for i in 0..count {
+        sum += u16::from(bytes[at + i]);
+    }
+    sum
+}
+
+// The sum of the first `count` bytes, stretch by stretch.
 #[inline(always)]
 fn byte_sum(bytes: &[u8], count: usize) -> u64
     requires room { count ≤ length bytes.now }
@@ -30,8 +47,11 @@ fn byte_sum(bytes: &[u8], count: usize) -> u64
     ensures small { result ≤ 255 * count }
 {
     let mut sum: u64 = 0;
-    for i in 0..count {
-        sum += u64::from(bytes[i]);
+    let mut at = 0;
+    while at < count {
+        let size = STRETCH.min(count - at);
+        sum += u64::from(stretch_sum(bytes, at, size));
+        at += size;
     }
     sum
 }

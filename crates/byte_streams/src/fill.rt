@@ -1,8 +1,8 @@
-//! Streams from value codes: each byte of a component is looked up in a table of sixteen.
+//! Streams from value codes, in one pass: the bytes of both components are looked up in tables of sixteen.
 ghost use Rattle.std.specs.Prelude.{◌≡◌, ◌<◌, ◌≤◌, ◌+◌, ◌-◌, ◌*◌, ℕ, length, map, slice_index};
 ghost use Rattle.value_codes.specs.Codes.{value_of};
 ghost use Rattle.byte_streams.specs.Values.{AreStreams, byte_value};
-ghost use Rattle.byte_streams.specs.Codes.{byte_of, index_of, there_byte};
+ghost use Rattle.byte_streams.specs.Codes.{AreLookedUp, byte_of, index_of, there_byte};
 
 use std::simd::prelude::*;
 
@@ -17,6 +17,14 @@ const RE: [u8; 16] = [0, 0, 3, 6, 6, 6, 3, 0, 2, 2, 3, 4, 4, 4, 3, 2];
 
 const IM: [u8; 16] = [3, 0, 0, 0, 3, 6, 6, 6, 3, 2, 2, 2, 3, 4, 4, 4];
 
+// By the index of a code the bytes of its components, and the byte of both where there is no value.
+#[derive(Clone, Copy)]
+struct Table {
+    re: [u8; 16],
+    im: [u8; 16],
+    none: u8,
+}
+
 // The indexes of sixteen codes.
 #[inline(always)]
 fn indices(codes: u8x16) -> u8x16
@@ -29,19 +37,52 @@ fn indices(codes: u8x16) -> u8x16
     (direction ^ sign) | small
 }
 
-// The bytes of the sixteen codes from `at` on.
+// The bytes of sixteen codes: those of both components by their tables, and 1 where there is a value.
 #[inline(always)]
-fn looked_up(codes: &[u8], at: usize, table: u8x16, none: u8) -> u8x16
-    requires room { at + LANES ≤ length codes.now }
-    requires table { length table ≡ 16 }
-    ensures len { length result ≡ 16 }
-    ensures bytes { (k : ℕ) → k < 16 → slice_index result k ≡ byte_of table none (slice_index codes.now (at + k)) }
+fn looked_up(codes: u8x16, re: u8x16, im: u8x16, none: u8) -> (u8x16, u8x16, u8x16)
+    requires codes { length codes ≡ 16 }
+    requires re { length re ≡ 16 }
+    requires im { length im ≡ 16 }
+    ensures re { result.0 ≡ map (byte_of re none) codes }
+    ensures im { result.1 ≡ map (byte_of im none) codes }
+    ensures there { result.2 ≡ map there_byte codes }
 {
-    let vector = u8x16::from_slice(&codes[at..]);
-    let bytes = table.swizzle_dyn(indices(vector));
-    vector
-        .simd_eq(u8x16::splat(0))
-        .select(u8x16::splat(none), bytes)
+    let places = indices(codes);
+    let is_none = codes.simd_eq(u8x16::splat(0));
+    let nones = u8x16::splat(none);
+    (
+        is_none.select(nones, re.swizzle_dyn(places)),
+        is_none.select(nones, im.swizzle_dyn(places)),
+        is_none.select(u8x16::splat(0), u8x16::splat(1)),
+    )
+}
+
+// The bytes of the first `count` vectors of codes.
+fn fill_vectors(
+    table: &Table,
+    codes: &[u8],
+    count: usize,
+    re: &mut [u8],
+    im: &mut [u8],
+    there: &mut [u8],
+)
+    requires count { LANES * count ≤ length codes.now }
+    requires re { length re.old ≡ length codes.now }
+    requires im { length im.old ≡ length codes.now }
+    requires there { length there.old ≡ length codes.now }
+    ensures { AreLookedUp table.now codes.now (LANES * count) re.new im.new there.new }
+{
+    let re_table = u8x16::from_array(table.re);
+    let im_table = u8x16::from_array(table.im);
+    let none = table.none;
+    for i in 0..count {
+        let at = LANES * i;
+        let vector = u8x16::from_slice(&codes[at..]);
+        let (reals, imaginaries, marks) = looked_up(vector, re_table, im_table, none);
+        reals.copy_to_slice(&mut re[at..]);
+        imaginaries.copy_to_slice(&mut im[at..]);
+        marks.copy_to_slice(&mut there[at..]);
+    }
 }
 
 // The byte of one code.
@@ -58,19 +99,31 @@ fn byte(code: u8, table: &[u8; 16], none: u8) -> u8
     }
 }
 
-// A stream of the codes' bytes by a table.
-fn look_up(codes: &[u8], table: &[u8; 16], none: u8, out: &mut [u8])
-    requires { length out.old ≡ length codes.now }
-    ensures len { length out.new ≡ length codes.now }
-    ensures bytes { (i : ℕ) → i < length codes.now → slice_index out.new i ≡ byte_of table.now none (slice_index codes.now i) }
+// 1 where a code has a value.
+#[inline(always)]
+fn mark_of(code: u8) -> u8
+    ensures { result ≡ there_byte code }
 {
-    let count = codes.len() / LANES;
-    let lanes = u8x16::from_array(*table);
-    for i in 0..count {
-        looked_up(codes, LANES * i, lanes, none).copy_to_slice(&mut out[LANES * i..]);
-    }
-    for i in LANES * count..codes.len() {
-        out[i] = byte(codes[i], table, none);
+    if code == 0 { 0 } else { 1 }
+}
+
+// The bytes of the codes from `from` on, one by one.
+fn fill_rest(
+    table: &Table,
+    codes: &[u8],
+    from: usize,
+    re: &mut [u8],
+    im: &mut [u8],
+    there: &mut [u8],
+)
+    requires from { from ≤ length codes.now }
+    requires before { AreLookedUp table.now codes.now from re.old im.old there.old }
+    ensures { AreLookedUp table.now codes.now (length codes.now) re.new im.new there.new }
+{
+    for i in from..codes.len() {
+        re[i] = byte(codes[i], &table.re, table.none);
+        im[i] = byte(codes[i], &table.im, table.none);
+        there[i] = mark_of(codes[i]);
     }
 }
 
@@ -87,22 +140,19 @@ fn raised(table: &[u8; 16], more: u8) -> [u8; 16]
     sums
 }
 
-// 1 where a code has a value.
-#[inline(always)]
-fn mark_of(code: u8) -> u8
-    ensures { result ≡ there_byte code }
+// The table of components with a bias.
+fn table_of(bias: u8) -> Table
+    requires least { 3 ≤ bias }
+    requires bias { bias ≤ 15 }
+    ensures re { (k : ℕ) → k < 16 → slice_index result.re k ≡ slice_index RE k + (bias - 3) }
+    ensures im { (k : ℕ) → k < 16 → slice_index result.im k ≡ slice_index IM k + (bias - 3) }
+    ensures none { result.none ≡ bias }
 {
-    if code == 0 { 0 } else { 1 }
-}
-
-// Where there are values.
-fn mark(codes: &[u8], there: &mut [u8])
-    requires { length there.old ≡ length codes.now }
-    ensures len { length there.new ≡ length codes.now }
-    ensures bytes { (i : ℕ) → i < length codes.now → slice_index there.new i ≡ there_byte (slice_index codes.now i) }
-{
-    for i in 0..codes.len() {
-        there[i] = mark_of(codes[i]);
+    let more = bias - LEAST;
+    Table {
+        re: raised(&RE, more),
+        im: raised(&IM, more),
+        none: bias,
     }
 }
 
@@ -118,8 +168,8 @@ pub fn fill_streams(codes: &[u8], bias: u8, re: &mut [u8], im: &mut [u8], there:
     ensures values { (k : ℕ) → k < length codes.now
         → byte_value bias (slice_index re.new k) (slice_index im.new k) (slice_index there.new k) ≡ value_of (slice_index codes.now k) }
 {
-    let more = bias - LEAST;
-    look_up(codes, &raised(&RE, more), bias, re);
-    look_up(codes, &raised(&IM, more), bias, im);
-    mark(codes, there);
+    let table = table_of(bias);
+    let count = codes.len() / LANES;
+    fill_vectors(&table, codes, count, re, im, there);
+    fill_rest(&table, codes, LANES * count, re, im, there);
 }

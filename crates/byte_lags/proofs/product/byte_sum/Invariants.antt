@@ -1,7 +1,13 @@
--- The sum so far.
-use Rattle.std.proofs.Common.{◌≡◌}
+-- The sum of the stretches so far.
+use Rattle.std.proofs.Common.{◌≡◌, ◌≤◌, ◌-◌}
 use Rattle.byte_lags.specs.Streams.{window}
 use Rattle.byte_lags.proofs.product.byte_sum.Given as goal
 
-abbrev pub invariant-loop-i : goal.invariant-loop-i
-invariant-loop-i l = l.sum ≡ window l.bytes 0 l.i
+abbrev pub invariant-loop-at : goal.invariant-loop-at
+invariant-loop-at l = record {
+  within : l.at ≤ l.count;
+  sum : l.sum ≡ window l.bytes 0 l.at;
+}
+
+abbrev pub decreases-loop-at : goal.decreases-loop-at
+decreases-loop-at l = l.count - l.at

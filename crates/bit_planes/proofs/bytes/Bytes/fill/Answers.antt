@@ -1,45 +1,35 @@
-use Rattle.std.proofs.Common.{◌≡◌, ◌+◌, ◌≤◌, List, ℕ, length, get_or, arith, ap, ◌∙◌}
-use Rattle.bit_planes.specs.Planes.{bias}
-use Rattle.bit_planes.proofs.Rows.{filled-is, filled-are, filled-before, filled-behind}
+use Rattle.std.proofs.Common.{◌≡◌, ◌+◌, ◌-◌, ◌≤◌, ℕ, length, get_or, take, drop, arith, ap, ◌∙◌, subst, inl, inr}
+use Rattle.std.proofs.lemmas.Bool.{cases_lt}
+use Rattle.std.proofs.lemmas.List.{get_or-take, get_or-drop}
+use Rattle.value_codes.specs.Codes.{value_of}
+use Rattle.bit_planes.specs.Bytes.{value_in}
 use Rattle.bit_planes.proofs.bytes.Bytes.fill.Goals as goal
 
-pub returns : goal.returns
-returns c =
-    let old = c.args.self.now in
-    let out = c.fill_streams.new in
-    let filled = c.fill_streams.ensures in
+pub loop-done-preserved : goal.loop-done-preserved
+loop-done-preserved c =
+    let codes = c.args.codes.now in
     let first = c.args.first in
-    let size : ℕ = first + length c.args.codes.now in
-    let le : first ≤ size = omega arith in
-    let there_long : first + length out.there ≡ size = omega (arith, filled.len) in
-    let re_long : first + length out.re ≡ size = omega (arith, there_long, filled.streams.long_re) in
-    let im_long : first + length out.im ≡ size = omega (arith, there_long, filled.streams.long_im) in
-    let re =
-    filled-is old.re.items c.deref_mut.result.now out.re _ _ first size bias c.set_len.new.bytes.len le
-    (c.set_len.new.bytes.ok.0 ∙ c.set_len.ensures.len) (ap length c.deref_mut.ensures.value ∙ c.set_len.ensures.len) re_long
-    (λ k lt. ap (λ (l : List ℕ). get_or l k 0) c.deref_mut.ensures.value ∙ c.set_len.ensures.bytes k lt) in
-    let im =
-    filled-is old.im.items c.deref_mut-2.result.now out.im _ _ first size bias c.set_len-2.new.bytes.len le
-    (c.set_len-2.new.bytes.ok.0 ∙ c.set_len-2.ensures.len) (ap length c.deref_mut-2.ensures.value ∙ c.set_len-2.ensures.len) im_long
-    (λ k lt. ap (λ (l : List ℕ). get_or l k 0) c.deref_mut-2.ensures.value ∙ c.set_len-2.ensures.bytes k lt) in
-    let there =
-    filled-is old.there.items c.deref_mut-3.result.now out.there _ _ first size 0 c.set_len-3.new.bytes.len le
-    (c.set_len-3.new.bytes.ok.0 ∙ c.set_len-3.ensures.len) (ap length c.deref_mut-3.ensures.value ∙ c.set_len-3.ensures.len) there_long
-    (λ k lt. ap (λ (l : List ℕ). get_or l k 0) c.deref_mut-3.ensures.value ∙ c.set_len-3.ensures.bytes k lt) in
+    let done = c.loop-done.done in
+    let to : ℕ = done + c.min-count.result in
+    let old = c.loop-done.invariant in
+    let part = c.fill_part-in-loop-done.ensures in
+    let new = c.fill_part-in-loop-done.new.self in
+    let inside : to ≤ length codes = omega (arith, c.min-count.ensures, old.inside) in
+    let size : length (take (to - done) (drop done codes)) ≡ c.min-count.result = omega (arith, inside) in
     record {
-      room = λ m h. record {
-        re = omega (arith, h.re, c.set_len.ensures.room);
-        im = omega (arith, h.im, c.set_len-2.ensures.room);
-        there = omega (arith, h.there, c.set_len-3.ensures.room);
-      };
-      streams =
-          filled-are first size old.re.items old.im.items old.there.items out.re out.im out.there _ _ _ c.requires.streams filled.streams
-          re im there there_long;
-      long = there.long;
-      before =
-          filled-before first size old.re.items old.im.items old.there.items out.re out.im out.there _ _ _ c.requires.streams filled.streams
-          re im there there_long;
-      here =
-          filled-behind first size old.re.items old.im.items old.there.items out.re out.im out.there _ _ _ c.requires.streams filled.streams
-          re im there there_long c.args.codes.now filled.len filled.values;
+      inside = inside;
+      are = part.streams;
+      room = λ n have. part.room n (old.room n have);
+      long = omega (arith, part.long, size);
+      before = λ k lt. part.before k (omega arith) ∙ old.before k lt;
+      here = λ k lt. elim (cases_lt k done) [
+        | inl l ↦ part.before (first + k) (omega arith) ∙ old.here k l
+        | inr m ↦
+            let place : done + (k - done) ≡ k = omega arith in
+            let behind : first + (done + (k - done)) ≡ first + done + (k - done) = omega arith in
+            subst (λ j. value_in new (first + j) ≡ value_of (get_or codes j 0)) place
+            (ap (value_in new) behind
+            ∙ part.here (k - done)
+            ∙ ap value_of (get_or-take (to - done) (drop done codes) (k - done) 0 (omega arith) ∙ get_or-drop done codes (k - done) 0))
+      ];
     }

@@ -1,14 +1,12 @@
--- The lists of runs and of turns that an iterator gives, and all lists of them.
-use Rattle.std.proofs.Common.{◌≡◌, ℕ, ℤ, int_eq, nat_eq, ◌-◌, ◌≤◌, List, [], ◌∷◌, map, refl, sym, ap, subst, ◌∙◌, arith}
-use Rattle.std.proofs.lemmas.Bool.Decides.{Decides-int_eq, Decides-eqb}
+-- The list of runs that an iterator gives, and all lists of them.
+use Rattle.std.proofs.Common.{◌≡◌, ℕ, ℤ, int_eq, ◌-◌, ◌≤◌, List, [], ◌∷◌, map, refl, sym, ap, subst, ◌∙◌, arith}
+use Rattle.std.proofs.lemmas.Bool.Decides.{Decides-int_eq}
 use Rattle.std.specs.Iterator.{DrainsIf, Yields}
 use Rattle.corr_model.specs.Delay.{DelayModel, whole_at}
-use Rattle.corr_model.specs.Rotated.{Band}
 use Rattle.delay_track.specs.declared.runs.Run.{Run}
-use Rattle.delay_track.specs.declared.turns.Turn.{Turn}
-use Rattle.delay_track.specs.Runs.{RunsFields, IsNextRun, TurnsFields, IsNextTurn, sector_at}
+use Rattle.delay_track.specs.Runs.{RunsFields, IsNextRun}
 use Rattle.delay_laws.specs.Stretches.{Stretch}
-use Rattle.delay_laws.specs.Runs.{stretch_of_run, AreRuns, HasOneListOfRuns, stretch_of_turn, AreTurns, HasOneListOfTurns}
+use Rattle.delay_laws.specs.Runs.{stretch_of_run, AreRuns, HasOneListOfRuns}
 use Rattle.delay_laws.proofs.StretchLemmas.{none, first_then_rest}
 use Rattle.delay_laws.proofs.OnlyLemmas.{only, some_list}
 
@@ -22,16 +20,6 @@ runs_of_walk s (run ∷ runs) t walk ends =
 
 pub runs_of_drained : (s : RunsFields) (runs : List Run) → DrainsIf IsNextRun (Unit {0}) s runs → AreRuns s.model s.at s.to runs
 runs_of_drained s runs drained = runs_of_walk s runs drained.0 drained.1 (drained.2 tt).1.0
-
-turns_of_walk : (s : TurnsFields) (turns : List Turn) (t : TurnsFields) → Yields IsNextTurn s turns t → t.at ≡ t.to → AreTurns s.model s.band s.at s.to turns
-turns_of_walk s [] t same ends = none _ _ _ (ap (λ (k : TurnsFields). k.at) same ∙ ends ∙ sym (ap (λ (k : TurnsFields). k.to) same))
-turns_of_walk s (turn ∷ turns) t walk ends =
-    let behind = subst (λ (k : TurnsFields). AreTurns k.model k.band k.at k.to turns) walk.1.1 (turns_of_walk walk.0 turns t walk.2 ends) in
-    first_then_rest (sector_at s.model s.band) s.at s.to (stretch_of_turn turn) (map stretch_of_turn turns)
-    (record { begins = walk.1.0.begins; value = walk.1.0.sector; stretch = walk.1.0.stretch }) behind
-
-pub turns_of_drained : (s : TurnsFields) (turns : List Turn) → DrainsIf IsNextTurn (Unit {0}) s turns → AreTurns s.model s.band s.at s.to turns
-turns_of_drained s turns drained = turns_of_walk s turns drained.0 drained.1 (drained.2 tt).1.0
 
 -- a list of other things that show the same stretches
 module _ {R X : Type 0} (shown : R → Stretch X) (back : Stretch X → R) (there : (r : R) → back (shown r) ≡ r) (here : (s : Stretch X) → shown (back s) ≡ s) where
@@ -49,9 +37,6 @@ module _ {R X : Type 0} (shown : R → Stretch X) (back : Stretch X → R) (ther
 abbrev run_of : Stretch ℤ → Run
 run_of s = record { from = s.from; to = s.to; whole = s.value }
 
-abbrev turn_of : Stretch ℕ → Turn
-turn_of s = record { from = s.from; to = s.to; sector = s.value }
-
 pub one_list_of_runs : (m : DelayModel) (from to : ℕ) → from ≤ to → HasOneListOfRuns m from to
 one_list_of_runs m from to order =
     let list = some_list int_eq Decides-int_eq (whole_at m) to (to - from) from (omega (arith, order)) in
@@ -61,15 +46,4 @@ one_list_of_runs m from to order =
       runs = map run_of list.0;
       are = are;
       only = λ other are_too. shown_once stretch_of_run run_of (λ r. refl) (λ s. refl) (map run_of list.0) other (only (whole_at m) from to _ _ are are_too);
-    }
-
-pub one_list_of_turns : (m : DelayModel) (band : Band) (from to : ℕ) → from ≤ to → HasOneListOfTurns m band from to
-one_list_of_turns m band from to order =
-    let list = some_list nat_eq Decides-eqb (sector_at m band) to (to - from) from (omega (arith, order)) in
-    let shows = shown_back stretch_of_turn turn_of (λ r. refl) (λ s. refl) list.0 in
-    let are : AreTurns m band from to (map turn_of list.0) = rw shows list.1 in
-    record {
-      turns = map turn_of list.0;
-      are = are;
-      only = λ other are_too. shown_once stretch_of_turn turn_of (λ r. refl) (λ s. refl) (map turn_of list.0) other (only (sector_at m band) from to _ _ are are_too);
     }

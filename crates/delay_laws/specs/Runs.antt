@@ -1,10 +1,7 @@
--- The lists of all runs of one whole delay, and of all turns of one sector.
+-- The list of all runs of one whole delay.
 use Rattle.std.specs.Prelude.{◌≡◌, ℕ, ℤ, List, map}
 use Rattle.corr_model.specs.Delay.{DelayModel, whole_at}
-use Rattle.corr_model.specs.Rotated.{Band}
 use Rattle.delay_track.specs.declared.runs.Run.{Run}
-use Rattle.delay_track.specs.declared.turns.Turn.{Turn}
-use Rattle.delay_track.specs.Runs.{sector_at}
 use Rattle.delay_laws.specs.Stretches.{Stretch, AreStretches}
 
 -- a run as a stretch of its whole delay
@@ -20,17 +17,3 @@ pub record HasOneListOfRuns (m : DelayModel) (from to : ℕ) : Type 0 where
   pub runs : List Run
   pub are : AreRuns m from to runs
   pub only : (other : List Run) → AreRuns m from to other → runs ≡ other
-
--- a turn as a stretch of its sector
-abbrev pub stretch_of_turn : Turn → Stretch ℕ
-stretch_of_turn turn = record { from = turn.from; to = turn.to; value = turn.sector }
-
--- the turns of a range: the stretches on which the sector of the delay is the same
-abbrev pub AreTurns : DelayModel → Band → ℕ → ℕ → List Turn → Type 0
-AreTurns m band from to turns = AreStretches (sector_at m band) from to (map stretch_of_turn turns)
-
--- a range has a list of turns, and no second one
-pub record HasOneListOfTurns (m : DelayModel) (band : Band) (from to : ℕ) : Type 0 where
-  pub turns : List Turn
-  pub are : AreTurns m band from to turns
-  pub only : (other : List Turn) → AreTurns m band from to other → turns ≡ other

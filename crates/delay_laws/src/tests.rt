@@ -1,11 +1,11 @@
-//! All runs and turns of a scan of two seconds, 64 samples in each, with one polynomial.
+//! All runs of a scan of two seconds, 64 samples in each, with one polynomial.
 ghost use Rattle.std.specs.Prelude.{◌≡◌, ◌≤◌, ◌<◌, ◌^◌, [], IfOk, IfSome};
 ghost use Rattle.std.specs.List.{All};
 ghost use Rattle.num_time.specs.Times.{IsSecond};
 
-use crate::{all_runs, all_turns, one_list_of_runs, one_list_of_turns};
+use crate::{all_runs, one_list_of_runs};
 use delay_poly::{Poly, PolyEntry, PolyList};
-use delay_track::{Run, StationModel, Track, Turn};
+use delay_track::{Run, StationModel, Track};
 use station_clock::ClockList;
 use std::alloc::Global;
 use std::test::Fail;
@@ -15,10 +15,6 @@ const SECOND: i64 = 1_262_304_000;
 
 fn run(from: u64, to: u64, whole: i64) -> Run {
     Run { from, to, whole }
-}
-
-fn turn(from: u64, to: u64, sector: u8) -> Turn {
-    Turn { from, to, sector }
 }
 
 // The polynomial from the scan's begin on.
@@ -64,22 +60,6 @@ fn runs_of(alloc: Global, coeffs: &[i64], from: u64, to: u64) -> Result<Vec<Run>
     Ok(all_runs(alloc, &track, from, to)?)
 }
 
-fn turns_of(
-    alloc: Global,
-    coeffs: &[i64],
-    upper: bool,
-    from: u64,
-    to: u64,
-) -> Result<Vec<Turn>, Fail>
-    requires order { from ≤ to }
-    requires inside { to ≤ 128 }
-{
-    let polys = polys_of(alloc, coeffs)?;
-    let clocks = ClockList::new(alloc);
-    let track = track_of(&polys, &clocks).ok_or("no track")?;
-    Ok(all_turns(alloc, &track, 64, upper, from, to)?)
-}
-
 // A delay that falls by a sample, of which a half is rounded up, and one that falls from a half.
 #[test]
 fn runs_of_a_falling_delay(rt: HostRuntime) -> Result<(), Fail> {
@@ -95,26 +75,5 @@ fn runs_of_a_falling_delay(rt: HostRuntime) -> Result<(), Fail> {
     let runs = runs_of(alloc, &[2_147_483_648, -16_777_216], 0, 128)?;
     assert_eq!(rt; runs.as_slice(), [run(0, 1, 1), run(1, 128, 0)].as_slice());
     one_list_of_runs();
-    Ok(())
-}
-
-// A delay that rises by a sample, which is a turn at 64 hertz: a sixteenth of a turn is 8 samples.
-#[test]
-fn turns_of_a_rising_delay(rt: HostRuntime) -> Result<(), Fail> {
-    let alloc = rt.alloc();
-    let by_a_sample = [0, 72_057_594_037_927_936];
-    let turns = turns_of(alloc, &by_a_sample, true, 0, 20)?;
-    assert_eq!(rt;
-        turns.as_slice(),
-        [turn(0, 8, 0), turn(8, 16, 1), turn(16, 20, 2)].as_slice()
-    );
-    let turns = turns_of(alloc, &by_a_sample, false, 0, 12)?;
-    assert_eq!(rt;
-        turns.as_slice(),
-        [turn(0, 1, 0), turn(1, 9, 15), turn(9, 12, 14)].as_slice()
-    );
-    let none = turns_of(alloc, &by_a_sample, true, 40, 40)?;
-    assert!(rt; none.is_empty());
-    one_list_of_turns();
     Ok(())
 }

@@ -1,14 +1,12 @@
 -- The delays at which a quotient that is rounded down stays the same.
-use Rattle.std.proofs.Common.{◌≡◌, ◌≢◌, ℕ, ◌+◌, ◌-◌, ◌*◌, ◌/◌, ◌^◌, ◌≤◌, ◌<◌, ℤ, pos, unsigned_abs, ◌+ℤ◌, ◌-ℤ◌, ◌*ℤ◌, ◌≤ℤ◌, ◌<ℤ◌, ◌⊎◌, ⊎_elim, inl, inr, sym, ap, subst, true, false, arith}
+use Rattle.std.proofs.Common.{◌≡◌, ◌≢◌, ℕ, ◌+◌, ◌-◌, ◌*◌, ◌/◌, ◌^◌, ◌≤◌, ◌<◌, ℤ, pos, unsigned_abs, ◌+ℤ◌, ◌-ℤ◌, ◌*ℤ◌, ◌≤ℤ◌, ◌<ℤ◌, ◌⊎◌, ⊎_elim, inl, inr, sym, ap, subst, arith}
 use Rattle.std.specs.Int.{int_div_euclid, int_rem_euclid}
 use Rattle.std.proofs.lemmas.Int.{ints, by_lt_z}
 use Rattle.std.proofs.lemmas.Nat.{le-div, mul-le}
 use Rattle.std.proofs.lemmas.Bool.{cases_lt}
-use Rattle.fringe_rotator.specs.Sector.{turn_of, sixteenths_of}
 use Rattle.corr_model.specs.Delay.{nearest}
 use Rattle.delay_line.specs.Interval.{IsIntervalOf}
 use Rattle.delay_line.proofs.Floors.{floor_split, floor_unique, rest_below}
-use Rattle.delay_line.proofs.Products.{upper-later, upper-earlier, lower-later, lower-earlier}
 
 -- f is the same so far below x and so far above it, and another further off
 interval_around : {X : Type 0} (f : ℤ → X) (x : ℤ) (below above : ℕ)
@@ -121,16 +119,6 @@ nearest_interval x r small rest =
     at : (below above : ℕ) → below ≡ r → above ≡ 2 ^ 32 - 1 - r → IsIntervalOf nearest x (x -ℤ pos below) (x +ℤ pos above +ℤ pos 1)
         → IsIntervalOf nearest x (x -ℤ pos r) (x +ℤ pos (2 ^ 32 - 1 - r) +ℤ pos 1)
     at below above e g h = rw (e, g) at h
-
-pub upper_interval : (hertz rate r : ℕ) (x : ℤ) → r < rate * 2 ^ 32 → 0 < 16 * hertz → int_rem_euclid (turn_of hertz true x) (pos (rate * 2 ^ 32)) ≡ pos r
-    → IsIntervalOf (λ d. sixteenths_of hertz true d rate) x (x -ℤ pos (r / (16 * hertz))) (x +ℤ pos ((rate * 2 ^ 32 - 1 - r) / (16 * hertz)) +ℤ pos 1)
-upper_interval hertz rate r x small some rest =
-    rising_interval (turn_of hertz true) x (16 * hertz) (rate * 2 ^ 32) r small some (λ j. upper-later hertz j x) (λ j. upper-earlier hertz j x) rest
-
-pub lower_interval : (hertz rate r : ℕ) (x : ℤ) → r < rate * 2 ^ 32 → 0 < 16 * hertz → int_rem_euclid (turn_of hertz false x) (pos (rate * 2 ^ 32)) ≡ pos r
-    → IsIntervalOf (λ d. sixteenths_of hertz false d rate) x (x -ℤ pos ((rate * 2 ^ 32 - 1 - r) / (16 * hertz))) (x +ℤ pos (r / (16 * hertz)) +ℤ pos 1)
-lower_interval hertz rate r x small some rest =
-    falling_interval (turn_of hertz false) x (16 * hertz) (rate * 2 ^ 32) r small some (λ j. lower-later hertz j x) (λ j. lower-earlier hertz j x) rest
 
 -- an interval by other names of its ends
 pub interval_at : {X : Type 0} (f : ℤ → X) (x least end least' end' : ℤ) → IsIntervalOf f x least end → least' ≡ least → end' ≡ end → IsIntervalOf f x least' end'

@@ -1,6 +1,5 @@
 pub mod Floors
 pub mod Lines
-pub mod Products
 pub mod Intervals
 pub mod Exits
 pub mod Stretches

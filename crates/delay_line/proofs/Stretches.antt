@@ -1,11 +1,7 @@
 -- The stretch of samples on which a line is within an interval.
-use Rattle.std.proofs.Common.{◌≡◌, ℕ, ◌^◌, ◌≤◌, ◌<◌, Bool, ℤ, pos, unsigned_abs, refl, sym, ap, ◌∙◌, arith}
-use Rattle.std.specs.Int.{int_rem_euclid}
-use Rattle.fringe_rotator.specs.Sector.{sixteenths_of}
+use Rattle.std.proofs.Common.{◌≡◌, ℕ, ◌^◌, ◌≤◌, ◌<◌, ℤ, unsigned_abs, refl, sym, ap, ◌∙◌, arith}
 use Rattle.corr_model.specs.Delay.{between}
-use Rattle.delay_line.specs.declared.line.Line.{Line}
 use Rattle.delay_line.specs.Interval.{IsIn, IsIntervalOf}
-use Rattle.delay_line.specs.Line.{sector_on}
 use Rattle.delay_line.specs.Stretch.{IsExit, IsStretch}
 use Rattle.delay_line.proofs.Lines.{unsigned_abs-between}
 
@@ -25,12 +21,3 @@ stretch_of_exit f first next x least until k from to end a b within is interval 
   longest = λ less e. exit.ends less
       (interval.all (between first next end k) (unsigned_abs-between first next end k (2 ^ 59) (omega arith) a b) (e ∙ sym (ap f is)));
 }
-
--- the same sixteenths are the same sector
-pub sector-same : (line : Line) (hertz : ℕ) (upper : Bool) (rate : ℕ) (x least until : ℤ) (from to end : ℕ)
-    → x ≡ between line.first line.next from line.knot → IsIntervalOf (λ d. sixteenths_of hertz upper d rate) x least until
-    → IsExit (λ n. IsIn least until (between line.first line.next n line.knot)) from to end
-    → (n : ℕ) → from ≤ n → n < end → sector_on line hertz upper rate n ≡ sector_on line hertz upper rate from
-sector-same line hertz upper rate x least until from to end is interval exit n p q =
-    ap (λ z. unsigned_abs (int_rem_euclid z (pos 16)))
-    (interval.same (between line.first line.next n line.knot) (exit.holds n p q) ∙ ap (λ d. sixteenths_of hertz upper d rate) is)

@@ -1,3 +1,2 @@
 pub mod Stretch
 pub mod Interval
-pub mod Line

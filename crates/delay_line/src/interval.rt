@@ -1,7 +1,6 @@
-//! The delays at which the whole samples, or the sixteenths of a turn, are those of one delay.
-ghost use Rattle.std.specs.Prelude.{◌≡◌, ◌*◌, ◌^◌, ◌≤◌, ◌<◌, pos, ◌+ℤ◌, ◌-ℤ◌, unsigned_abs};
+//! The delays at which the whole samples are those of one delay.
+ghost use Rattle.std.specs.Prelude.{◌≡◌, ◌^◌, ◌<◌, pos, ◌+ℤ◌, ◌-ℤ◌, unsigned_abs};
 ghost use Rattle.std.specs.Int.{int_rem_euclid};
-ghost use Rattle.fringe_rotator.specs.Sector.{turn_of, sixteenths_of};
 ghost use Rattle.corr_model.specs.Delay.{nearest};
 ghost use Rattle.delay_line.specs.Interval.{IsIntervalOf};
 
@@ -44,48 +43,4 @@ pub(crate) fn whole_interval(delay: i64) -> Interval
 {
     let past = past_whole(delay);
     around(delay, past, (1 << 32) - 1 - past)
-}
-
-// Sixteenths of a turn, times the samples of a second and 2^32.
-fn turn(hertz: u64, upper: bool, delay: i64) -> i128
-    requires frequency { hertz < 2 ^ 40 }
-    requires delay { unsigned_abs delay < 2 ^ 59 }
-    ensures value { result ≡ turn_of hertz upper delay }
-    ensures bound { unsigned_abs result < 2 ^ 104 }
-{
-    let size = i128::from(16 * hertz) * i128::from(delay);
-    if upper { size } else { -size }
-}
-
-// How far that is past the last sixteenth, which is `second` of these units.
-fn past_sixteenth(hertz: u64, upper: bool, second: u64, delay: i64) -> u64
-    requires frequency { hertz < 2 ^ 40 }
-    requires some { 0 < second }
-    requires delay { unsigned_abs delay < 2 ^ 59 }
-    ensures value { int_rem_euclid (turn_of hertz upper delay) (pos second) ≡ pos result }
-    ensures bound { result < second }
-{
-    turn(hertz, upper, delay).rem_euclid(i128::from(second)) as u64
-}
-
-// The delays of the same sixteenth of a turn. A frequency of zero never turns.
-pub(crate) fn turn_interval(hertz: u64, upper: bool, rate: u32, delay: i64) -> Interval
-    requires frequency { hertz < 2 ^ 40 }
-    requires rate { 0 < rate }
-    requires delay { unsigned_abs delay < 2 ^ 59 }
-    ensures interval { IsIntervalOf (λ d. sixteenths_of hertz upper d rate) delay result.least result.end }
-    ensures bound_least { unsigned_abs result.least < 2 ^ 90 }
-    ensures bound_end { unsigned_abs result.end < 2 ^ 90 }
-{
-    let second = u64::from(rate) * (1 << 32);
-    let past = past_sixteenth(hertz, upper, second, delay);
-    let left = second - 1 - past;
-    let step = 16 * hertz;
-    if step == 0 {
-        around(delay, 1 << 60, 1 << 60)
-    } else if upper {
-        around(delay, past / step, left / step)
-    } else {
-        around(delay, left / step, past / step)
-    }
 }

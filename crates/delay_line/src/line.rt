@@ -1,7 +1,7 @@
 ghost use Rattle.std.specs.Prelude.{◌≡◌, ◌^◌, ◌<◌, pos, ◌*ℤ◌, unsigned_abs};
 ghost use Rattle.std.specs.Int.{int_div_euclid};
 
-use crate::interval::{Interval, turn_interval, whole_interval};
+use crate::interval::{Interval, whole_interval};
 use crate::reach::{first_past, first_reaching, gap, rise};
 
 // A rise times `past` / `knot`, rounded down.
@@ -24,11 +24,10 @@ pub struct Line {
 }
 
 impl Line {
-    ghost use Rattle.std.specs.Prelude.{◌≡◌, ◌^◌, ◌≤◌, ◌<◌, ℕ, unsigned_abs};
+    ghost use Rattle.std.specs.Prelude.{◌≡◌, ◌^◌, ◌≤◌, ◌<◌, unsigned_abs};
     ghost use Rattle.corr_model.specs.Delay.{between, nearest};
     ghost use Rattle.delay_line.specs.Interval.{IsIn};
     ghost use Rattle.delay_line.specs.Stretch.{IsExit, IsStretch};
-    ghost use Rattle.delay_line.specs.Line.{sector_on};
 
     /// The delay `past` samples behind the first knot.
     pub fn delay(&self, past: u32) -> i64
@@ -68,20 +67,5 @@ impl Line {
         ensures { IsStretch (λ n. nearest (between self.now.first self.now.next n self.now.knot)) from to result }
     {
         self.leaves(from, to, whole_interval(self.delay(from)))
-    }
-
-    /// The samples from `from` on, up to the one that is answered and at most up to `to`, have one sector of the band
-    /// whose sky frequency is `hertz`, at `rate` samples a second; behind them the sector may come to the same again.
-    pub fn sector_end(&self, hertz: u64, upper: bool, rate: u32, from: u32, to: u32) -> u32
-        requires order { from < to }
-        requires within { to ≤ self.now.knot }
-        requires frequency { hertz < 2 ^ 40 }
-        requires rate { 0 < rate }
-        ensures after { from < result }
-        ensures within { result ≤ to }
-        ensures same { (n : ℕ) → from ≤ n → n < result → sector_on self.now hertz upper rate n ≡ sector_on self.now hertz upper rate from }
-    {
-        let delays = turn_interval(hertz, upper, rate, self.delay(from));
-        self.leaves(from, to, delays)
     }
 }

@@ -2,10 +2,9 @@
 //! the sample, the straight line between them, and the whole samples nearest to that. It stands on
 //! `corr_model` for the definition, on `entry_list` for the entry in force, on `delay_poly` and
 //! `station_clock` for the values at a knot, and on `delay_line` for the line. The runs of one whole delay
-//! and the turns of one sector go from piece to piece: a piece ends at a knot, or where the next
-//! polynomial begins. A delay is what the definition says and its magnitude is
-//! below 2^60; nothing overflows, and no call takes memory or walks over the samples.
-//! (Thompson, Moran and Swenson, chapters 8 and 9.)
+//! go from piece to piece: a piece ends at a knot, or where the next polynomial begins. A delay is what the
+//! definition says and its magnitude is below 2^60; nothing overflows, and no call takes memory or walks
+//! over the samples. (Thompson, Moran and Swenson, chapters 8 and 9.)
 #![tactic(auto)]
 
 mod line;
@@ -14,11 +13,9 @@ mod piece;
 mod polynomial;
 mod runs;
 mod track;
-mod turns;
 
 pub use line::nearest;
 pub use model::StationModel;
 pub use piece::Piece;
 pub use runs::{Run, Runs};
 pub use track::Track;
-pub use turns::{Turn, Turns};

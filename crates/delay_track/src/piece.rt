@@ -15,9 +15,8 @@ pub struct Piece {
 }
 
 impl Piece {
-    ghost use Rattle.std.specs.Prelude.{◌≡◌, ℕ, ◌^◌, ◌<◌, ◌≤◌, ◌+◌, ◌-◌, ◌↔◌, IsTrue, unsigned_abs};
+    ghost use Rattle.std.specs.Prelude.{◌≡◌, ◌^◌, ◌<◌, ◌≤◌, ◌+◌, ◌-◌, ◌↔◌, IsTrue, unsigned_abs};
     ghost use Rattle.corr_model.specs.Delay.{nearest};
-    ghost use Rattle.corr_model.specs.Rotated.{band_sector};
     ghost use Rattle.delay_line.specs.Stretch.{IsStretch};
     ghost use Rattle.delay_track.specs.Piece.{delay_on};
 
@@ -71,24 +70,5 @@ impl Piece {
     {
         let past = self.past(n);
         n + u64::from(self.line.whole_end(past, self.past(self.to)) - past)
-    }
-
-    // The end of a stretch of one sector from sample `n` on, and in the piece.
-    pub(crate) fn sector_end(&self, hertz: u64, upper: bool, rate: u32, n: u64) -> u64
-        requires begun { self.now.from ≤ n }
-        requires within { n < self.now.to }
-        requires frequency { hertz < 2 ^ 40 }
-        requires rate { 0 < rate }
-        ensures after { n < result }
-        ensures within { result ≤ self.now.to }
-        ensures same { (i : ℕ) → n ≤ i → i < result
-            → band_sector (record { hertz = hertz; upper = upper }) rate (delay_on self.now i)
-            ≡ band_sector (record { hertz = hertz; upper = upper }) rate (delay_on self.now n) }
-    {
-        let past = self.past(n);
-        let end = self
-            .line
-            .sector_end(hertz, upper, rate, past, self.past(self.to));
-        n + u64::from(end - past)
     }
 }

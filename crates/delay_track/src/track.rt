@@ -3,9 +3,8 @@ ghost use Rattle.corr_model.specs.Delay.{IsDelayModel, has_model, has_clock};
 ghost use Rattle.delay_track.specs.Model.{delay_model};
 
 use crate::piece::Piece;
-use crate::{Run, Runs, StationModel, Turn, Turns, nearest};
+use crate::{Run, Runs, StationModel, nearest};
 use delay_poly::PolyList;
-use fringe_rotator::sector;
 use station_clock::ClockList;
 
 /// The delay of a station through a scan all of whose samples have a model and a clock. The scan starts
@@ -30,7 +29,7 @@ impl<'a> Track<'a> {
     ghost use Rattle.delay_track.specs.StationModel.{delay_model_of};
     ghost use Rattle.delay_track.specs.Track.{model_of};
     ghost use Rattle.delay_track.specs.Piece.{IsPiece};
-    ghost use Rattle.delay_track.specs.Runs.{IsRun, IsTurn, sector_at};
+    ghost use Rattle.delay_track.specs.Runs.{IsRun};
 
     // What the track's delays depend on.
     fn model(&self) -> StationModel<'a>
@@ -72,16 +71,6 @@ impl<'a> Track<'a> {
         ensures { result ≡ record { model = model_of self.now; at = from; to = to } }
     {
         Runs::new(self, from, to)
-    }
-
-    /// The longest stretches of one sector of a band, in order, through the samples from `from` up to, not including, `to`.
-    pub fn turns(&self, hertz: u64, upper: bool, from: u64, to: u64) -> Turns<'a>
-        requires frequency { hertz < 2 ^ 40 }
-        requires order { from ≤ to }
-        requires inside { to ≤ self.now.samples }
-        ensures { result ≡ record { model = model_of self.now; band = record { hertz = hertz; upper = upper }; at = from; to = to } }
-    {
-        Turns::new(self, hertz, upper, from, to)
     }
 
     /// The piece that has sample `n`, before `to`: this one, or else the one that begins there. It ends at a knot, or where the
@@ -154,69 +143,5 @@ impl<'a> Track<'a> {
             end = self.whole_end(&piece, end);
         }
         (Run { from, to, whole }, piece)
-    }
-
-    // The sector of a band at sample `n` of a piece.
-    fn sector_on(&self, piece: &Piece, hertz: u64, upper: bool, n: u64) -> u8
-        requires frequency { hertz < 2 ^ 40 }
-        requires begun { piece.now.from ≤ n }
-        requires before { n < piece.now.to }
-        requires line { IsPiece (model_of self.now) piece.now }
-        ensures { result ≡ sector_at (model_of self.now) (record { hertz = hertz; upper = upper }) n }
-    {
-        sector(hertz, upper, piece.delay(n), self.rate)
-    }
-
-    // Up to which sample of a piece the sector of a band is that of sample `n`; it may be the same behind that.
-    fn sector_end(&self, piece: &Piece, hertz: u64, upper: bool, n: u64) -> u64
-        requires frequency { hertz < 2 ^ 40 }
-        requires begun { piece.now.from ≤ n }
-        requires before { n < piece.now.to }
-        requires line { IsPiece (model_of self.now) piece.now }
-        ensures after { n < result }
-        ensures within { result ≤ piece.now.to }
-        ensures same { (i : ℕ) → n ≤ i → i < result
-            → sector_at (model_of self.now) (record { hertz = hertz; upper = upper }) i
-            ≡ sector_at (model_of self.now) (record { hertz = hertz; upper = upper }) n }
-    {
-        piece.sector_end(hertz, upper, self.rate, n)
-    }
-
-    // The turn of sample `from`, before `to`, and the piece at its end. A turn goes on from one piece to the next.
-    pub(crate) fn turn_from(
-        &self,
-        piece: Piece,
-        hertz: u64,
-        upper: bool,
-        from: u64,
-        to: u64,
-    ) -> (Turn, Piece)
-        requires frequency { hertz < 2 ^ 40 }
-        requires order { from < to }
-        requires inside { to ≤ self.now.samples }
-        requires within { piece.to ≤ to }
-        requires line { IsPiece (model_of self.now) piece }
-        ensures turn { IsTurn (model_of self.now) (record { hertz = hertz; upper = upper }) from to result.0 }
-        ensures within { result.1.to ≤ to }
-        ensures line { IsPiece (model_of self.now) result.1 }
-    {
-        let mut piece = self.piece_with(piece, from, to);
-        let sector = self.sector_on(&piece, hertz, upper, from);
-        let mut end = self.sector_end(&piece, hertz, upper, from);
-        while end < to {
-            piece = self.piece_with(piece, end, to);
-            if self.sector_on(&piece, hertz, upper, end) != sector {
-                return (
-                    Turn {
-                        from,
-                        to: end,
-                        sector,
-                    },
-                    piece,
-                );
-            }
-            end = self.sector_end(&piece, hertz, upper, end);
-        }
-        (Turn { from, to, sector }, piece)
     }
 }

@@ -1,4 +1,5 @@
 pub mod QuotientLemmas
 pub mod Eighths
+pub mod Products
 pub mod Rooms
 pub mod LineLemmas

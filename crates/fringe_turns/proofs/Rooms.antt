@@ -6,7 +6,7 @@ use Rattle.std.proofs.lemmas.Int.{ints}
 use Rattle.fringe_rotator.specs.Sector.{turn_of}
 use Rattle.corr_model.specs.Rotated.{Band}
 use Rattle.delay_line.specs.Interval.{IsIn, IsIntervalOf}
-use Rattle.delay_line.proofs.Products.{upper-later, upper-earlier, lower-later, lower-earlier}
+use Rattle.fringe_turns.proofs.Products.{upper-later, upper-earlier, lower-later, lower-earlier}
 use Rattle.delay_line.proofs.Intervals.{rising_interval, falling_interval}
 use Rattle.fringe_turns.specs.Direction.{direction_of}
 use Rattle.fringe_turns.specs.Eighths.{IsRoom}

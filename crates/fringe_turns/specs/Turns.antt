@@ -4,11 +4,17 @@ use Rattle.corr_model.specs.Delay.{DelayModel}
 use Rattle.corr_model.specs.Rotated.{Band}
 use Rattle.delay_track.specs.declared.piece.Piece.{Piece}
 use Rattle.delay_track.specs.Piece.{delay_on}
-use Rattle.delay_track.specs.Runs.{TurnsFields}
 use Rattle.fringe_turns.specs.declared.fringe.Fringe.{Fringe}
 use Rattle.fringe_turns.specs.declared.turns.Turn.{Turn}
 use Rattle.fringe_turns.specs.Direction.{direction_at}
 use Rattle.fringe_turns.specs.Eighths.{facing_of}
+
+-- the directions of a band at the samples that are left, those from `at` up to, not including, `to`
+pub record TurnsFields : Type 0 where
+  pub model : DelayModel
+  pub band : Band
+  pub at : ℕ
+  pub to : ℕ
 
 -- samples from `from` on, and before `to`, and the direction of each of them
 pub record IsTurn (m : DelayModel) (band : Band) (from to : ℕ) (turn : Turn) : Type 0 where

@@ -34,8 +34,8 @@ pub struct Turns<'a> {
 
 impl<'a> Model for Turns<'a> {
     ghost use Rattle.delay_track.specs.Track.{model_of};
-    ghost use Rattle.delay_track.specs.Runs.{TurnsFields};
     ghost use Rattle.fringe_turns.specs.Eighths.{band_of};
+    ghost use Rattle.fringe_turns.specs.Turns.{TurnsFields};
 
     ghost Value = { TurnsFields };
 

@@ -5,6 +5,7 @@ use crate::text::numbers;
 use anyhow::{Context, Result, bail};
 use delay_poly::{Poly, PolyEntry, PolyList};
 use delay_track::{StationModel, Track};
+use fringe_turns::turns_of;
 use pulsar_bins::{bin, bin_runs};
 use station_clock::{ClockEntry, ClockList};
 use std::alloc::Global;
@@ -159,7 +160,7 @@ impl Entries {
         Ok(())
     }
 
-    // The turns of one sector of a band through these samples.
+    // The turns of one direction of a band through these samples.
     fn print_turns(&self, rt: &impl Print, upper: bool, values: &[i64]) -> Result<()> {
         let [hertz, from, to] = values else {
             bail!("frequency, from and to");
@@ -177,8 +178,8 @@ impl Entries {
         if hertz >= 1 << 40 || from > to || to > self.samples {
             bail!("no such frequency or samples");
         }
-        for turn in track.turns(hertz, upper, from, to) {
-            print!(rt; "{} to {} of {}, ", turn.from, turn.to, turn.sector)?;
+        for turn in turns_of(&track, hertz, upper, from, to) {
+            print!(rt; "{} to {} of {}, ", turn.from, turn.to, turn.direction)?;
         }
         println!(rt; "end")?;
         Ok(())

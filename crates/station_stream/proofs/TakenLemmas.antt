@@ -1,14 +1,18 @@
 -- Levels as bytes: the byte of a level, and those of the frames of a thread.
-use Rattle.std.proofs.Common.{◌≡◌, ◌∙◌, refl, sym, ap, ap₂, subst, ℕ, ◌+◌, ◌-◌, ◌*◌, ◌/◌, ◌%◌, ◌<◌, ◌≤◌, ◌≢◌, ◌==◌, ⊎_elim, option_map, true, false, ℤ, ◌*ℤ◌, List, length, get_or, Option, Some, None, arith}
+use Rattle.std.proofs.Common.{◌≡◌, ◌∙◌, refl, sym, ap, ap₂, subst, ℕ, ◌+◌, ◌-◌, ◌*◌, ◌/◌, ◌%◌, ◌<◌, ◌≤◌, ◌≢◌, ◌==◌, ⊎_elim, option_map, true, false, ℤ, pos, ◌*ℤ◌, unsigned_abs, List, length, get_or, Option, Some, None, arith}
+use Rattle.std.specs.Int.{int_rem_euclid}
 use Rattle.std.specs.Ordering.{int_eq}
 use Rattle.std.proofs.lemmas.Bool.{agree_below, agree_below_at, cases_lt}
 use Rattle.std.proofs.lemmas.Bool.Decides.{Decides-int_eq, nat_tests}
 use Rattle.std.proofs.lemmas.Nat.{div-add-mod', div-mul-add, mod-mul-add}
 use borrow.Rule.Slice.PartMut.{put_mid}
 use Rattle.vdif_frame.specs.Shape.{ShapeFields, samples_per_frame}
+use Rattle.fringe_rotator.specs.Sector.{sixteenths_of}
 use Rattle.fringe_rotator.specs.Table.{cos3, sin3}
 use Rattle.sample_unpack.specs.Level.{level_of}
-use Rattle.corr_model.specs.Rotated.{turned}
+use Rattle.corr_model.specs.Rotated.{Band, turned, band_sector}
+use Rattle.delay_line.proofs.Floors.{rest_below}
+use Rattle.fringe_turns.specs.Direction.{direction_of}
 use Rattle.value_codes.specs.Codes.{value_of, turned_by}
 use Rattle.station_stream.specs.declared.thread_frames.ThreadFrames.{ThreadFrames}
 use Rattle.station_stream.specs.ThreadFrames.{level_in_frame}
@@ -27,10 +31,21 @@ turned-direction level s h =
     ap₂ (λ c d. (level *ℤ c, level *ℤ d)) (by_sector cos3 (λ s. cos3 (2 * ((s + 1) / 2 % 8))) refl s h)
     (by_sector sin3 (λ s. sin3 (2 * ((s + 1) / 2 % 8))) refl s h)
 
-pub turned_by-sector : (level : Option ℤ) (s : ℕ) → s < 16
+turned_by-sector : (level : Option ℤ) (s : ℕ) → s < 16
     → option_map (λ x. turned_by x ((s + 1) / 2 % 8)) level ≡ option_map (λ x. turned x s) level
 turned_by-sector None s sixteen = refl
 turned_by-sector (Some x) s sixteen = ap Some (sym (turned-direction x s sixteen))
+
+place-below : (z : ℤ) → unsigned_abs (int_rem_euclid z (pos 16)) < 16
+place-below z =
+    let rest = rest_below z 16 (omega arith) in
+    rw rest.1 rest.2
+
+-- so the direction of a delay turns a level as its sector does
+pub turned_by-direction : (level : Option ℤ) (band : Band) (rate : ℕ) (delay : ℤ)
+    → option_map (λ x. turned_by x (direction_of band rate delay)) level ≡ option_map (λ x. turned x (band_sector band rate delay)) level
+turned_by-direction level band rate delay =
+    turned_by-sector level (band_sector band rate delay) (place-below (sixteenths_of band.hertz band.upper delay rate))
 
 -- a byte that is 8 more than these two has both in it
 pub value_of-code : (code direction : ℕ) → code < 4 → direction < 8

@@ -1,7 +1,7 @@
 //! The values of a station's channels in a window of a scan: its recorded samples, taken as many samples on as the whole
-//! delay says and turned by the sector of the delay. It stands on `frame_index` for the places of frames, on `delay_track`
-//! for delays and sectors, on `value_codes` for levels and values in bytes, on `job_plan` for plans, and on a `Shelf` for the files,
-//! whose stretches `shelf_stretch` reads.
+//! delay says and turned by the sector of the delay. It stands on `frame_index` for the places of frames, on `delay_track` for
+//! delays, on `fringe_turns` for the direction of a delay's sector, on `value_codes` for levels and values in bytes, on
+//! `job_plan` for plans, and on a `Shelf` for the files, whose stretches `shelf_stretch` reads.
 //!
 //! A `Stream` keeps one byte for a sample, a code. It is loaded sweep by sweep, a sweep being samples whose recorded ones lie close
 //! together, with less than a frame between them: a window's slots of a thread are read one behind the other, once, for all its

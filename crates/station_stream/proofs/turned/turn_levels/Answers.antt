@@ -1,7 +1,8 @@
 use Rattle.std.proofs.Common.{◌≡◌, ◌+◌, ◌-◌, ◌≤◌, ◌∙◌, ap, sym, length, arith}
 use Rattle.delay_track.specs.Track.{model_of}
-use Rattle.delay_track.specs.Runs.{TurnsFields, sector_at}
 use Rattle.corr_model.specs.Rotated.{Band}
+use Rattle.fringe_turns.specs.Direction.{direction_at}
+use Rattle.fringe_turns.specs.Turns.{TurnsFields}
 use Rattle.station_stream.proofs.PartLemmas.{length-part}
 use Rattle.station_stream.proofs.TurnLemmas.{TurnLies-from, value_of-turn, left-turn}
 use Rattle.station_stream.proofs.turned.turn_levels.Goals as goal
@@ -31,8 +32,8 @@ loop-turn-preserved c =
       to = to ∙ c.loop-turn.invariant.to;
       begun = omega (arith, at, lies.begun, lies.after);
       within = omega (arith, at, to, lies.end, c.loop-turn.invariant.to);
-      turned = λ k level h taken. value_of-turn (sector_at (model_of track) band) c.args.from turn.from (c.args.from + length c.args.codes.now) turn.to turn.sector n c.args.codes.now codes part
-          lies.stretch lies.sector lies.begun all count long
+      turned = λ k level h taken. value_of-turn (direction_at (model_of track) band) c.args.from turn.from turn.to turn.direction n c.args.codes.now codes part
+          lies.direction lies.begun (omega (arith, lies.after)) (omega (arith, lies.end, all)) count long
           (λ j l before. c.loop-turn.invariant.turned j l (omega (arith, before, c.in-Some.ensures.steps.0.begins)))
           (λ j behind. c.loop-turn.invariant.left j (omega (arith, behind, c.in-Some.ensures.steps.0.begins)))
           (λ j l below was. c.turn_codes.ensures j l (omega (arith, below, size)) was) k level (omega (arith, h, at)) taken;

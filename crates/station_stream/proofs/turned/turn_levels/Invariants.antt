@@ -1,8 +1,7 @@
 use Rattle.std.proofs.Common.{◌≡◌, ◌+◌, ◌-◌, ◌<◌, ◌≤◌, ℕ, ℤ, Option, option_map, length, get_or}
-use Rattle.corr_model.specs.Delay.{delay_at}
-use Rattle.corr_model.specs.Rotated.{turned, band_sector}
 use Rattle.delay_track.specs.Track.{model_of}
-use Rattle.value_codes.specs.Codes.{value_of}
+use Rattle.fringe_turns.specs.Direction.{direction_at}
+use Rattle.value_codes.specs.Codes.{value_of, turned_by}
 use Rattle.value_codes.specs.Taken.{IsTaken}
 use Rattle.station_stream.proofs.turned.turn_levels.Given as goal
 
@@ -14,8 +13,8 @@ invariant-loop-turn l = record {
   begun : l.from ≤ l.turns.at;
   within : l.turns.at ≤ l.turns.to;
   turned : (k : ℕ) (level : Option ℤ) → l.from + k < l.turns.at → IsTaken (get_or l.initial.codes k 0) level
-      → value_of (get_or l.codes k 0) ≡ option_map (λ x. turned x (band_sector (record { hertz = l.chan.hertz; upper = l.chan.upper })
-      l.part.track.rate (delay_at (model_of l.part.track) (l.from + k)))) level;
+      → value_of (get_or l.codes k 0) ≡ option_map (λ x. turned_by x (direction_at (model_of l.part.track)
+      (record { hertz = l.chan.hertz; upper = l.chan.upper }) (l.from + k))) level;
   left : (k : ℕ) → l.turns.at ≤ l.from + k → get_or l.codes k 0 ≡ get_or l.initial.codes k 0;
 }
 

@@ -2,7 +2,7 @@
 # make demo    correlate the recordings of demo/ by its two jobs, unproved: the same source with checks at run time, in some two minutes
 # make example the same by the proved program
 # make test    prove everything, try the edits that must fail, run the tests and the programs
-# make refused refuse each allocation of a call in turn, of every command and kind of journal, unproved
+# make refused refuse each allocation of a call in turn, of every command and kind of journal, by the proved table of cases
 # make fringe  simulate two stations, correlate them, draw the fringe in fringe/ and compare it with theory
 # make sky    three stations and two sources that move as on the sky: from a schedule to FITS-IDI and pictures in sky/, compared with theory
 # make install PREFIX=/usr/local DESTDIR=    install the program, its manual pages, the Python tools and modules, completion and the documents

@@ -1,80 +1,28 @@
--- Rows of bytes: the bytes of each value by themselves, one value more, and rows that are filled behind a place.
-use Rattle.std.proofs.Common.{◌≡◌, ℕ, ◌+◌, ◌-◌, ◌*◌, ◌<◌, ◌≤◌, List, [], ◌∷◌, ◌++◌, length, get_or, take, None, refl, sym, subst, ap, ap₂, ◌∙◌, arith, inl, inr, length-append}
+-- Rows of packed values: one value more, and rows that are filled behind a place.
+use Rattle.std.specs.Prelude.{IfSome}
+use Rattle.std.proofs.Common.{◌≡◌, ℕ, ℤ, ◌+◌, ◌-◌, ◌<◌, ◌≤◌, List, [], ◌∷◌, ◌++◌, length, get_or, take, Some, None, refl, sym, subst, ap, ◌∙◌, arith, inl, inr, length-append}
 use Rattle.std.proofs.lemmas.Bool.{cases_lt}
+use Rattle.std.proofs.lemmas.Int.{ints}
 use Rattle.std.proofs.lemmas.List.{get_or_past, get_or_default, get_or-take, get_or_append_left, get_or-append_right, length-take-le}
+use Rattle.corr_model.specs.Cell.{Value}
 use Rattle.value_codes.specs.Codes.{value_of}
-use Rattle.byte_streams.specs.Values.{AreStreams, byte_value}
-use Rattle.byte_streams.proofs.Bytes.{all_small}
-use Rattle.bit_planes.specs.Planes.{bias}
-use Rattle.bit_planes.specs.Bytes.{IsByte}
+use Rattle.packed_values.specs.Packed.{AreTwoBit, IsTwoBit, IsPacked, ArePacked, packed_value}
+use Rattle.bit_planes.specs.Ternary.{AreTernary, IsTernary}
 
--- ---- the bytes of each value
-
-byte-same : (r i t x y z : ℕ) → r ≡ x → i ≡ y → t ≡ z → IsByte x y z → IsByte r i t
-byte-same r i t x y z e f g is = record {
-  re = omega (arith, e, is.re);
-  im = omega (arith, f, is.im);
-  there = omega (arith, g, is.there);
-  none = λ zero. let none = is.none (sym g ∙ zero) in (e ∙ none.0, f ∙ none.1);
-}
-
-pub value-same : (r i t x y z : ℕ) → r ≡ x → i ≡ y → t ≡ z → byte_value bias r i t ≡ byte_value bias x y z
-value-same r i t x y z e f g = ap₂ (λ a b. byte_value bias a b t) e f ∙ ap (byte_value bias x y) g
-
-pub rows-are : (r i t : List ℕ) → length r ≡ length t → length i ≡ length t
-    → ((k : ℕ) → k < length t → IsByte (get_or r k 0) (get_or i k 0) (get_or t k 0)) → AreStreams bias r i t
-rows-are r i t long_re long_im each = record {
-  low = omega arith;
-  long_re = long_re;
-  long_im = long_im;
-  re = all_small (2 * bias) r (λ k lt. (each k (omega (arith, lt, long_re))).re);
-  im = all_small (2 * bias) i (λ k lt. (each k (omega (arith, lt, long_im))).im);
-  there = all_small 1 t (λ k lt. (each k lt).there);
-  none = λ k lt zero. (each k lt).none zero;
-}
-
--- no value at all
-pub rows-none : (r i t : List ℕ) → r ≡ [] → i ≡ [] → t ≡ [] → AreStreams bias r i t
-rows-none r i t e f g =
-    let re : length r ≡ 0 = ap length e in
-    let im : length i ≡ 0 = ap length f in
-    let there : length t ≡ 0 = ap length g in
-    rows-are r i t (omega (arith, re, there)) (omega (arith, im, there)) (λ k lt. absurd (omega (arith, lt, there)))
-
-module _ (r i t : List ℕ) (are : AreStreams bias r i t) where
-  byte-in : (k : ℕ) → k < length t → IsByte (get_or r k 0) (get_or i k 0) (get_or t k 0)
-  byte-in k lt = record { re = are.re k; im = are.im k; there = are.there k; none = are.none k lt }
-
-  re-or : (k : ℕ) → k < length t → get_or r k bias ≡ get_or r k 0
-  re-or k lt = sym (get_or_default r k 0 bias (omega (arith, lt, are.long_re)))
-
-  im-or : (k : ℕ) → k < length t → get_or i k bias ≡ get_or i k 0
-  im-or k lt = sym (get_or_default i k 0 bias (omega (arith, lt, are.long_im)))
-
-  -- past the end there is no value
-  byte-or : (k : ℕ) → IsByte (get_or r k bias) (get_or i k bias) (get_or t k 0)
-  byte-or k =
-      elim (cases_lt k (length t)) [
-        | inl lt ↦
-            byte-same _ _ _ _ _ _ (re-or k lt) (im-or k lt) refl (byte-in k lt)
-        | inr past ↦
-            byte-same _ _ _ bias bias 0 (get_or_past r k bias (omega (arith, are.long_re))) (get_or_past i k bias (omega (arith, are.long_im)))
-            (get_or_past t k 0 (omega arith))
-            (record { re = omega arith; im = omega arith; there = omega arith; none = λ zero. (refl, refl) })
+-- a component by two ternary parts is one of two bits
+two_bit : (x : ℤ) → IsTernary x → IsTwoBit x
+two_bit x is =
+    elim is [
+      | inl none ↦ (omega (arith, ints, none), omega (arith, ints, none))
+      | inr some ↦ elim some [
+        | inl one ↦ (omega (arith, ints, one), omega (arith, ints, one))
+        | inr three ↦ (omega (arith, ints, three), omega (arith, ints, three))
       ]
+    ]
 
-  pub value-or : (k : ℕ) → byte_value bias (get_or r k bias) (get_or i k bias) (get_or t k 0) ≡ byte_value bias (get_or r k 0) (get_or i k 0) (get_or t k 0)
-  value-or k =
-      elim (cases_lt k (length t)) [
-        | inl lt ↦
-            value-same _ _ _ _ _ _ (re-or k lt) (im-or k lt) refl
-        | inr past ↦
-            let gone : get_or t k 0 ≡ 0 = get_or_past t k 0 (omega arith) in
-            ap (byte_value bias (get_or r k bias) (get_or i k bias)) gone ∙ sym (ap (byte_value bias (get_or r k 0) (get_or i k 0)) gone)
-      ]
-
-  pub value-past : (k : ℕ) → length t ≤ k → byte_value bias (get_or r k 0) (get_or i k 0) (get_or t k 0) ≡ None
-  value-past k le = ap (byte_value bias (get_or r k 0) (get_or i k 0)) (get_or_past t k 0 le)
+pub are_two_bit : (v : Value) → IfSome v AreTernary → IfSome v AreTwoBit
+are_two_bit None are = tt
+are_two_bit (Some v) are = (two_bit v.0 are.0, two_bit v.1 are.1)
 
 -- ---- one value more
 
@@ -88,21 +36,15 @@ module _ (xs : List ℕ) (x : ℕ) where
       place : n - n ≡ 0
       place = omega arith
 
-module _ (r i t : List ℕ) (x y z : ℕ) (are : AreStreams bias r i t) where
-  pub more-are : IsByte x y z → AreStreams bias (r ++ x ∷ []) (i ++ y ∷ []) (t ++ z ∷ [])
-  more-are is =
-      let long : length (t ++ z ∷ []) ≡ length t + 1 = length-append t (z ∷ []) in
-      rows-are (r ++ x ∷ []) (i ++ y ∷ []) (t ++ z ∷ [])
-      (omega (arith, long, are.long_re, length-append r (x ∷ [])))
-      (omega (arith, long, are.long_im, length-append i (y ∷ [])))
-      (λ k lt. elim (cases_lt k (length t)) [
-        | inl before ↦
-            byte-same _ _ _ _ _ _ (more-before r x k (length t) are.long_re before) (more-before i y k (length t) are.long_im before)
-            (more-before t z k (length t) refl before) (byte-in r i t are k before)
+  pub more-are : ArePacked xs → IsPacked x → ArePacked (xs ++ x ∷ [])
+  more-are are is k lt =
+      let long : length (xs ++ x ∷ []) ≡ length xs + 1 = length-append xs (x ∷ []) in
+      elim (cases_lt k (length xs)) [
+        | inl before ↦ subst IsPacked (sym (more-before k (length xs) refl before)) (are k before)
         | inr past ↦
-            let here : length t ≡ k = omega (arith, lt, long) in
-            byte-same _ _ _ x y z (more-here r x k (are.long_re ∙ here)) (more-here i y k (are.long_im ∙ here)) (more-here t z k here) is
-      ])
+            let here : length xs ≡ k = omega (arith, lt, long) in
+            subst IsPacked (sym (more-here k here)) is
+      ]
 
 -- ---- rows that are filled behind a place
 
@@ -141,30 +83,41 @@ filled-is old now out none rest first size byte n le e long_now long_out same =
       ];
     }
 
-module _ (first size : ℕ) (r i t p q s x y z : List ℕ) (old : AreStreams bias r i t) (out : AreStreams bias p q s)
-    (re : IsFilled first size bias r p x) (im : IsFilled first size bias i q y) (there : IsFilled first size 0 t s z) (long : first + length s ≡ size) where
-  pub filled-are : AreStreams bias x y z
-  filled-are =
-      rows-are x y z (re.long ∙ sym there.long) (im.long ∙ sym there.long)
-      (λ k lt. elim (cases_lt k first) [
-        | inl before ↦ byte-same _ _ _ _ _ _ (re.before k before) (im.before k before) (there.before k before) (byte-or r i t old k)
+module _ (first size none : ℕ) (old out new : List ℕ) (are : ArePacked old) (packed : ArePacked out) (is_none : IsPacked none) (no : packed_value none ≡ None)
+    (is : IsFilled first size none old out new) (long : first + length out ≡ size) where
+  byte-or : (k : ℕ) → IsPacked (get_or old k none)
+  byte-or k =
+      elim (cases_lt k (length old)) [
+        | inl lt ↦ subst IsPacked (get_or_default old k 0 none lt) (are k lt)
+        | inr past ↦ subst IsPacked (sym (get_or_past old k none (omega arith))) is_none
+      ]
+
+  value-or : (k : ℕ) → packed_value (get_or old k none) ≡ packed_value (get_or old k 0)
+  value-or k =
+      elim (cases_lt k (length old)) [
+        | inl lt ↦ ap packed_value (sym (get_or_default old k 0 none lt))
+        | inr past ↦ ap packed_value (get_or_past old k none (omega arith)) ∙ no ∙ sym (ap packed_value (get_or_past old k 0 (omega arith)))
+      ]
+
+  pub filled-are : ArePacked new
+  filled-are k lt =
+      elim (cases_lt k first) [
+        | inl before ↦ subst IsPacked (sym (is.before k before)) (byte-or k)
         | inr behind ↦
             let place : first + (k - first) ≡ k = omega arith in
-            subst (λ j. IsByte (get_or x j 0) (get_or y j 0) (get_or z j 0)) place
-            (byte-same _ _ _ _ _ _ (re.behind (k - first)) (im.behind (k - first)) (there.behind (k - first))
-            (byte-in p q s out (k - first) (omega (arith, lt, there.long, long))))
-      ])
+            subst (λ j. IsPacked (get_or new j 0)) place
+            (subst IsPacked (sym (is.behind (k - first))) (packed (k - first) (omega (arith, lt, is.long, long))))
+      ]
 
-  pub filled-before : (k : ℕ) → k < first
-      → byte_value bias (get_or x k 0) (get_or y k 0) (get_or z k 0) ≡ byte_value bias (get_or r k 0) (get_or i k 0) (get_or t k 0)
-  filled-before k lt = value-same _ _ _ _ _ _ (re.before k lt) (im.before k lt) (there.before k lt) ∙ value-or r i t old k
+  pub filled-before : (k : ℕ) → k < first → packed_value (get_or new k 0) ≡ packed_value (get_or old k 0)
+  filled-before k lt = ap packed_value (is.before k lt) ∙ value-or k
 
-  pub filled-behind : (codes : List ℕ) → length s ≡ length codes
-      → ((k : ℕ) → k < length codes → byte_value bias (get_or p k 0) (get_or q k 0) (get_or s k 0) ≡ value_of (get_or codes k 0))
-      → (k : ℕ) → byte_value bias (get_or x (first + k) 0) (get_or y (first + k) 0) (get_or z (first + k) 0) ≡ value_of (get_or codes k 0)
+  pub filled-behind : (codes : List ℕ) → length out ≡ length codes
+      → ((k : ℕ) → k < length codes → packed_value (get_or out k 0) ≡ value_of (get_or codes k 0))
+      → (k : ℕ) → packed_value (get_or new (first + k) 0) ≡ value_of (get_or codes k 0)
   filled-behind codes same values k =
-      value-same _ _ _ _ _ _ (re.behind k) (im.behind k) (there.behind k)
+      ap packed_value (is.behind k)
       ∙ elim (cases_lt k (length codes)) [
         | inl lt ↦ values k lt
-        | inr past ↦ value-past p q s out k (omega (arith, same)) ∙ sym (ap value_of (get_or_past codes k 0 (omega arith)))
+        | inr past ↦ ap packed_value (get_or_past out k 0 (omega (arith, same))) ∙ sym (ap value_of (get_or_past codes k 0 (omega arith)))
       ]

@@ -3,9 +3,10 @@ use Rattle.std.specs.Prelude.{if◌then◌else◌}
 use Rattle.std.proofs.Common.{◌≡◌, ℕ, ◌+◌, ◌<◌, ◌≤◌, Bool, true, false, ◌&&◌, int_le, int_lt, unsigned_abs, ℤ, pos, ◌+ℤ◌, ◌-ℤ◌, ◌≤ℤ◌, ◌<ℤ◌, List, length, get_or, None, inl, inr, refl, sym, ap, ap₂, ◌∙◌, arith}
 use Rattle.std.proofs.lemmas.Bool.{cases_lt}
 use Rattle.std.proofs.lemmas.Int.{ints}
+use Rattle.std.proofs.lemmas.List.{get_or_past}
 use Rattle.value_codes.specs.Codes.{value_of}
+use Rattle.packed_values.specs.Packed.{packed_value}
 use Rattle.bit_planes.specs.Planes.{PlanesFields, ArePlanes, held_value, plane_value, size_of}
-use Rattle.bit_planes.proofs.Rows.{value-past}
 
 pub plane_value-inside : (p : PlanesFields) (n : ℤ) (k : ℕ) → p.from +ℤ pos k ≡ n → n <ℤ p.to → plane_value p n ≡ held_value p k
 plane_value-inside p n k e h =
@@ -28,8 +29,8 @@ plane_value-before p n h =
     let low : int_le p.from n ≡ false = grind (arith, ints) in
     ap (λ s. if s && int_lt n p.to then held_value p (unsigned_abs (n -ℤ p.from)) else None) low
 
-held-past : (p : PlanesFields) → ArePlanes p → (k : ℕ) → length p.there ≤ k → held_value p k ≡ None
-held-past p are k le = value-past p.re p.im p.there are.streams k le
+held-past : (p : PlanesFields) → ArePlanes p → (k : ℕ) → length p.packed ≤ k → held_value p k ≡ None
+held-past p are k le = ap packed_value (get_or_past p.packed k 0 le)
 
 -- from the first sample on
 pub plane_value-held : (p : PlanesFields) → ArePlanes p → (n : ℤ) (k : ℕ) → p.from +ℤ pos k ≡ n → plane_value p n ≡ held_value p k
@@ -42,7 +43,7 @@ plane_value-held p are n k e =
     ]
 
 -- where no value is held there is none
-pub plane_value-none : (p : PlanesFields) → ArePlanes p → length p.there ≡ 0 → (n : ℤ) → plane_value p n ≡ None
+pub plane_value-none : (p : PlanesFields) → ArePlanes p → length p.packed ≡ 0 → (n : ℤ) → plane_value p n ≡ None
 plane_value-none p are empty n = both (int_le p.from n) (int_lt n p.to)
   where
     both : (s t : Bool) → (if s && t then held_value p (unsigned_abs (n -ℤ p.from)) else None) ≡ None

@@ -1,24 +1,17 @@
 -- The values that planes hold, by bytes.
-use Rattle.std.specs.Prelude.{ℕ, ◌^◌, ◌≤◌, ◌&&◌, ℤ, pos, ◌-ℤ◌, ◌≤ℤ◌, int_le, int_lt, unsigned_abs, List, None, length, slice_index, if◌then◌else◌}
+use Rattle.std.specs.Prelude.{ℕ, ◌^◌, ◌≤◌, ◌&&◌, ℤ, pos, ◌-ℤ◌, ◌≤ℤ◌, int_le, int_lt, unsigned_abs, List, None, length, if◌then◌else◌}
 use Rattle.corr_model.specs.Cell.{Value}
-use Rattle.byte_streams.specs.Values.{AreStreams, byte_value}
+use Rattle.packed_values.specs.Packed.{ArePacked, packed_in}
 
--- The samples from `from` up to, not including, `to`, and of each that is held, from the first on, a byte for its real component,
--- one for its imaginary one, and 1 where there is a value.
+-- The samples from `from` up to, not including, `to`, and of each that is held, from the first on, its value in a byte.
 pub record PlanesFields : Type 0 where
   pub from : ℤ
   pub to : ℤ
-  pub re : List ℕ
-  pub im : List ℕ
-  pub there : List ℕ
-
--- what makes each component positive
-abbrev pub bias : ℕ
-bias = 3
+  pub packed : List ℕ
 
 -- value k of those that are held, none past the last one
 abbrev pub held_value : PlanesFields → ℕ → Value
-held_value p k = byte_value bias (slice_index p.re k) (slice_index p.im k) (slice_index p.there k)
+held_value p k = packed_in p.packed k
 
 -- the value at sample n, none outside the range
 abbrev pub plane_value : PlanesFields → ℤ → Value
@@ -33,5 +26,5 @@ pub record ArePlanes (p : PlanesFields) : Type 0 where
   pub start : pos 0 ≤ℤ p.from
   pub order : p.from ≤ℤ p.to
   pub end : p.to ≤ℤ pos (2 ^ 40)
-  pub streams : AreStreams bias p.re p.im p.there
-  pub held : length p.there ≤ size_of p
+  pub packed : ArePacked p.packed
+  pub held : length p.packed ≤ size_of p

@@ -1,21 +1,21 @@
 //! The values of a range of samples.
 ghost use Rattle.std.specs.Prelude.{◌≡◌, ◌<◌, ◌≤◌, ◌+◌, ◌^◌, ℕ, ℤ, pos, ◌+ℤ◌, ◌-ℤ◌, ◌≤ℤ◌, ◌<ℤ◌, unsigned_abs, length, slice_index, IfOk, IfSome, None};
 ghost use Rattle.std.specs.Int.{bit_at};
-ghost use Rattle.byte_streams.specs.Streams.{value_at};
+ghost use Rattle.packed_values.specs.Packed.{packed_at};
 ghost use Rattle.value_codes.specs.Codes.{value_of};
-ghost use Rattle.bit_planes.specs.Planes.{bias, plane_value, size_of};
+ghost use Rattle.bit_planes.specs.Planes.{plane_value, size_of};
 ghost use Rattle.bit_planes.specs.Shown.{plane_bit};
 ghost use Rattle.bit_planes.specs.Ternary.{AreTernary};
 
 use crate::asked::ask;
-use crate::bytes::{BIAS, Bytes};
+use crate::bytes::Bytes;
 use crate::shown::word_at;
-use byte_streams::Streams;
 use corr_model::Values;
+use packed_values::Packed;
 use std::alloc::{AllocError, Global};
 use std::marker::Model;
 
-/// The values of a station's channel at the samples from one up to, not including, another, a byte for each component.
+/// The values of a station's channel at the samples from one up to, not including, another, a byte for each.
 #[derive(Drop)]
 pub struct Planes {
     from: i64,
@@ -30,10 +30,10 @@ impl Model for Planes {
 
     ghost Value = { PlanesFields };
 
-    ghost view = { λ p. record { from = p.from; to = p.to; re = p.bytes.re.items; im = p.bytes.im.items; there = p.bytes.there.items } };
+    ghost view = { λ p. record { from = p.from; to = p.to; packed = p.bytes.packed.items } };
 
     // the bytes have room for all the samples, so that `fill` takes no memory
-    ghost invariant = { λ p. ArePlanes (record { from = p.from; to = p.to; re = p.bytes.re.items; im = p.bytes.im.items; there = p.bytes.there.items })
+    ghost invariant = { λ p. ArePlanes (record { from = p.from; to = p.to; packed = p.bytes.packed.items })
         × HaveRoom (unsigned_abs (p.to -ℤ p.from)) p.bytes };
 }
 
@@ -125,20 +125,16 @@ impl Planes {
         self.to
     }
 
-    /// The streams of the values, from the first sample on.
-    pub fn streams(&self) -> Streams<'_>
-        ensures bias { result.bias ≡ bias }
-        ensures values { (n : ℤ) → plane_value self.now n ≡ value_at result (n -ℤ self.now.from) }
-        ensures held { length result.there.now ≤ size_of self.now }
+    /// The row of the values, from the first sample on.
+    pub fn packed(&self) -> Packed<'_>
+        ensures values { (n : ℤ) → plane_value self.now n ≡ packed_at result.bytes.now (n -ℤ self.now.from) }
+        ensures held { length result.bytes.now ≤ size_of self.now }
         ensures start { pos 0 ≤ℤ self.now.from }
         ensures order { self.now.from ≤ℤ self.now.to }
         ensures end { self.now.to ≤ℤ pos (2 ^ 40) }
     {
-        Streams {
-            re: &self.bytes.re,
-            im: &self.bytes.im,
-            there: &self.bytes.there,
-            bias: BIAS,
+        Packed {
+            bytes: &self.bytes.packed,
         }
     }
 

@@ -1,12 +1,11 @@
 //! The nine planes of values.
 ghost use Rattle.std.specs.Prelude.{◌≡◌, ◌<◌, ◌≤◌, ◌+◌, ◌^◌, ℕ, length, if◌then◌else◌};
 ghost use Rattle.std.specs.Int.{bit_at};
-ghost use Rattle.byte_streams.specs.Values.{component};
-ghost use Rattle.bit_planes.specs.Planes.{bias};
 ghost use Rattle.bit_planes.specs.Bytes.{AreBytes, value_in};
 ghost use Rattle.bit_planes.specs.Shown.{has_part, has_sign, part_bit, plane_bit};
 
 use crate::bytes::Bytes;
+use packed_values::unpack;
 
 // Whether a ternary part of a component is not 0.
 fn has_part(part: u8, x: i8) -> bool
@@ -47,23 +46,15 @@ fn plane_bit(plane: u8, value: Option<(i8, i8)>) -> bool
     part_bit(place, if place / 4 == 0 { re } else { im })
 }
 
-// The number that a byte stands for.
-fn component(byte: u8) -> i8
-    requires { byte ≤ 6 }
-    ensures { result ≡ component bias byte }
-{
-    byte as i8 - 3
-}
-
 // The value at a place, none past the last one.
 fn value_in(bytes: &Bytes, k: usize) -> Option<(i8, i8)>
     requires { AreBytes bytes.now }
     ensures { result ≡ value_in bytes.now k }
 {
-    if k >= bytes.there.len() || bytes.there[k] == 0 {
+    if k >= bytes.packed.len() {
         return None;
     }
-    Some((component(bytes.re[k]), component(bytes.im[k])))
+    unpack(bytes.packed[k])
 }
 
 fn bit_of(bit: bool) -> u64
@@ -85,7 +76,7 @@ fn with_bit(bits: u64, k: u32, bit: bool) -> u64
 
 // The 64 bits of a plane from that of place `first` on.
 pub(crate) fn word_at(bytes: &Bytes, plane: u8, first: usize) -> u64
-    requires streams { AreBytes bytes.now }
+    requires packed { AreBytes bytes.now }
     requires scan { first ≤ 2 ^ 40 }
     ensures { (k : ℕ) → k < 64 → bit_at result k ≡ plane_bit plane (value_in bytes.now (first + k)) }
 {

@@ -143,7 +143,7 @@ fn words_from_every_sample(rt: HostRuntime) -> Result<(), Fail> {
     }
     let values = Codes { codes };
     let planes = Planes::build(rt.alloc(), &values, 0, 0, 5, 195)?;
-    assert_eq!(rt; planes.streams().there.len(), 190);
+    assert_eq!(rt; planes.packed().bytes.len(), 190);
     for at in 0..220_u32 {
         assert!(rt; is_shown(&values, &planes, at));
     }
@@ -231,7 +231,7 @@ fn two_parts_with_a_gap(rt: HostRuntime) -> Result<(), Fail> {
     planes.fill(10, part(&codes, 3, 57));
     planes.fill(97, part(&codes, 90, 90));
     assert!(rt; are_filled(&codes, &planes, 220));
-    assert_eq!(rt; planes.streams().there.len(), 180);
+    assert_eq!(rt; planes.packed().bytes.len(), 180);
     Ok(())
 }
 
@@ -283,7 +283,7 @@ fn planes_of_many_codes(rt: HostRuntime) -> Result<(), Fail> {
     let codes = many_codes();
     let mut planes = Planes::room(rt.alloc(), 7, 9_007)?;
     planes.fill(7, &codes);
-    assert_eq!(rt; planes.streams().there.len(), 9_000);
+    assert_eq!(rt; planes.packed().bytes.len(), 9_000);
     assert!(rt; is_filled(&codes, &planes, 0));
     assert!(rt; is_filled(&codes, &planes, 4_064));
     assert!(rt; is_filled(&codes, &planes, 8_160));

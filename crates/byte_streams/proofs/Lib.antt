@@ -1,4 +1,2 @@
-pub mod Tables
-pub mod Lanes
 pub mod Bytes
-pub mod Cuts
+pub mod Parts

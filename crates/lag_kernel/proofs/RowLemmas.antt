@@ -1,6 +1,6 @@
 -- Rows of values: what is cut out of them, how large it is, and the cells that it gives.
 use Rattle.std.specs.Prelude.{◌==◌, IfSome, if◌then◌else◌}
-use Rattle.std.proofs.Common.{◌≡◌, ℕ, zero, suc, ◌+◌, ◌-◌, ◌*◌, ◌/◌, min, ◌<◌, ◌≤◌, Bool, true, false, List, length, get_or, ℤ, pos, negsuc, ◌+ℤ◌, ◌-ℤ◌, Some, None, refl, sym, subst, ap, ap₂, ◌∙◌, arith, inl, inr}
+use Rattle.std.proofs.Common.{◌≡◌, ℕ, zero, suc, ◌+◌, ◌-◌, ◌*◌, ◌/◌, ◌%◌, min, ◌<◌, ◌≤◌, Bool, true, false, List, length, get_or, ℤ, pos, negsuc, ◌+ℤ◌, ◌-ℤ◌, Some, None, refl, sym, subst, ap, ap₂, ◌∙◌, arith, inl, inr}
 use Rattle.std.proofs.Math.Dec.{leb}
 use Rattle.std.proofs.lemmas.Bool.{cases_lt, and_right, lt-leb}
 use Rattle.std.proofs.lemmas.Int.{ints}
@@ -8,9 +8,10 @@ use Rattle.std.proofs.lemmas.List.{get_or_past, get_or_default}
 use Rattle.block_lags.specs.Cells.{IsGrown as HasMore}
 use Rattle.block_lags.specs.Scans.{AreRows}
 use Rattle.bit_planes.specs.Planes.{PlanesFields, plane_value}
-use Rattle.byte_streams.specs.Values.{byte_value}
-use Rattle.byte_streams.specs.Streams.{value_at, value_in}
+use Rattle.byte_streams.specs.Streams.{value_in}
 use Rattle.byte_streams.specs.declared.streams.Streams.{Streams}
+use Rattle.packed_values.specs.Packed.{IsPacked, packed_value, packed_in, packed_at}
+use Rattle.packed_values.specs.declared.row.Packed.{Packed}
 use Rattle.corr_model.specs.declared.cell.Cell.{Cell}
 use Rattle.corr_model.specs.Cell.{Value, no_cell, cell_plus, is_inside, product_of, product_at, sum_from, cell_in, AreSmall, IsProduct}
 use Rattle.corr_model.specs.Lags.{lag_of}
@@ -27,10 +28,20 @@ small-by : (b : Bool) (bias re im : ℕ) → bias ≤ 15 → re ≤ 2 * bias →
 small-by true bias re im low x y = tt
 small-by false bias re im low x y = ((omega (arith, ints), omega (arith, ints)), (omega (arith, ints), omega (arith, ints)))
 
-pub value_at-small : (s : Streams) (n : ℤ) → IfSome (value_at s n) AreSmall
-value_at-small s (pos k) =
-    small-by (get_or s.there.now k 0 == 0) s.bias (get_or s.re.now k 0) (get_or s.im.now k 0) s.streams.low (s.streams.re k) (s.streams.im k)
-value_at-small s (negsuc k) = tt
+packed-small : (byte : ℕ) → IsPacked byte → IfSome (packed_value byte) AreSmall
+packed-small byte is = small-by (byte / 64 == 0) 3 (byte % 8) (byte / 8 % 8) (omega arith) is.re is.im
+
+-- no value past the last one
+packed_in-past : (bytes : List ℕ) (k : ℕ) → length bytes ≤ k → packed_in bytes k ≡ None
+packed_in-past bytes k past = ap packed_value (get_or_past bytes k 0 past)
+
+packed_at-small : (row : Packed) (n : ℤ) → IfSome (packed_at row.bytes.now n) AreSmall
+packed_at-small row (pos k) =
+    elim (cases_lt k (length row.bytes.now)) [
+      | inl lt ↦ packed-small (get_or row.bytes.now k 0) (row.packed k lt)
+      | inr past ↦ subst (λ (v : Value). IfSome v AreSmall) (sym (packed_in-past row.bytes.now k (omega arith))) tt
+    ]
+packed_at-small row (negsuc k) = tt
 
 none-small : IsProduct no_cell
 none-small = record {
@@ -73,7 +84,7 @@ row_cell-grown a b samples lag from to =
     subst (λ (c : Cell). IsGrown c (to - from)) (sym (cell_in-sum (row_samples a b) plane_pair samples lag from to))
     (sum_from-grown (product_at (row_samples a b) plane_pair samples lag) from (to - from) (λ n.
     pair-small (row_value a (pos n)) (row_value b (pos n +ℤ lag)) (is_inside (pos n +ℤ lag) samples)
-    (value_at-small a.streams (pos n -ℤ pos a.from)) (value_at-small b.streams ((pos n +ℤ lag) -ℤ pos b.from))))
+    (packed_at-small a.packed (pos n -ℤ pos a.from)) (packed_at-small b.packed ((pos n +ℤ lag) -ℤ pos b.from))))
 
 -- cells to which others are added
 adds-each : (more : ℕ → Cell) (old new : List Cell) → length new ≡ length old
@@ -123,10 +134,6 @@ rows-add a b samples at stop n least old new same is end each =
     ap₂ (λ (l : ℤ) (m : ℕ). cell_in (row_samples a b) plane_pair samples l at m) lag end in
     subst (λ (c : Cell). HasMore c (get_or old i no_cell) (get_or new i no_cell)) cell (each i lt))
 
--- no value past the last one
-value_in-past : (s : Streams) (k : ℕ) → length s.there.now ≤ k → value_in s k ≡ None
-value_in-past s k past = ap (byte_value s.bias (get_or s.re.now k 0) (get_or s.im.now k 0)) (get_or_past s.there.now k 0 past)
-
 none-by : (v : Value) (b : Bool) → v ≡ None → None ≡ (if b then v else None)
 none-by v true e = sym e
 none-by v false e = refl
@@ -136,11 +143,11 @@ inside-false : (k n : ℕ) → n ≤ k → is_inside (pos k) n ≡ false
 inside-false k n h = and_right (leb 0 k) (leb (suc k) n) (lt-leb (suc k) n (omega (arith, h)))
 
 -- the values of a row as far as the scan goes
-pub inside-value : (r : Row) (samples held : ℕ) (p : Streams) (n m : ℤ) → m ≡ n -ℤ pos r.from
-    → held ≡ min (length r.streams.there.now) (samples - r.from)
-    → length p.there.now ≡ held
-    → ((k : ℕ) → k < held → value_in p k ≡ value_in r.streams (0 + k))
-    → value_at p m ≡ (if is_inside n samples then value_at r.streams m else None)
+pub inside-value : (r : Row) (samples held : ℕ) (p : List ℕ) (n m : ℤ) → m ≡ n -ℤ pos r.from
+    → held ≡ min (length r.packed.bytes.now) (samples - r.from)
+    → length p ≡ held
+    → ((k : ℕ) → k < held → packed_in p k ≡ packed_in r.packed.bytes.now (0 + k))
+    → packed_at p m ≡ (if is_inside n samples then packed_at r.packed.bytes.now m else None)
 inside-value r samples held p n (negsuc j) is least long same = none-by None (is_inside n samples) refl
 inside-value r samples held p n (pos k) is least long same =
     let number : n ≡ pos (r.from + k) = omega (arith, ints, is) in
@@ -149,27 +156,27 @@ inside-value r samples held p n (pos k) is least long same =
           let place : 0 + k ≡ k = omega arith in
           let here : is_inside n samples ≡ true =
           ap (λ (x : ℤ). is_inside x samples) number ∙ inside-true (r.from + k) samples (omega (arith, lt, least)) in
-          same k lt ∙ ap (value_in r.streams) place ∙ sym (ap (λ (b : Bool). if b then value_in r.streams k else None) here)
+          same k lt ∙ ap (packed_in r.packed.bytes.now) place ∙ sym (ap (λ (b : Bool). if b then packed_in r.packed.bytes.now k else None) here)
       | inr past ↦
-          value_in-past p k (omega (arith, past, long))
-          ∙ elim (cases_lt k (length r.streams.there.now)) [
+          packed_in-past p k (omega (arith, past, long))
+          ∙ elim (cases_lt k (length r.packed.bytes.now)) [
             | inl lt ↦
                 let gone : is_inside n samples ≡ false =
                 ap (λ (x : ℤ). is_inside x samples) number ∙ inside-false (r.from + k) samples (omega (arith, past, least, lt)) in
-                sym (ap (λ (b : Bool). if b then value_in r.streams k else None) gone)
-            | inr end ↦ none-by (value_in r.streams k) (is_inside n samples) (value_in-past r.streams k end)
+                sym (ap (λ (b : Bool). if b then packed_in r.packed.bytes.now k else None) gone)
+            | inr end ↦ none-by (packed_in r.packed.bytes.now k) (is_inside n samples) (packed_in-past r.packed.bytes.now k end)
           ]
     ]
 
 -- what is cut out of a row's values inside the scan
-pub cut-values : (r : Row) (samples count : ℕ) (s p : Streams) (place n : ℤ)
-    → ((m : ℤ) → value_at s (m -ℤ pos r.from) ≡ row_inside r samples m)
-    → ((k : ℕ) → k < count → value_in p k ≡ value_at s (place +ℤ pos k))
+pub cut-values : (r : Row) (samples count : ℕ) (s : List ℕ) (p : Streams) (place n : ℤ)
+    → ((m : ℤ) → packed_at s (m -ℤ pos r.from) ≡ row_inside r samples m)
+    → ((k : ℕ) → k < count → value_in p k ≡ packed_at s (place +ℤ pos k))
     → place ≡ n -ℤ pos r.from
     → (k : ℕ) → k < count → value_in p k ≡ row_inside r samples (n +ℤ pos k)
 cut-values r samples count s p place n inside cut is k lt =
     let here : place +ℤ pos k ≡ (n +ℤ pos k) -ℤ pos r.from = omega (arith, ints, is) in
-    cut k lt ∙ ap (value_at s) here ∙ inside (n +ℤ pos k)
+    cut k lt ∙ ap (packed_at s) here ∙ inside (n +ℤ pos k)
 
 -- rows of the values of planes give the cells of the planes
 pub rows-planes : (r s : Row) (a b : PlanesFields) → ((n : ℤ) → row_value r n ≡ plane_value a n) → ((n : ℤ) → row_value s n ≡ plane_value b n)

@@ -31,7 +31,7 @@ fn row_of(p: &Planes) -> Row<'_>
     ensures values { (n : ℤ) → row_value result n ≡ plane_value p.now n }
 {
     Row {
-        streams: p.streams(),
+        packed: p.packed(),
         from: p.from() as u64,
     }
 }

@@ -1,7 +1,8 @@
-//! All lags of a range, from rows of values as streams of bytes.
+//! All lags of a range, from rows of values in bytes.
 ghost use Rattle.std.specs.Prelude.{◌≡◌, ℕ, ℤ, ◌+◌, ◌-◌, ◌<◌, ◌≤◌, ◌^◌, ◌+ℤ◌, ◌-ℤ◌, pos, unsigned_abs, length, map, slice_index_or};
 ghost use Rattle.std.specs.List.{range_with_len};
-ghost use Rattle.byte_streams.specs.Streams.{value_at, value_in};
+ghost use Rattle.byte_streams.specs.Streams.{value_in};
+ghost use Rattle.packed_values.specs.Packed.{packed_at};
 ghost use Rattle.corr_model.specs.declared.cell.Cell.{Cell};
 ghost use Rattle.corr_model.specs.Cell.{cell_in};
 ghost use Rattle.corr_model.specs.Lags.{lag_of};
@@ -13,8 +14,9 @@ ghost use Rattle.lag_kernel.specs.Rows.{row_inside, row_samples};
 use crate::lags::clear;
 use crate::row::Row;
 use block_lags::add_lags;
-use byte_streams::{Streams, cut_streams};
+use byte_streams::Streams;
 use corr_model::Cell;
+use packed_values::Packed;
 
 /// The samples of a block.
 const BLOCK: u64 = 4096;
@@ -24,6 +26,9 @@ const LAGS: usize = 1024;
 
 /// The samples of a block with those of all its lags.
 const WIDE: usize = 5120;
+
+// What makes the components of a row positive.
+const BIAS: u8 = 3;
 
 // Room for values that are cut out of a row.
 #[derive(Drop)]
@@ -63,28 +68,24 @@ impl Room {
     }
 }
 
-// The values of `count` places from `start` on; none before the first place and past the last one. Where they are all there, no
-// byte is copied.
-fn cut_out<'r>(s: &Streams<'r>, start: i64, count: usize, room: &'r mut Cut) -> Streams<'r>
+// The streams of `count` values from place `start` on; there is none before the first place and past the last one.
+fn cut_out<'r>(row: &Packed<'_>, start: i64, count: usize, room: &'r mut Cut) -> Streams<'r>
     requires few { count ≤ WIDE }
     requires place { unsigned_abs start ≤ 2 ^ 41 }
-    requires size { length s.now.there.now ≤ 2 ^ 40 }
+    requires size { length row.now.bytes.now ≤ 2 ^ 40 }
     ensures len { length result.there.now ≡ count }
-    ensures values { (k : ℕ) → k < count → value_in result k ≡ value_at s.now (start +ℤ pos k) }
+    ensures values { (k : ℕ) → k < count → value_in result k ≡ packed_at row.now.bytes.now (start +ℤ pos k) }
 {
-    if start >= 0 && start as usize + count <= s.there.len() {
-        return s.part(start as usize, count);
-    }
     let re = &mut room.re;
     let im = &mut room.im;
     let there = &mut room.there;
     let (re, im, there) = (&mut re[..count], &mut im[..count], &mut there[..count]);
-    cut_streams(s, start, re, im, there);
+    row.unpack_from(start, re, im, there);
     Streams {
         re,
         im,
         there,
-        bias: s.bias,
+        bias: BIAS,
     }
 }
 

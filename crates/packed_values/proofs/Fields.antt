@@ -3,7 +3,7 @@ use Rattle.std.proofs.Common.{◌≡◌, ℕ, ◌/◌, ◌%◌, ◌<◌, List, l
 use Rattle.std.proofs.lemmas.Bool.{cases_lt}
 use Rattle.std.proofs.lemmas.List.{get_or_past, get_or_default}
 use Rattle.byte_streams.specs.Values.{AreStreams, byte_value}
-use Rattle.byte_streams.specs.Streams.{byte_at}
+use Rattle.packed_values.specs.Packed.{byte_at}
 use Rattle.byte_streams.proofs.Bytes.{all_small}
 use Rattle.packed_values.specs.Packed.{IsPacked, ArePacked, packed_value, packed_at, field_of}
 

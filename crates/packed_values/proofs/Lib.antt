@@ -1,2 +1,4 @@
+pub mod Lanes
 pub mod Tables
+pub mod Cuts
 pub mod Fields

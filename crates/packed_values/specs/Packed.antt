@@ -1,6 +1,6 @@
 -- A value in a byte: its real component in bits 0 to 2, its imaginary one in bits 3 to 5, each with 3 more, which makes it positive, and
 -- bit 6 where there is a value. A value that is not there has the components 0.
-use Rattle.std.specs.Prelude.{◌≡◌, ℕ, ◌/◌, ◌%◌, ◌^◌, ◌<◌, ◌≤◌, ℤ, pos, negsuc, neg_ℤ, ◌≤ℤ◌, List, length, slice_index, None}
+use Rattle.std.specs.Prelude.{◌≡◌, ℕ, ◌/◌, ◌%◌, ◌^◌, ◌<◌, ◌≤◌, ℤ, pos, negsuc, neg_ℤ, ◌≤ℤ◌, List, length, slice_index, slice_index_or, None}
 use Rattle.corr_model.specs.Cell.{Value}
 use Rattle.byte_streams.specs.Values.{byte_value}
 
@@ -35,3 +35,8 @@ packed_at bytes (negsuc k) = None
 -- the three bits of a byte from a bit on
 abbrev pub field_of : ℕ → ℕ → ℕ
 field_of shift byte = byte / 2 ^ shift % 8
+
+-- the byte at a place, and outside the list another one
+abbrev pub byte_at : List ℕ → ℕ → ℤ → ℕ
+byte_at bytes outside (pos k) = slice_index_or bytes k outside
+byte_at bytes outside (negsuc k) = outside

@@ -1,7 +1,7 @@
 //! Packed values from value codes, by one look-up in a table of sixteen.
 ghost use Rattle.std.specs.Prelude.{◌≡◌, ◌<◌, ◌≤◌, ◌*◌, ℕ, length, map, slice_index};
 ghost use Rattle.value_codes.specs.Codes.{value_of};
-ghost use Rattle.byte_streams.specs.Codes.{byte_of, index_of};
+ghost use Rattle.packed_values.specs.Codes.{byte_of, index_of};
 ghost use Rattle.packed_values.specs.Packed.{ArePacked, packed_value};
 
 use crate::value::NONE;

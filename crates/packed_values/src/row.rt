@@ -1,6 +1,6 @@
 //! A row of packed values, and its streams from any place on.
 ghost use Rattle.std.specs.Prelude.{◌≡◌, ◌<◌, ◌≤◌, ◌+◌, ◌^◌, ℕ, pos, ◌+ℤ◌, ◌<ℤ◌, length, slice_index, unsigned_abs};
-ghost use Rattle.byte_streams.specs.Streams.{byte_at};
+ghost use Rattle.packed_values.specs.Packed.{byte_at};
 ghost use Rattle.packed_values.specs.Packed.{ArePacked, field_of};
 
 use crate::value::NONE;

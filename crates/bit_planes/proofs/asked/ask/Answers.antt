@@ -10,7 +10,7 @@ loop-k-preserved g c =
     let more = c.in_ok-push.ensures in
     let at : to_z w64 (c.args.n + c.loop-k.k) ≡ pos (c.args.n + c.loop-k.k) = omega (arith, ints, c.requires.scan, c.loop-k-test.true) in
     record {
-      are = more.streams;
+      are = more.packed;
       room = more.room c.args.size old.room;
       long = omega (arith, more.long, old.long);
       values =

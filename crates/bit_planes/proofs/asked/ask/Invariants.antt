@@ -7,6 +7,6 @@ abbrev pub invariant-loop-k : goal.invariant-loop-k
 invariant-loop-k g l = record {
   are : AreBytes l.bytes;
   room : HaveRoom l.size l.bytes;
-  long : length l.bytes.there.items ≡ l.k;
+  long : length l.bytes.packed.items ≡ l.k;
   values : (k : ℕ) → k < l.k → value_in l.bytes k ≡ g.V.Values.samples l.v l.station l.chan (pos (l.n + k));
 }

@@ -1,5 +1,5 @@
 use Rattle.std.proofs.Common.{arith}
-use Rattle.byte_streams.proofs.Lanes.{index-lt}
+use Rattle.packed_values.proofs.Lanes.{index-lt}
 use Rattle.packed_values.proofs.codes.byte.Goals as goal
 
 pub bounds-from : goal.bounds-from

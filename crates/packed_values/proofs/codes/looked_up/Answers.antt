@@ -1,4 +1,4 @@
-use Rattle.byte_streams.proofs.Lanes.{indices-fit, selected-bytes}
+use Rattle.packed_values.proofs.Lanes.{indices-fit, selected-bytes}
 use Rattle.packed_values.proofs.codes.looked_up.Goals as goal
 
 pub swizzle : goal.swizzle

@@ -1,6 +1,6 @@
 use Rattle.std.proofs.Common.{◌*◌, ◌+◌, ◌≤◌, length, arith, ◌∙◌}
 use Rattle.std.proofs.lemmas.Simd.{length-put_chunk}
-use Rattle.byte_streams.proofs.Lanes.{stored}
+use Rattle.packed_values.proofs.Lanes.{stored}
 use Rattle.packed_values.proofs.Tables.{code_byte}
 use Rattle.packed_values.proofs.codes.pack_vectors.Goals as goal
 

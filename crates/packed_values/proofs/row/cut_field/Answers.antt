@@ -1,8 +1,8 @@
 use Rattle.std.proofs.Common.{◌≡◌, ◌+◌, ◌-◌, ◌+ℤ◌, pos, ℤ, length-set, w64, to_z, of_z, sym, ap, ◌∙◌, arith}
 use Rattle.std.proofs.lemmas.Int.{ints, to_z-of_z}
-use Rattle.byte_streams.specs.Streams.{byte_at}
+use Rattle.packed_values.specs.Packed.{byte_at}
 use Rattle.byte_streams.proofs.Bytes.{set_more}
-use Rattle.byte_streams.proofs.Cuts.{byte_at-before, byte_at-inside, byte_at-past}
+use Rattle.packed_values.proofs.Cuts.{byte_at-before, byte_at-inside, byte_at-past}
 use Rattle.packed_values.specs.Packed.{field_of}
 use Rattle.packed_values.proofs.row.cut_field.Goals as goal
 

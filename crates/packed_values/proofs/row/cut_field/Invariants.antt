@@ -1,6 +1,6 @@
 -- The fields so far.
 use Rattle.std.proofs.Common.{◌≡◌, ◌<◌, ℕ, pos, ◌+ℤ◌, length, slice_index}
-use Rattle.byte_streams.specs.Streams.{byte_at}
+use Rattle.packed_values.specs.Packed.{byte_at}
 use Rattle.packed_values.specs.Packed.{field_of}
 use Rattle.packed_values.proofs.row.cut_field.Given as goal
 

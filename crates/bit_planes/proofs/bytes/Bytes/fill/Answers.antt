@@ -18,7 +18,7 @@ loop-done-preserved c =
     let size : length (take (to - done) (drop done codes)) ≡ c.min-count.result = omega (arith, inside) in
     record {
       inside = inside;
-      are = part.streams;
+      are = part.packed;
       room = λ n have. part.room n (old.room n have);
       long = omega (arith, part.long, size);
       before = λ k lt. part.before k (omega arith) ∙ old.before k lt;

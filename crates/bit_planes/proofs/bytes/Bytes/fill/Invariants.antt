@@ -9,7 +9,7 @@ invariant-loop-done l = record {
   inside : l.done ≤ length l.codes;
   are : AreBytes l.self;
   room : (size : ℕ) → HaveRoom size l.fn.self → HaveRoom size l.self;
-  long : length l.self.there.items ≡ l.first + l.done;
+  long : length l.self.packed.items ≡ l.first + l.done;
   before : (k : ℕ) → k < l.first → value_in l.self k ≡ value_in l.fn.self k;
   here : (k : ℕ) → k < l.done → value_in l.self (l.first + k) ≡ value_of (slice_index l.codes k);
 }

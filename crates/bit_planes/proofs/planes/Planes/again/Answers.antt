@@ -2,7 +2,6 @@ use Rattle.std.proofs.Common.{◌≡◌, ◌-ℤ◌, unsigned_abs, to_z, of_z, l
 use Rattle.std.specs.Int.{w64}
 use Rattle.std.proofs.lemmas.Int.{ints}
 use Rattle.bit_planes.specs.Bytes.{HaveRoom}
-use Rattle.bit_planes.proofs.Rows.{rows-none}
 use Rattle.bit_planes.proofs.Values.{plane_value-none}
 use Rattle.bit_planes.proofs.planes.Planes.again.Goals as goal
 
@@ -12,12 +11,12 @@ invariant_of-result c =
     let b = c.cleared.result in
     let size : c.samples_between.result ≡ unsigned_abs (to_z w64 (of_z w64 a.to) -ℤ to_z w64 (of_z w64 a.from)) =
     omega (arith, ints, c.samples_between.ensures) in
-    let empty : length b.there.items ≡ 0 = ap length c.cleared.ensures.there in (
+    let empty : length b.packed.items ≡ 0 = ap length c.cleared.ensures.none in (
       record {
         start = omega (arith, ints);
         order = omega (arith, ints);
         end = omega (arith, ints);
-        streams = rows-none b.re.items b.im.items b.there.items c.cleared.ensures.re c.cleared.ensures.im c.cleared.ensures.there;
+        packed = λ k lt. absurd (omega (arith, lt, empty));
         held = omega (arith, empty);
       },
       subst (λ n. HaveRoom n b) size (c.cleared.ensures.room c.samples_between.result (c.if-has_room.ensures refl)),
@@ -27,5 +26,5 @@ pub returns-then-has_room-clause-none : goal.returns-then-has_room-clause-none
 returns-then-has_room-clause-none c n =
     let b = c.cleared.result in
     plane_value-none
-    (record { from = to_z w64 (of_z w64 c.args.from); to = to_z w64 (of_z w64 c.args.to); re = b.re.items; im = b.im.items; there = b.there.items })
-    (invariant_of-result c).0 (ap length c.cleared.ensures.there) n
+    (record { from = to_z w64 (of_z w64 c.args.from); to = to_z w64 (of_z w64 c.args.to); packed = b.packed.items })
+    (invariant_of-result c).0 (ap length c.cleared.ensures.none) n

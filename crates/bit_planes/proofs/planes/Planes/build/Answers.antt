@@ -14,6 +14,6 @@ returns-clause-values g c n low high =
     let place : pos (c.samples_between.result + k) ≡ n = omega (arith, ints, c.samples_between.ensures) in
     let inside : k < c.samples_between-2.result = omega (arith, ints, c.samples_between-2.ensures) in
     plane_value-inside
-    (record { from = to_z w64 (of_z w64 a.from); to = to_z w64 (of_z w64 a.to); re = b.re.items; im = b.im.items; there = b.there.items })
+    (record { from = to_z w64 (of_z w64 a.from); to = to_z w64 (of_z w64 a.to); packed = b.packed.items })
     n k first end ∙ c.in_ok-bytes.ensures.values k inside
     ∙ ap (g.V.Values.samples a.v.now a.station a.chan) place

@@ -14,7 +14,7 @@ samples_between-first-requires-clause-high c =
 pub invariant_of-self : goal.invariant_of-self
 invariant_of-self c =
     let i = c.self.inside in
-    let p : PlanesFields = record { from = i.from; to = i.to; re = i.bytes.re.items; im = i.bytes.im.items; there = i.bytes.there.items } in
+    let p : PlanesFields = record { from = i.from; to = i.to; packed = i.bytes.packed.items } in
     let from : c.args.self.now.from ≡ p.from = ap (λ (q : PlanesFields). q.from) (sym c.self.view_is) in
     let to : c.args.self.now.to ≡ p.to = ap (λ (q : PlanesFields). q.to) (sym c.self.view_is) in
     let are = c.self.invariant.0 in
@@ -24,7 +24,7 @@ invariant_of-self c =
         start = are.start;
         order = are.order;
         end = are.end;
-        streams = c.fill.ensures.streams;
+        packed = c.fill.ensures.packed;
         held = omega (arith, inside, c.fill.ensures.long);
       },
       c.fill.ensures.room (size_of p) c.self.invariant.1,
@@ -33,9 +33,9 @@ invariant_of-self c =
 pub returns-clause-before : goal.returns-clause-before
 returns-clause-before c n h =
     let i = c.self.inside in
-    let p : PlanesFields = record { from = i.from; to = i.to; re = i.bytes.re.items; im = i.bytes.im.items; there = i.bytes.there.items } in
+    let p : PlanesFields = record { from = i.from; to = i.to; packed = i.bytes.packed.items } in
     let b = c.fill.new.self in
-    let new : PlanesFields = record { from = i.from; to = i.to; re = b.re.items; im = b.im.items; there = b.there.items } in
+    let new : PlanesFields = record { from = i.from; to = i.to; packed = b.packed.items } in
     let fits : FitsSigned w64 i.from = search rules in
     let from : c.args.self.now.from ≡ p.from = ap (λ (q : PlanesFields). q.from) (sym c.self.view_is) in
     let first = c.samples_between-first.result in
@@ -47,7 +47,7 @@ pub returns-clause-here : goal.returns-clause-here
 returns-clause-here c n h =
     let i = c.self.inside in
     let b = c.fill.new.self in
-    let new : PlanesFields = record { from = i.from; to = i.to; re = b.re.items; im = b.im.items; there = b.there.items } in
+    let new : PlanesFields = record { from = i.from; to = i.to; packed = b.packed.items } in
     let fits : FitsSigned w64 i.from = search rules in
     let from : c.args.self.now.from ≡ i.from = ap (λ (q : PlanesFields). q.from) (sym c.self.view_is) in
     let first = c.samples_between-first.result in

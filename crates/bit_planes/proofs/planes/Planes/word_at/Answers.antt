@@ -7,7 +7,7 @@ use Rattle.bit_planes.proofs.planes.Planes.word_at.Goals as goal
 pub returns : goal.returns
 returns c k h =
     let i = c.self.inside in
-    let p : PlanesFields = record { from = i.from; to = i.to; re = i.bytes.re.items; im = i.bytes.im.items; there = i.bytes.there.items } in
+    let p : PlanesFields = record { from = i.from; to = i.to; packed = i.bytes.packed.items } in
     let n : ℤ = c.args.self.now.from +ℤ pos (c.args.bit + k) in
     let place : p.from +ℤ pos (c.args.bit + k) ≡ n = ap (λ (q : PlanesFields). q.from +ℤ pos (c.args.bit + k)) c.self.view_is in
     let held = ap (λ (q : PlanesFields). plane_value q n) (sym c.self.view_is) ∙ plane_value-held p c.self.invariant.0 n (c.args.bit + k) place in

@@ -1,6 +1,6 @@
 use Rattle.std.proofs.Common.{◌≡◌, ◌+ℤ◌, pos, ℤ, length, w64, to_z, of_z, ◌∙◌, ap, arith}
 use Rattle.std.proofs.lemmas.Int.{to_z-of_z}
-use Rattle.byte_streams.specs.Streams.{byte_at}
+use Rattle.packed_values.specs.Packed.{byte_at}
 use Rattle.packed_values.specs.Packed.{field_of}
 use Rattle.packed_values.proofs.Fields.{packed_byte, byte_at-value, fields_are, fields-value}
 use Rattle.packed_values.proofs.row.Packed.unpack_from.Goals as goal

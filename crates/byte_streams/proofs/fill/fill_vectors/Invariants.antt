@@ -1,7 +1,0 @@
--- The bytes so far.
-use Rattle.std.proofs.Common.{◌*◌}
-use Rattle.byte_streams.specs.Codes.{AreLookedUp}
-use Rattle.byte_streams.proofs.fill.fill_vectors.Given as goal
-
-abbrev pub invariant-loop-i : goal.invariant-loop-i
-invariant-loop-i l = AreLookedUp l.table l.codes (16 * l.i) l.re l.im l.there

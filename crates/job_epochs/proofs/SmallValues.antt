@@ -1,13 +1,13 @@
 -- The values of a scan are small.
 use Rattle.std.specs.Prelude.{slice_get, option_and_then, option_map}
-use Rattle.std.proofs.Common.{◌≡◌, refl, sym, subst, ℕ, zero, suc, ◌+◌, ◌*◌, ◌%◌, ◌^◌, ◌<◌, ◌≤◌, ◌⊎◌, ⊎_elim, Bool, true, false, ◌&&◌, cond, leb, ℤ, pos, unsigned_abs, ◌+ℤ◌, ◌*ℤ◌, List, [], ◌∷◌, get_or, Option, Some, None, IfSome, All, arith}
-use Rattle.std.proofs.lemmas.Int.{unsigned_abs-mul}
+use Rattle.std.proofs.Common.{◌≡◌, refl, sym, subst, ℕ, zero, suc, ◌+◌, ◌*◌, ◌%◌, ◌^◌, ◌<◌, ◌≤◌, inl, inr, Bool, true, false, ◌&&◌, cond, leb, ℤ, pos, unsigned_abs, ◌+ℤ◌, ◌*ℤ◌, List, [], ◌∷◌, get_or, Option, Some, None, IfSome, All, arith}
+use Rattle.std.proofs.lemmas.Int.{ints, unsigned_abs-mul}
 use Rattle.std.proofs.lemmas.Nat.{mod_below, pow_pos, mul-le}
 use Rattle.std.proofs.lemmas.Bool.Decides.{nat_tests}
 use Rattle.std.proofs.lemmas.Option.{slice_get_within, get_or_from_slice_get}
 use Rattle.fringe_rotator.specs.Table.{cosines, cos3, sin3}
-use Rattle.sample_unpack.specs.Level.{level_of, level_at, code_at, bit_of}
-use Rattle.vdif_frame.specs.Shape.{ShapeFields, IsShape}
+use Rattle.sample_unpack.specs.Level.{IsWidth, level_of, level_at, code_at, bit_of}
+use Rattle.vdif_frame.specs.Shape.{ShapeFields}
 use Rattle.corr_model.specs.Files.{Files}
 use Rattle.corr_model.specs.Sample.{Timing, Recorded, level_in}
 use Rattle.corr_model.specs.Delay.{DelayModel, delay_at, whole_at}
@@ -47,40 +47,27 @@ unfolding are_units
 cos3-unit k = unit_at cosines k refl
 
 -- a level turned
-turned-one : (level x : ℤ) → unsigned_abs level ≤ 3 → unsigned_abs x ≤ 1 → IsSmall (level *ℤ x)
+turned-one : (level x : ℤ) → unsigned_abs level ≤ 15 → unsigned_abs x ≤ 1 → IsSmall (level *ℤ x)
 turned-one level x h k =
-    let small : unsigned_abs level * unsigned_abs x ≤ 3 * 1 = mul-le (unsigned_abs level) (unsigned_abs x) 3 1 h k in
+    let small : unsigned_abs level * unsigned_abs x ≤ 15 * 1 = mul-le (unsigned_abs level) (unsigned_abs x) 15 1 h k in
     within_abs (level *ℤ x) 15 (omega (arith, unsigned_abs-mul level x, small))
 
-turned-small : (level : ℤ) (sector : ℕ) → unsigned_abs level ≤ 3 → AreSmall (turned level sector)
+turned-small : (level : ℤ) (sector : ℕ) → unsigned_abs level ≤ 15 → AreSmall (turned level sector)
 turned-small level sector h =
     (turned-one level (cos3 sector) h (cos3-unit sector), turned-one level (sin3 sector) h (cos3-unit ((sector + 12) % 16)))
 
--- the levels of one bit, and of two
-level_of_one : (code : ℕ) → code < 2 → unsigned_abs (level_of 1 code) ≤ 3
-level_of_one zero h = omega arith
-level_of_one (suc zero) h = omega arith
-level_of_one (suc (suc n)) h = absurd (omega arith)
+-- the level of a code
+level-low : (bits code : ℕ) → 2 ^ bits ≤ 16 → code < 2 ^ bits → unsigned_abs (level_of bits code) ≤ 15
+level-low bits code few below = omega (arith, ints, few, below)
 
-level_of_two : (code : ℕ) → code < 4 → unsigned_abs (level_of 2 code) ≤ 3
-level_of_two zero h = omega arith
-level_of_two (suc zero) h = omega arith
-level_of_two (suc (suc zero)) h = omega arith
-level_of_two (suc (suc (suc zero))) h = omega arith
-level_of_two (suc (suc (suc (suc n)))) h = absurd (omega arith)
+few_codes : (bits : ℕ) → IsWidth bits → 2 ^ bits ≤ 16
+few_codes bits (inl one) = rw one (omega arith)
+few_codes bits (inr (inl two)) = rw two (omega arith)
+few_codes bits (inr (inr four)) = rw four (omega arith)
 
-one_or_two : (s : ShapeFields) → IsShape s → s.bits ≤ 2 → (s.bits ≡ 1) ⊎ (s.bits ≡ 2)
-one_or_two s h small = grind (arith, nat_tests, h.bits)
-
-level_at-low : (bits : ℕ) (array : List ℕ) (chans index i : ℕ) → (bits ≡ 1) ⊎ (bits ≡ 2)
-    → unsigned_abs (level_at array bits chans index i) ≤ 3
+level_at-low : (bits : ℕ) (array : List ℕ) (chans index i : ℕ) → IsWidth bits → unsigned_abs (level_at array bits chans index i) ≤ 15
 level_at-low bits array chans index i width =
-    ⊎_elim
-    (λ (one : bits ≡ 1). subst (λ (b : ℕ). unsigned_abs (level_at array b chans index i) ≤ 3) (sym one)
-    (level_of_one (code_at array 1 (bit_of 1 chans index i)) (mod_below _ (2 ^ 1) (pow_pos 1))))
-    (λ (two : bits ≡ 2). subst (λ (b : ℕ). unsigned_abs (level_at array b chans index i) ≤ 3) (sym two)
-    (level_of_two (code_at array 2 (bit_of 2 chans index i)) (mod_below _ (2 ^ 2) (pow_pos 2))))
-    width
+    level-low bits (code_at array bits (bit_of bits chans index i)) (few_codes bits width) (mod_below _ (2 ^ bits) (pow_pos bits))
 
 -- what holds of the value of a step that may have none
 IfSome-and_then : {A B : Type 0} (f : A → Option B) (o : Option A) (P : B → Type 0) → ((x : A) → o ≡ Some x → IfSome (f x) P)
@@ -97,7 +84,7 @@ IfSome-if true o P h = h
 IfSome-if false o P h = tt
 
 value_at-small : (sample : ℤ → Option ℤ) (model : DelayModel) (band : Band) (n : ℕ)
-    → ((p : ℤ) (level : ℤ) → sample p ≡ Some level → unsigned_abs level ≤ 3) → IfSome (value_at sample model band n) AreSmall
+    → ((p : ℤ) (level : ℤ) → sample p ≡ Some level → unsigned_abs level ≤ 15) → IfSome (value_at sample model band n) AreSmall
 unfolding value_at
 value_at-small sample model band n low =
     let sector : ℕ = band_sector band model.rate (delay_at model n) in
@@ -105,12 +92,12 @@ value_at-small sample model band n low =
     IfSome-map (λ (level : ℤ). turned level sector) (sample place) AreSmall
     (λ level there. turned-small level sector (low place level there))
 
-sample-low : (t : Timing) (r : Recorded) (found : Option (List ℕ)) (p level : ℤ) → (t.shape.bits ≡ 1) ⊎ (t.shape.bits ≡ 2)
-    → option_map (level_in t r.index p) found ≡ Some level → unsigned_abs level ≤ 3
+sample-low : (t : Timing) (r : Recorded) (found : Option (List ℕ)) (p level : ℤ) → IsWidth t.shape.bits
+    → option_map (level_in t r.index p) found ≡ Some level → unsigned_abs level ≤ 15
 sample-low t r None p level width is = absurd (cc)
 sample-low t r (Some slot) p level width is =
     let same : level_in t r.index p slot ≡ level = cc in
-    subst (λ (x : ℤ). unsigned_abs x ≤ 3) same (level_at-low _ _ _ _ _ width)
+    subst (λ (x : ℤ). unsigned_abs x ≤ 15) same (level_at-low _ _ _ _ _ width)
 
 pub at-place : {X : Type 0} (P : X → Type 0) (xs : List X) (i : ℕ) (x : X) → All P xs → slice_get xs i ≡ Some x → P x
 at-place P xs i x all there = subst P (get_or_from_slice_get xs i x x there) (all i x (slice_get_within xs i x there))
@@ -122,7 +109,7 @@ station_value-small plan files scan stay s chan n is =
     (λ r there. IfSome-and_then (λ band. band_value plan files scan s r band n) (band_at stay chan) AreSmall
     (λ band here. value_at-small (station_sample plan files scan s r) _ _ n
     (λ p level at. sample-low (timing_of plan scan s) (record { thread = r.thread; index = r.index }) _ p level
-    (one_or_two s.shape is.shape is.bits) at)))
+    is.bits at)))
 
 -- each value of a scan of a plan has small components
 pub rotated-small : (plan : Plan) (files : Files) (scan : ScanPlan) → IsPlan plan

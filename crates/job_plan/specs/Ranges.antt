@@ -3,6 +3,7 @@ use Rattle.std.specs.Prelude.{◌≡◌, ℕ, ◌*◌, ◌%◌, ◌^◌, ◌≤�
 use Rattle.std.specs.List.{All}
 use Rattle.std.specs.Str.{IsUtf8}
 use Rattle.num_time.specs.Times.{IsSecond}
+use Rattle.sample_unpack.specs.Level.{IsWidth}
 use Rattle.vdif_frame.specs.Shape.{ShapeFields, IsShape, samples_per_frame, chans_of}
 use Rattle.corr_model.specs.Delay.{IsClock, has_model, has_clock}
 use Rattle.corr_model.specs.Records.{IsName, IsBefore}
@@ -26,12 +27,12 @@ abbrev pub IsBand : Option Band → Type 0
 IsBand None = ⊤
 IsBand (Some band) = band.hertz < 2 ^ 40
 
--- A station: its samples have one or two bits, its files' names are texts, and the job's rate is that of its frames. It
+-- A station: its samples have one, two or four bits, its files' names are texts, and the job's rate is that of its frames. It
 -- has a place for each of the job's channels.
 pub record IsStation (plan : Plan) (s : StationPlan) : Type 0 where
   pub key : IsName s.key
   pub shape : IsShape s.shape
-  pub bits : s.shape.bits ≤ 2
+  pub bits : IsWidth s.shape.bits
   pub files : All IsUtf8 s.files
   pub rate : plan.rate ≡ s.shape.frames * samples_per_frame s.shape
   pub chans : length s.chans ≡ length plan.channels

@@ -13,7 +13,7 @@ use Rattle.job_lines.specs.declared.word.Word.TheVariants.{Lags, Integration, Ep
 use Rattle.job_text.specs.declared.fault.JobKind.{JobKind}
 use Rattle.job_text.specs.declared.fault.JobKind.TheVariants.{Unknown}
 use Rattle.job_text.specs.Job.{StationFields}
-use Rattle.job_text.specs.Values.{◌>>=◌, name_fits, number_within, log2_of, frame_bytes_in, field, lags_in, integration_in, epoch_in, knot_in, station_in, chan_in, clock_in, poly_in, rate_in, scan_in, band_in}
+use Rattle.job_text.specs.Values.{◌>>=◌, name_fits, number_within, width_in, log2_of, frame_bytes_in, field, lags_in, integration_in, epoch_in, knot_in, station_in, chan_in, clock_in, poly_in, rate_in, scan_in, band_in}
 use Rattle.job_text.specs.Said.{Said, said_by, each, last, of_key, filled}
 use Rattle.job_text.specs.Faults.{row_fault, double_or_range, station_with, station_fault, chan_fault, clock_fault, poly_fault}
 use Rattle.job_text.specs.Growing.{grown, changed, with_file, with_chan, with_clock, with_poly}
@@ -337,7 +337,7 @@ IsBare fields (Some s) = (s.key ≡ field fields 0) × (record s { files = []; c
 
 station-bare : (fields : List (List ℕ)) → IsBare fields (station_in fields)
 unfolding station_in
-station-bare fields = by (number_within 0 65535 (field fields 1)) (number_within 1 2 (field fields 2)) (number_within 1 64 (field fields 3))
+station-bare fields = by (number_within 0 65535 (field fields 1)) (width_in (field fields 2)) (number_within 1 64 (field fields 3))
   where
     at_frame : (id bits log2 : ℕ) (o : Option ℕ) (b : Bool) → IsBare fields (o >>= (λ n. cond b (Some (record { key = field fields 0; id = id; bits = bits; chans_log2 = log2; frame_bytes = n; legacy = nat_lt 5 (length fields); files = []; chans = []; clocks = []; polys = [] })) None))
     at_frame id bits log2 None b = tt

@@ -3,6 +3,7 @@ use Rattle.std.specs.Prelude.{ℕ, ◌≡◌, ◌≢◌, ◌%◌, ◌^◌, ◌�
 use Rattle.std.specs.List.{All}
 use Rattle.std.specs.Str.{IsUtf8}
 use Rattle.num_time.specs.Times.{IsSecond}
+use Rattle.sample_unpack.specs.Level.{IsWidth}
 use Rattle.vdif_frame.specs.Shape.{ShapeFields, IsShape}
 use Rattle.corr_model.specs.Delay.{IsClock}
 use Rattle.job_text.specs.declared.places.ChanPlace.{ChanPlace}
@@ -33,11 +34,11 @@ shape_of frames s = record {
 abbrev pub IsChanOf : StationFields → List ℕ × ChanPlace → Type 0
 IsChanOf s c = IsName c.0 × ((c.1.thread < 1024) × (c.1.index < 2 ^ s.chans_log2))
 
--- A station: its samples have one or two bits, its files' names are texts, and its frames are some shape's.
+-- A station: its samples have one, two or four bits, its files' names are texts, and its frames are some shape's.
 pub record IsStationOf (s : StationFields) : Type 0 where
   pub key : IsName s.key
   pub shape : IsShape (shape_of 1 s)
-  pub bits : s.bits ≤ 2
+  pub bits : IsWidth s.bits
   pub files : All IsUtf8 s.files
   pub chans : All (IsChanOf s) s.chans
   pub distinct : AreDistinct (map (λ (c : List ℕ × ChanPlace). c.0) s.chans)

@@ -72,11 +72,20 @@ frame_bytes_in legacy bits chans text = do
   n ← number_within (head_bytes legacy + 8) 131072 text
   if (n % 8 == 0) && (8 * (n - head_bytes legacy) % (bits * chans) == 0) then Some n else None
 
--- a station of 1 or 2 bits a sample; a sixth field says that its frames have the short header
+-- the bits of a sample: 1, 2 or 4
+abbrev pub width_of : ℕ → Option ℕ
+width_of n = if n == 1 then Some 1 else if n == 2 then Some 2 else if n == 4 then Some 4 else None
+
+abbrev pub width_in : List ℕ → Option ℕ
+width_in text = do
+  n ← number_within 1 4 text
+  width_of n
+
+-- a station of 1, 2 or 4 bits a sample; a sixth field says that its frames have the short header
 unfoldable pub station_in : List (List ℕ) → Option StationFields
 station_in fields = do
   id ← number_within 0 65535 (field fields 1)
-  bits ← number_within 1 2 (field fields 2)
+  bits ← width_in (field fields 2)
   chans ← number_within 1 64 (field fields 3)
   chans_log2 ← log2_of chans
   frame_bytes ← frame_bytes_in (nat_lt 5 (length fields)) bits chans (field fields 4)

@@ -1,11 +1,12 @@
 //! The frames of a station.
 ghost use Rattle.std.specs.Prelude.{◌≡◌, ◌≤◌, map, option_map, IfSome};
+ghost use Rattle.sample_unpack.specs.Level.{IsWidth};
 ghost use Rattle.vdif_frame.specs.Shape.{IsShape};
 ghost use Rattle.job_text.specs.Ranges.{IsName, shape_of};
 ghost use Rattle.job_text.specs.Values.{field, station_in};
 ghost use Rattle.job_text.specs.Frame.{bare};
 
-use crate::values::{field, frame_bytes_in, log2_of, name_fits, number_within};
+use crate::values::{field, frame_bytes_in, log2_of, name_fits, number_within, width_in};
 
 /// What the line of a station says of its frames.
 #[derive(Clone, Copy)]
@@ -22,12 +23,12 @@ pub(crate) struct Frame {
 pub(crate) fn frame_in(fields: &[&[u8]]) -> Option<Frame>
     ensures value { option_map (bare (field (map (λ field. field.now) fields.now) 0)) result ≡ station_in (map (λ field. field.now) fields.now) }
     ensures shape { IfSome result (λ frame. IsShape (shape_of 1 (bare (field (map (λ field. field.now) fields.now) 0) frame))) }
-    ensures bits { IfSome result (λ frame. frame.bits ≤ 2) }
+    ensures bits { IfSome result (λ frame. IsWidth frame.bits) }
     ensures name { IfSome result (λ _. IsName (field (map (λ field. field.now) fields.now) 0)) }
 {
     let legacy = fields.len() > 5;
     let id = number_within(0, 65_535, field(fields, 1))?;
-    let bits = number_within(1, 2, field(fields, 2))?;
+    let bits = width_in(field(fields, 2))?;
     let chans = number_within(1, 64, field(fields, 3))?;
     let chans_log2 = log2_of(chans)?;
     let frame_bytes = frame_bytes_in(legacy, bits, chans, field(fields, 4))?;

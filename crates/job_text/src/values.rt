@@ -3,8 +3,9 @@ ghost use Rattle.std.specs.Prelude.{◌≡◌, ◌≤◌, ◌<◌, ◌-◌, ◌*
 ghost use Rattle.corr_model.specs.Delay.{IsClock};
 ghost use Rattle.job_text.specs.Ranges.{IsName, IsSpan};
 ghost use Rattle.num_time.specs.Times.{IsSecond};
+ghost use Rattle.sample_unpack.specs.Level.{IsWidth};
 ghost use Rattle.vdif_frame.specs.Shape.{head_bytes};
-ghost use Rattle.job_text.specs.Values.{field, whole_of, second_of, bounded, number_within, name_fits, chan_in, lags_in, integration_in, epoch_in, knot_in, rate_in, log2_of, frame_bytes_in, clock_in, wholes_of, poly_in, scan_in, band_in};
+ghost use Rattle.job_text.specs.Values.{field, whole_of, second_of, bounded, number_within, name_fits, chan_in, lags_in, integration_in, epoch_in, knot_in, rate_in, log2_of, width_of, width_in, frame_bytes_in, clock_in, wholes_of, poly_in, scan_in, band_in};
 
 use crate::places::{Band, ChanPlace, ScanSpan};
 use delay_poly::{Poly, PolyEntry};
@@ -132,11 +133,31 @@ pub(crate) fn log2_of(n: u64) -> Option<u8>
     }
 }
 
+fn width_of(n: u64) -> Option<u64>
+    ensures value { result ≡ width_of n }
+    ensures width { IfSome result IsWidth }
+{
+    match n {
+        1 => Some(1),
+        2 => Some(2),
+        4 => Some(4),
+        _ => None,
+    }
+}
+
+/// The bits of a sample.
+pub(crate) fn width_in(text: &[u8]) -> Option<u64>
+    ensures value { result ≡ width_in text.now }
+    ensures width { IfSome result IsWidth }
+{
+    width_of(number_within(1, 4, text)?)
+}
+
 /// The length of a frame that holds whole complete samples.
 #[tactic(auto, unfolding(crate::specs::Values::frame_bytes_in))]
 pub(crate) fn frame_bytes_in(legacy: bool, bits: u64, chans: u64, text: &[u8]) -> Option<u32>
     requires bits_some { 1 ≤ bits }
-    requires bits_most { bits ≤ 2 }
+    requires bits_most { bits ≤ 4 }
     requires chans_some { 1 ≤ chans }
     requires chans_most { chans ≤ 64 }
     ensures value { result ≡ frame_bytes_in legacy bits chans text.now }

@@ -1,10 +1,10 @@
 -- Codes packed into a number: how large it is, and each code of it.
-use Rattle.std.proofs.Common.{◌≡◌, ℕ, zero, suc, ◌+◌, ◌-◌, ◌*◌, ◌/◌, ◌%◌, ◌^◌, ◌<◌, ◌≤◌, ◌⊎◌, inl, inr, List, [], ◌∷◌, length, get_or, take, drop, refl, sym, ap, subst, ◌∙◌, arith, add-one, lit<}
+use Rattle.std.proofs.Common.{◌≡◌, ℕ, zero, suc, ◌+◌, ◌-◌, ◌*◌, ◌/◌, ◌%◌, ◌^◌, ◌<◌, ◌≤◌, inl, inr, List, [], ◌∷◌, length, get_or, take, drop, refl, sym, ap, subst, ◌∙◌, arith, add-one, lit<}
 use Rattle.std.proofs.Math.Seq.{drop-cons}
 use Rattle.std.proofs.lemmas.Nat.{pow-add, div-add-mod', div-mul-add, mod-mul-add}
 use Rattle.std.proofs.lemmas.List.{get_or-drop, get_or-take, length-drop, length-take-le}
 use Rattle.std.proofs.Math.Nat.{div-div-eq-div-mul, mul_comm, mul-le-mul_left, pow-le-pow_right}
-use Rattle.sample_unpack.specs.Level.{code_at}
+use Rattle.sample_unpack.specs.Level.{IsWidth, code_at}
 use Rattle.sample_unpack.specs.Packed.{packed}
 
 -- each code has so many bits
@@ -48,7 +48,7 @@ packed-step bits i codes h =
     ap (packed bits) first
 
 -- one more code before those from place i on, where all of them fill a byte
-pub packed-fits : (bits i byte : ℕ) (codes : List ℕ) → (bits ≡ 1) ⊎ (bits ≡ 2) → AreCodes bits codes
+pub packed-fits : (bits i byte : ℕ) (codes : List ℕ) → IsWidth bits → AreCodes bits codes
     → bits * length codes ≡ 8 → 0 < i → i ≤ length codes → byte ≡ packed bits (drop i codes)
     → byte * (1 * 2 ^ bits % 256) + get_or codes (i - 1) 0 < 256
 packed-fits bits i byte codes width h full some within is =
@@ -63,9 +63,10 @@ packed-fits bits i byte codes width h full some within is =
     let turned : byte * 2 ^ bits ≡ 2 ^ bits * packed bits (drop i codes) = rw is (mul_comm _ _) in
     rw base (omega (arith, step, bound, most, turned))
   where
-    one_width : (bits : ℕ) → (bits ≡ 1) ⊎ (bits ≡ 2) → 1 * 2 ^ bits % 256 ≡ 2 ^ bits
+    one_width : (bits : ℕ) → IsWidth bits → 1 * 2 ^ bits % 256 ≡ 2 ^ bits
     one_width bits (inl e) = rw e refl
-    one_width bits (inr e) = rw e refl
+    one_width bits (inr (inl e)) = rw e refl
+    one_width bits (inr (inr e)) = rw e refl
 
 low_part : (b c p : ℕ) → c < b → (c + b * p) % b ≡ c
 low_part b c p h =
@@ -100,7 +101,7 @@ packed-code bits (code ∷ codes) (suc j) h lt =
     ∙ rest
 
 -- the codes that fill byte k: place j of them is code k * (8 / bits) + j
-pub code_at-packed : (bits k j : ℕ) (array codes : List ℕ) → (bits ≡ 1) ⊎ (bits ≡ 2) → AreCodes bits codes
+pub code_at-packed : (bits k j : ℕ) (array codes : List ℕ) → IsWidth bits → AreCodes bits codes
     → j < 8 / bits → (k + 1) * (8 / bits) ≤ length codes
     → get_or array k 0 ≡ packed bits (take (8 / bits) (drop (k * (8 / bits)) codes))
     → code_at array bits ((k * (8 / bits) + j) * bits) ≡ get_or codes (k * (8 / bits) + j) 0
@@ -122,16 +123,18 @@ code_at-packed bits k j array codes width h lt within is =
     ∙ get_or-take per (drop (k * per) codes) j 0 lt
     ∙ get_or-drop (k * per) codes j 0
   where
-    byte_of : (bits k j : ℕ) → (bits ≡ 1) ⊎ (bits ≡ 2) → j < 8 / bits → (k * (8 / bits) + j) * bits / 8 ≡ k
+    byte_of : (bits k j : ℕ) → IsWidth bits → j < 8 / bits → (k * (8 / bits) + j) * bits / 8 ≡ k
     byte_of bits k j (inl e) lt = subst (λ (b : ℕ). j < 8 / b → (k * (8 / b) + j) * b / 8 ≡ k) (sym e) (λ h. omega arith) lt
-    byte_of bits k j (inr e) lt = subst (λ (b : ℕ). j < 8 / b → (k * (8 / b) + j) * b / 8 ≡ k) (sym e) (λ h. omega arith) lt
+    byte_of bits k j (inr (inl e)) lt = subst (λ (b : ℕ). j < 8 / b → (k * (8 / b) + j) * b / 8 ≡ k) (sym e) (λ h. omega arith) lt
+    byte_of bits k j (inr (inr e)) lt = subst (λ (b : ℕ). j < 8 / b → (k * (8 / b) + j) * b / 8 ≡ k) (sym e) (λ h. omega arith) lt
 
-    shift_of : (bits k j : ℕ) → (bits ≡ 1) ⊎ (bits ≡ 2) → j < 8 / bits → (k * (8 / bits) + j) * bits % 8 ≡ j * bits
+    shift_of : (bits k j : ℕ) → IsWidth bits → j < 8 / bits → (k * (8 / bits) + j) * bits % 8 ≡ j * bits
     shift_of bits k j (inl e) lt = subst (λ (b : ℕ). j < 8 / b → (k * (8 / b) + j) * b % 8 ≡ j * b) (sym e) (λ h. omega arith) lt
-    shift_of bits k j (inr e) lt = subst (λ (b : ℕ). j < 8 / b → (k * (8 / b) + j) * b % 8 ≡ j * b) (sym e) (λ h. omega arith) lt
+    shift_of bits k j (inr (inl e)) lt = subst (λ (b : ℕ). j < 8 / b → (k * (8 / b) + j) * b % 8 ≡ j * b) (sym e) (λ h. omega arith) lt
+    shift_of bits k j (inr (inr e)) lt = subst (λ (b : ℕ). j < 8 / b → (k * (8 / b) + j) * b % 8 ≡ j * b) (sym e) (λ h. omega arith) lt
 
 -- bytes of which each is packed from its part of the codes
-pub codes-packed : (bits per : ℕ) (array codes : List ℕ) → (bits ≡ 1) ⊎ (bits ≡ 2) → AreCodes bits codes
+pub codes-packed : (bits per : ℕ) (array codes : List ℕ) → IsWidth bits → AreCodes bits codes
     → bits * length codes ≡ 8 * length array → per ≡ 8 / bits
     → ((k : ℕ) → k < length array → get_or array k 0 ≡ packed bits (take per (drop (k * per) codes)))
     → (i : ℕ) → i < length codes → code_at array bits (i * bits) ≡ get_or codes i 0
@@ -141,11 +144,14 @@ codes-packed bits per array codes width h room is_per each i lt =
     let byte = rw is_per at (each (i / (8 / bits)) place.0) in
     rw whole at (code_at-packed bits (i / (8 / bits)) (i % (8 / bits)) array codes width h place.1 place.2 byte)
   where
-    places : (bits i n m : ℕ) → (bits ≡ 1) ⊎ (bits ≡ 2) → bits * n ≡ 8 * m → i < n
+    places : (bits i n m : ℕ) → IsWidth bits → bits * n ≡ 8 * m → i < n
         → (i / (8 / bits) < m) × (i % (8 / bits) < 8 / bits) × ((i / (8 / bits) + 1) * (8 / bits) ≤ n)
     places bits i n m (inl e) room lt =
         let room : 1 * n ≡ 8 * m = rw e at room in
         rw e (omega arith, omega arith, omega arith)
-    places bits i n m (inr e) room lt =
+    places bits i n m (inr (inl e)) room lt =
         let room : 2 * n ≡ 8 * m = rw e at room in
+        rw e (omega arith, omega arith, omega arith)
+    places bits i n m (inr (inr e)) room lt =
+        let room : 4 * n ≡ 8 * m = rw e at room in
         rw e (omega arith, omega arith, omega arith)

@@ -1,5 +1,9 @@
 -- Codes and levels of samples (VDIF 1.1.1, data array; offset binary).
-use Rattle.std.specs.Prelude.{ℕ, ◌+◌, ◌-◌, ◌*◌, ◌/◌, ◌%◌, ◌^◌, ℤ, pos, ◌-ℤ◌, List, slice_index}
+use Rattle.std.specs.Prelude.{◌≡◌, ℕ, ◌+◌, ◌-◌, ◌*◌, ◌/◌, ◌%◌, ◌^◌, ◌⊎◌, ℤ, pos, ◌-ℤ◌, List, slice_index}
+
+-- the bits of a sample
+abbrev pub IsWidth : ℕ → Type 0
+IsWidth bits = (bits ≡ 1) ⊎ ((bits ≡ 2) ⊎ (bits ≡ 4))
 
 -- the level of a code of so many bits: the odd numbers about zero, the code 0 the most negative of them
 abbrev pub level_of : ℕ → ℕ → ℤ

@@ -1,13 +1,13 @@
 //! Samples out of a data array.
-ghost use Rattle.std.specs.Prelude.{◌≡◌, ◌<◌, ◌≤◌, ◌*◌, ◌+◌, ◌⊎◌, ℕ, pos, length, slice_index_or};
-ghost use Rattle.sample_unpack.specs.Level.{level_of, code_at, level_at, bit_of};
+ghost use Rattle.std.specs.Prelude.{◌≡◌, ◌<◌, ◌≤◌, ◌*◌, ◌+◌, ℕ, pos, length, slice_index_or};
+ghost use Rattle.sample_unpack.specs.Level.{IsWidth, level_of, code_at, level_at, bit_of};
 
 use crate::level;
 
 /// Sample `i` of channel `chan` in a data array of `chans` channels with `bits` bits a sample (VDIF
 /// 1.1.1, data array).
 pub fn sample_at(bytes: &[u8], bits: u8, chans: u32, chan: u32, i: u32) -> i8
-    requires width { (bits ≡ 1) ⊎ (bits ≡ 2) }
+    requires width { IsWidth bits }
     requires channel { chan < chans }
     requires channels { chans ≤ 64 }
     requires inside { bit_of bits chans chan i + bits ≤ 8 * length bytes.now }
@@ -20,7 +20,7 @@ pub fn sample_at(bytes: &[u8], bits: u8, chans: u32, chan: u32, i: u32) -> i8
 /// The first samples of channel `chan` in a data array of `chans` channels with `bits` bits a sample, as
 /// many as `out` has room for: `out[i]` becomes the level of sample `i` (VDIF 1.1.1, data array).
 pub fn unpack(bytes: &[u8], bits: u8, chans: u32, chan: u32, out: &mut [i8])
-    requires width { (bits ≡ 1) ⊎ (bits ≡ 2) }
+    requires width { IsWidth bits }
     requires channel { chan < chans }
     requires channels { chans ≤ 64 }
     requires inside { (i : ℕ) → i < length out.old → bit_of bits chans chan i + bits ≤ 8 * length bytes.now }
@@ -35,7 +35,7 @@ pub fn unpack(bytes: &[u8], bits: u8, chans: u32, chan: u32, out: &mut [i8])
 
 // The level of the code whose lowest bit is bit `at` of a data array.
 fn level_in(bytes: &[u8], bits: u8, at: u128) -> i8
-    requires width { (bits ≡ 1) ⊎ (bits ≡ 2) }
+    requires width { IsWidth bits }
     requires inside { at + bits ≤ 8 * length bytes.now }
     ensures { result ≡ level_of bits (code_at bytes.now bits at) }
 {

@@ -5,7 +5,6 @@ use Rattle.std.proofs.lemmas.Bool.{cases_lt}
 use Rattle.std.proofs.lemmas.Int.{ints}
 use Rattle.std.proofs.lemmas.List.{get_or_past}
 use Rattle.value_codes.specs.Codes.{value_of}
-use Rattle.packed_values.specs.Packed.{packed_value}
 use Rattle.bit_planes.specs.Planes.{PlanesFields, ArePlanes, held_value, plane_value, size_of}
 
 pub plane_value-inside : (p : PlanesFields) (n : ℤ) (k : ℕ) → p.from +ℤ pos k ≡ n → n <ℤ p.to → plane_value p n ≡ held_value p k
@@ -29,8 +28,8 @@ plane_value-before p n h =
     let low : int_le p.from n ≡ false = grind (arith, ints) in
     ap (λ s. if s && int_lt n p.to then held_value p (unsigned_abs (n -ℤ p.from)) else None) low
 
-held-past : (p : PlanesFields) → ArePlanes p → (k : ℕ) → length p.packed ≤ k → held_value p k ≡ None
-held-past p are k le = ap packed_value (get_or_past p.packed k 0 le)
+held-past : (p : PlanesFields) → (k : ℕ) → length p.values ≤ k → held_value p k ≡ None
+held-past p k le = get_or_past p.values k None le
 
 -- from the first sample on
 pub plane_value-held : (p : PlanesFields) → ArePlanes p → (n : ℤ) (k : ℕ) → p.from +ℤ pos k ≡ n → plane_value p n ≡ held_value p k
@@ -39,15 +38,15 @@ plane_value-held p are n k e =
     let whole : p.from +ℤ pos (size_of p) ≡ p.to = omega (arith, ints, order) in
     elim (cases_lt k (size_of p)) [
       | inl q ↦ plane_value-inside p n k e (omega (arith, ints))
-      | inr q ↦ plane_value-past p n (omega (arith, ints)) ∙ sym (held-past p are k (omega (arith, are.held)))
+      | inr q ↦ plane_value-past p n (omega (arith, ints)) ∙ sym (held-past p k (omega (arith, are.held)))
     ]
 
 -- where no value is held there is none
-pub plane_value-none : (p : PlanesFields) → ArePlanes p → length p.packed ≡ 0 → (n : ℤ) → plane_value p n ≡ None
+pub plane_value-none : (p : PlanesFields) → ArePlanes p → length p.values ≡ 0 → (n : ℤ) → plane_value p n ≡ None
 plane_value-none p are empty n = both (int_le p.from n) (int_lt n p.to)
   where
     both : (s t : Bool) → (if s && t then held_value p (unsigned_abs (n -ℤ p.from)) else None) ≡ None
-    both true true = held-past p are (unsigned_abs (n -ℤ p.from)) (omega (arith, empty))
+    both true true = held-past p (unsigned_abs (n -ℤ p.from)) (omega (arith, empty))
     both true false = refl
     both false t = refl
 

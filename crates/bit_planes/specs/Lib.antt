@@ -1,5 +1,4 @@
 pub mod Planes
 pub mod Shown
-pub mod Ternary
-pub mod Bytes
+pub mod Held
 pub mod Coded

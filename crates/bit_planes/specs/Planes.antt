@@ -1,17 +1,16 @@
--- The values that planes hold, by bytes.
-use Rattle.std.specs.Prelude.{ℕ, ◌^◌, ◌≤◌, ◌&&◌, ℤ, pos, ◌-ℤ◌, ◌≤ℤ◌, int_le, int_lt, unsigned_abs, List, None, length, if◌then◌else◌}
+-- The values that planes hold.
+use Rattle.std.specs.Prelude.{ℕ, ◌^◌, ◌≤◌, ◌&&◌, ℤ, pos, ◌-ℤ◌, ◌≤ℤ◌, int_le, int_lt, unsigned_abs, List, None, length, slice_index_or, if◌then◌else◌}
 use Rattle.corr_model.specs.Cell.{Value}
-use Rattle.packed_values.specs.Packed.{ArePacked, packed_in}
 
--- The samples from `from` up to, not including, `to`, and of each that is held, from the first on, its value in a byte.
+-- The samples from `from` up to, not including, `to`, and the values of those that are held, from the first on.
 pub record PlanesFields : Type 0 where
   pub from : ℤ
   pub to : ℤ
-  pub packed : List ℕ
+  pub values : List Value
 
 -- value k of those that are held, none past the last one
 abbrev pub held_value : PlanesFields → ℕ → Value
-held_value p k = packed_in p.packed k
+held_value p k = slice_index_or p.values k None
 
 -- the value at sample n, none outside the range
 abbrev pub plane_value : PlanesFields → ℤ → Value
@@ -26,5 +25,4 @@ pub record ArePlanes (p : PlanesFields) : Type 0 where
   pub start : pos 0 ≤ℤ p.from
   pub order : p.from ≤ℤ p.to
   pub end : p.to ≤ℤ pos (2 ^ 40)
-  pub packed : ArePacked p.packed
-  pub held : length p.packed ≤ size_of p
+  pub held : length p.values ≤ size_of p

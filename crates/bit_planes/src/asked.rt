@@ -1,26 +1,11 @@
 //! Values that are asked for one by one.
-ghost use Rattle.std.specs.Prelude.{◌≡◌, ◌<◌, ◌≤◌, ◌+◌, ◌^◌, ℕ, length, pos, IfOk, IfSome};
-ghost use Rattle.bit_planes.specs.Bytes.{AreBytes, HaveRoom, value_in};
-ghost use Rattle.bit_planes.specs.Ternary.{AreTernary};
+ghost use Rattle.std.specs.Prelude.{◌≡◌, ◌<◌, ◌≤◌, ◌+◌, ◌^◌, ℕ, None, length, pos, slice_index_or, IfOk};
+ghost use Rattle.bit_planes.specs.Held.{AreHeld, HaveRoom, values_in};
 
-use crate::bytes::Bytes;
+use crate::held::Held;
 use corr_model::Values;
 use packed_values::pack;
 use std::alloc::{AllocError, Global};
-
-// One value more.
-fn push(bytes: &mut Bytes, value: Option<(i8, i8)>) -> Result<(), AllocError>
-    requires ternary { IfSome value AreTernary }
-    requires packed { AreBytes bytes.old }
-    ensures room { IfOk result (λ _. (size : ℕ) → HaveRoom size bytes.old → HaveRoom size bytes.new) }
-    ensures packed { IfOk result (λ _. AreBytes bytes.new) }
-    ensures long { IfOk result (λ _. length bytes.new.packed.items ≡ length bytes.old.packed.items + 1) }
-    ensures before { IfOk result (λ _. (k : ℕ) → k < length bytes.old.packed.items → value_in bytes.new k ≡ value_in bytes.old k) }
-    ensures here { IfOk result (λ _. value_in bytes.new (length bytes.old.packed.items) ≡ value) }
-{
-    bytes.packed.push(pack(value))?;
-    Ok(())
-}
 
 // The values at `size` samples from sample `n` on.
 pub(crate) fn ask<V: Values>(
@@ -30,17 +15,16 @@ pub(crate) fn ask<V: Values>(
     chan: u32,
     n: usize,
     size: usize,
-) -> Result<Bytes, AllocError>
+) -> Result<Held, AllocError>
     requires scan { n + size ≤ 2 ^ 40 }
-    requires ternary { (k : ℕ) → k < size → IfSome (V.samples v.now station chan (pos (n + k))) AreTernary }
-    ensures packed { IfOk result AreBytes }
+    ensures held { IfOk result AreHeld }
     ensures room { IfOk result (HaveRoom size) }
-    ensures long { IfOk result (λ b. length b.packed.items ≡ size) }
-    ensures values { IfOk result (λ b. (k : ℕ) → k < size → value_in b k ≡ V.samples v.now station chan (pos (n + k))) }
+    ensures long { IfOk result (λ h. length (values_in h) ≡ size) }
+    ensures values { IfOk result (λ h. (k : ℕ) → k < size → slice_index_or (values_in h) k None ≡ V.samples v.now station chan (pos (n + k))) }
 {
-    let mut bytes = Bytes::room(alloc, size)?;
+    let mut words = Vec::with_capacity(alloc, size)?;
     for k in 0..size {
-        push(&mut bytes, v.z(station, chan, (n + k) as i64))?;
+        words.push(pack(v.z(station, chan, (n + k) as i64)))?;
     }
-    Ok(bytes)
+    Ok(Held::Words(words))
 }

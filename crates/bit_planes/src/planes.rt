@@ -1,40 +1,40 @@
 //! The values of a range of samples.
-ghost use Rattle.std.specs.Prelude.{◌≡◌, ◌<◌, ◌≤◌, ◌+◌, ◌^◌, ℕ, ℤ, pos, ◌+ℤ◌, ◌-ℤ◌, ◌≤ℤ◌, ◌<ℤ◌, unsigned_abs, length, slice_index, IfOk, IfSome, None};
+ghost use Rattle.std.specs.Prelude.{◌≡◌, ◌<◌, ◌≤◌, ◌+◌, ◌^◌, ℕ, ℤ, pos, ◌+ℤ◌, ◌-ℤ◌, ◌≤ℤ◌, ◌<ℤ◌, unsigned_abs, length, slice_index, IfOk, None};
 ghost use Rattle.std.specs.Int.{bit_at};
-ghost use Rattle.packed_values.specs.Packed.{packed_at};
+ghost use Rattle.packed_values.specs.From.{value_from};
+ghost use Rattle.packed_values.specs.Packed.{values_of};
 ghost use Rattle.value_codes.specs.Codes.{value_of};
 ghost use Rattle.bit_planes.specs.Planes.{plane_value, size_of};
 ghost use Rattle.bit_planes.specs.Shown.{plane_bit};
-ghost use Rattle.bit_planes.specs.Ternary.{AreTernary};
 
 use crate::asked::ask;
-use crate::bytes::Bytes;
+use crate::held::Held;
 use crate::shown::word_at;
 use corr_model::Values;
-use packed_values::Packed;
+use packed_values::{Packed, Words};
 use std::alloc::{AllocError, Global};
 use std::marker::Model;
 
-/// The values of a station's channel at the samples from one up to, not including, another, a byte for each.
+/// The values of a station's channel at the samples from one up to, not including, another.
 #[derive(Drop)]
 pub struct Planes {
     from: i64,
     to: i64,
-    bytes: Bytes,
+    held: Held,
 }
 
 impl Model for Planes {
     ghost use Rattle.std.specs.Prelude.{◌-ℤ◌, unsigned_abs};
     ghost use Rattle.bit_planes.specs.Planes.{PlanesFields, ArePlanes};
-    ghost use Rattle.bit_planes.specs.Bytes.{HaveRoom};
+    ghost use Rattle.bit_planes.specs.Held.{AreHeld, HaveRoom, values_in};
 
     ghost Value = { PlanesFields };
 
-    ghost view = { λ p. record { from = p.from; to = p.to; packed = p.bytes.packed.items } };
+    ghost view = { λ p. record { from = p.from; to = p.to; values = values_in p.held } };
 
-    // the bytes have room for all the samples, so that `fill` takes no memory
-    ghost invariant = { λ p. ArePlanes (record { from = p.from; to = p.to; packed = p.bytes.packed.items })
-        × HaveRoom (unsigned_abs (p.to -ℤ p.from)) p.bytes };
+    // there is room for all the samples, so that `fill` takes no memory
+    ghost invariant = { λ p. ArePlanes (record { from = p.from; to = p.to; values = values_in p.held })
+        × (AreHeld p.held × HaveRoom (unsigned_abs (p.to -ℤ p.from)) p.held) };
 }
 
 impl Planes {
@@ -51,11 +51,10 @@ impl Planes {
         requires start { pos 0 ≤ℤ from }
         requires end { to ≤ℤ pos (2 ^ 40) }
         requires order { from ≤ℤ to }
-        requires ternary { (n : ℤ) → from ≤ℤ n → n <ℤ to → IfSome (V.samples v.now station chan n) AreTernary }
         ensures range { IfOk result (λ p. (p.from ≡ from) × (p.to ≡ to)) }
         ensures values { IfOk result (λ p. (n : ℤ) → from ≤ℤ n → n <ℤ to → plane_value p n ≡ V.samples v.now station chan n) }
     {
-        let bytes = ask(
+        let held = ask(
             alloc,
             v,
             station,
@@ -63,7 +62,7 @@ impl Planes {
             samples_between(0, from),
             samples_between(from, to),
         )?;
-        Ok(Planes { from, to, bytes })
+        Ok(Planes { from, to, held })
     }
 
     /// Room for the values of the samples from `from` up to, not including, `to`: none is there yet.
@@ -74,8 +73,8 @@ impl Planes {
         ensures range { IfOk result (λ p. (p.from ≡ from) × (p.to ≡ to)) }
         ensures none { IfOk result (λ p. (n : ℤ) → plane_value p n ≡ None) }
     {
-        let bytes = Bytes::room(alloc, samples_between(from, to))?;
-        Ok(Planes { from, to, bytes })
+        let held = Held::room(alloc, samples_between(from, to))?;
+        Ok(Planes { from, to, held })
     }
 
     /// Room as `room` makes it, in the room of these planes where that is large enough.
@@ -86,12 +85,12 @@ impl Planes {
         ensures range { IfOk result (λ p. (p.from ≡ from) × (p.to ≡ to)) }
         ensures none { IfOk result (λ p. (n : ℤ) → plane_value p n ≡ None) }
     {
-        let bytes = self.bytes;
-        if bytes.has_room(samples_between(from, to)) {
+        let held = self.held;
+        if held.has_room(samples_between(from, to)) {
             return Ok(Planes {
                 from,
                 to,
-                bytes: bytes.cleared(),
+                held: held.cleared(),
             });
         }
         Planes::room(alloc, from, to)
@@ -108,7 +107,7 @@ impl Planes {
         ensures here { (n : ℤ) → at ≤ℤ n → plane_value self.new n ≡ value_of (slice_index codes.now (unsigned_abs (n -ℤ at))) }
     {
         let first = samples_between(self.from, at);
-        self.bytes.fill(first, codes);
+        self.held.fill(first, codes);
     }
 
     /// The first sample.
@@ -127,28 +126,29 @@ impl Planes {
 
     /// The row of the values, from the first sample on.
     pub fn packed(&self) -> Packed<'_>
-        ensures values { (n : ℤ) → plane_value self.now n ≡ packed_at result.bytes.now (n -ℤ self.now.from) }
-        ensures held { length result.bytes.now ≤ size_of self.now }
+        ensures values { (n : ℤ) → plane_value self.now n ≡ value_from (values_of result) (n -ℤ self.now.from) }
+        ensures held { length (values_of result) ≤ size_of self.now }
         ensures start { pos 0 ≤ℤ self.now.from }
         ensures order { self.now.from ≤ℤ self.now.to }
         ensures end { self.now.to ≤ℤ pos (2 ^ 40) }
     {
-        Packed {
-            bytes: &self.bytes.packed,
+        match &self.held {
+            Held::Codes(codes) => Packed::Codes(codes),
+            Held::Words(words) => Packed::Words(Words { words }),
         }
     }
 
     /// The 64 bits of a plane from that of sample `from + bit` on, zeros past the end. Plane 0 says where there is a value;
-    /// plane 1 + 4c + 2t + s where part t (0 for u, 1 for v) of component c (0 the real one, 1 the imaginary one) has the sign
-    /// s (0 plus, 1 minus), the component's magnitude being u + 2v.
+    /// plane 1 + 8c + 2t + s where part t (0 to 3 for u, v, w, y) of component c (0 the real one, 1 the imaginary one) has the sign
+    /// s (0 plus, 1 minus), the component's magnitude being u + 2v + 4w + 8y.
     pub fn word_at(&self, plane: u8, bit: u64) -> u64
-        requires plane { plane < 9 }
+        requires plane { plane < 17 }
         ensures { (k : ℕ) → k < 64 → bit_at result k ≡ plane_bit plane (plane_value self.now (self.now.from +ℤ pos (bit + k))) }
     {
         if bit >= samples_between(self.from, self.to) as u64 {
             return 0;
         }
-        word_at(&self.bytes, plane, bit as usize)
+        word_at(&self.held, plane, bit as usize)
     }
 }
 

@@ -1,21 +1,17 @@
-//! The nine planes of values.
-ghost use Rattle.std.specs.Prelude.{◌≡◌, ◌<◌, ◌≤◌, ◌+◌, ◌^◌, ℕ, length, if◌then◌else◌};
+//! The planes of bits of values.
+ghost use Rattle.std.specs.Prelude.{◌≡◌, ◌<◌, ◌≤◌, ◌+◌, ◌^◌, ℕ, None, slice_index_or, if◌then◌else◌};
 ghost use Rattle.std.specs.Int.{bit_at};
-ghost use Rattle.bit_planes.specs.Bytes.{AreBytes, value_in};
+ghost use Rattle.bit_planes.specs.Held.{AreHeld, values_in};
 ghost use Rattle.bit_planes.specs.Shown.{has_part, has_sign, part_bit, plane_bit};
 
-use crate::bytes::Bytes;
-use packed_values::unpack;
+use crate::held::Held;
 
 // Whether a ternary part of a component is not 0.
 fn has_part(part: u8, x: i8) -> bool
+    requires { part < 4 }
     ensures { result ≡ has_part part x }
 {
-    if part == 0 {
-        x.unsigned_abs() != 0
-    } else {
-        x.unsigned_abs() == 3
-    }
+    (x.unsigned_abs() >> part) % 2 == 1
 }
 
 // Whether a component has the sign.
@@ -29,7 +25,7 @@ fn has_sign(sign: u8, x: i8) -> bool
 fn part_bit(place: u8, x: i8) -> bool
     ensures { (if result then 1 else 0) ≡ part_bit place x }
 {
-    has_part(place / 2 % 2, x) && has_sign(place % 2, x)
+    has_part(place / 2 % 4, x) && has_sign(place % 2, x)
 }
 
 // Whether the bit of a value is set in a plane.
@@ -43,18 +39,7 @@ fn plane_bit(plane: u8, value: Option<(i8, i8)>) -> bool
         return true;
     }
     let place = plane - 1;
-    part_bit(place, if place / 4 == 0 { re } else { im })
-}
-
-// The value at a place, none past the last one.
-fn value_in(bytes: &Bytes, k: usize) -> Option<(i8, i8)>
-    requires { AreBytes bytes.now }
-    ensures { result ≡ value_in bytes.now k }
-{
-    if k >= bytes.packed.len() {
-        return None;
-    }
-    unpack(bytes.packed[k])
+    part_bit(place, if place / 8 == 0 { re } else { im })
 }
 
 fn bit_of(bit: bool) -> u64
@@ -75,18 +60,14 @@ fn with_bit(bits: u64, k: u32, bit: bool) -> u64
 }
 
 // The 64 bits of a plane from that of place `first` on.
-pub(crate) fn word_at(bytes: &Bytes, plane: u8, first: usize) -> u64
-    requires packed { AreBytes bytes.now }
+pub(crate) fn word_at(held: &Held, plane: u8, first: usize) -> u64
+    requires held { AreHeld held.now }
     requires scan { first ≤ 2 ^ 40 }
-    ensures { (k : ℕ) → k < 64 → bit_at result k ≡ plane_bit plane (value_in bytes.now (first + k)) }
+    ensures { (k : ℕ) → k < 64 → bit_at result k ≡ plane_bit plane (slice_index_or (values_in held.now) (first + k) None) }
 {
     let mut word = 0;
     for k in 0..64_u32 {
-        word = with_bit(
-            word,
-            k,
-            plane_bit(plane, value_in(bytes, first + k as usize)),
-        );
+        word = with_bit(word, k, plane_bit(plane, held.value(first + k as usize)));
     }
     word
 }

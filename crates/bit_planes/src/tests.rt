@@ -17,7 +17,10 @@ fn level_of(code: u8) -> i8
         1 => 1,
         2 => -1,
         3 => 3,
-        _ => -3,
+        4 => -3,
+        5 => 13,
+        6 => -10,
+        _ => 15,
     }
 }
 
@@ -26,10 +29,10 @@ fn coded(code: u8) -> Option<(i8, i8)>
     ensures value { result ≡ coded code }
     ensures small { IfSome result AreSmall }
 {
-    if code > 24 {
+    if code > 63 {
         return None;
     }
-    Some((level_of(code % 5), level_of(code / 5)))
+    Some((level_of(code % 8), level_of(code / 8)))
 }
 
 // 200 samples by their codes.
@@ -51,8 +54,8 @@ impl Values for Codes {
 
 // Samples +3, -1, none and +1, not turned.
 #[test]
-fn nine_planes_of_four_samples(rt: HostRuntime) -> Result<(), Fail> {
-    let mut codes = [25; 200];
+fn planes_of_four_samples(rt: HostRuntime) -> Result<(), Fail> {
+    let mut codes = [64; 200];
     codes[0] = 3;
     codes[1] = 2;
     codes[3] = 1;
@@ -64,50 +67,52 @@ fn nine_planes_of_four_samples(rt: HostRuntime) -> Result<(), Fail> {
     assert_eq!(rt; planes.word_at(2, 0), 2);
     assert_eq!(rt; planes.word_at(3, 0), 1);
     assert_eq!(rt; planes.word_at(4, 0), 0);
-    assert_eq!(rt; planes.word_at(5, 0), 0);
-    assert_eq!(rt; planes.word_at(6, 0), 0);
-    assert_eq!(rt; planes.word_at(7, 0), 0);
-    assert_eq!(rt; planes.word_at(8, 0), 0);
+    for plane in 5..17 {
+        assert_eq!(rt; planes.word_at(plane, 0), 0);
+    }
     assert_eq!(rt; planes.word_at(0, 1), 5);
     assert_eq!(rt; planes.word_at(0, 4), 0);
     assert_eq!(rt; planes.word_at(0, u64::MAX), 0);
     Ok(())
 }
 
-// The bits of a component in its four planes, that of plane 0 first: u and v, each with the signs plus and minus.
-fn bits(x: i8) -> u16 {
+// The bits of a component in its eight planes, that of the first plane first: u, v, w and y, each with the signs plus and minus.
+fn bits(x: i8) -> u32 {
     match x {
         1 => 1,
         -1 => 2,
         3 => 5,
         -3 => 10,
+        13 => 81,
+        -10 => 136,
+        15 => 85,
         _ => 0,
     }
 }
 
-// The bits of a value in the nine planes, that of plane 0 first.
-fn nine(value: Option<(i8, i8)>) -> u16 {
+// The bits of a value in the seventeen planes, that of plane 0 first.
+fn seventeen(value: Option<(i8, i8)>) -> u32 {
     match value {
-        Some((re, im)) => 1 | bits(re) << 1 | bits(im) << 5,
+        Some((re, im)) => 1 | bits(re) << 1 | bits(im) << 9,
         None => 0,
     }
 }
 
-// The bits of the words of the nine planes at bit `k`.
-fn word_bits(words: &[u64; 9], k: u32) -> u16
+// The bits of the words of the seventeen planes at bit `k`.
+fn word_bits(words: &[u64; 17], k: u32) -> u32
     requires { k < 64 }
 {
     let mut bits = 0;
-    for plane in 0..9 {
-        bits |= ((words[plane] >> k & 1) as u16) << plane;
+    for plane in 0..17 {
+        bits |= ((words[plane] >> k & 1) as u32) << plane;
     }
     bits
 }
 
-// The words of the nine planes from place `at` on.
-fn words(planes: &Planes, at: u64) -> [u64; 9] {
-    let mut words = [0; 9];
-    for plane in 0..9_u8 {
+// The words of the seventeen planes from place `at` on.
+fn words(planes: &Planes, at: u64) -> [u64; 17] {
+    let mut words = [0; 17];
+    for plane in 0..17_u8 {
         words[usize::from(plane)] = planes.word_at(plane, at);
     }
     words
@@ -125,7 +130,7 @@ fn is_shown(values: &Codes, planes: &Planes, at: u32) -> bool
         } else {
             None
         };
-        if word_bits(&words, k) != nine(plain) {
+        if word_bits(&words, k) != seventeen(plain) {
             return false;
         }
     }
@@ -139,11 +144,11 @@ fn words_from_every_sample(rt: HostRuntime) -> Result<(), Fail> {
     let mut state = 1_u32;
     for code in codes.iter_mut() {
         state = state.wrapping_mul(1_664_525).wrapping_add(1_013_904_223);
-        *code = (state >> 24) as u8 % 28;
+        *code = (state >> 24) as u8 % 72;
     }
     let values = Codes { codes };
     let planes = Planes::build(rt.alloc(), &values, 0, 0, 5, 195)?;
-    assert_eq!(rt; planes.packed().bytes.len(), 190);
+    assert_eq!(rt; planes.packed().len(), 190);
     for at in 0..220_u32 {
         assert!(rt; is_shown(&values, &planes, at));
     }
@@ -156,7 +161,7 @@ fn is_filled(codes: &[u8], planes: &Planes, at: usize) -> bool
 {
     let words = words(planes, at as u64);
     for k in 0..64_u32 {
-        if word_bits(&words, k) != nine(value_at(codes, at + k as usize)) {
+        if word_bits(&words, k) != seventeen(value_at(codes, at + k as usize)) {
             return false;
         }
     }
@@ -231,7 +236,7 @@ fn two_parts_with_a_gap(rt: HostRuntime) -> Result<(), Fail> {
     planes.fill(10, part(&codes, 3, 57));
     planes.fill(97, part(&codes, 90, 90));
     assert!(rt; are_filled(&codes, &planes, 220));
-    assert_eq!(rt; planes.packed().bytes.len(), 180);
+    assert_eq!(rt; planes.packed().len(), 180);
     Ok(())
 }
 
@@ -283,7 +288,7 @@ fn planes_of_many_codes(rt: HostRuntime) -> Result<(), Fail> {
     let codes = many_codes();
     let mut planes = Planes::room(rt.alloc(), 7, 9_007)?;
     planes.fill(7, &codes);
-    assert_eq!(rt; planes.packed().bytes.len(), 9_000);
+    assert_eq!(rt; planes.packed().len(), 9_000);
     assert!(rt; is_filled(&codes, &planes, 0));
     assert!(rt; is_filled(&codes, &planes, 4_064));
     assert!(rt; is_filled(&codes, &planes, 8_160));

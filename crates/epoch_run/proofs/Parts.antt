@@ -16,8 +16,8 @@ use Rattle.epoch_run.proofs.Within.{IsWithin-cell_in}
 abbrev pub amount_in : ℕ → ℕ → Cell → ℕ
 amount_in r bias c = get_or (amounts_in bias c) r 0
 
-biased-plus : (x y : ℤ) (n m : ℕ) → neg_ℤ (pos (18 * n)) ≤ℤ x → neg_ℤ (pos (18 * m)) ≤ℤ y
-    → unsigned_abs (x +ℤ pos (18 * n)) + unsigned_abs (y +ℤ pos (18 * m)) ≡ unsigned_abs ((x +ℤ y) +ℤ pos (18 * (n + m)))
+biased-plus : (x y : ℤ) (n m : ℕ) → neg_ℤ (pos (450 * n)) ≤ℤ x → neg_ℤ (pos (450 * m)) ≤ℤ y
+    → unsigned_abs (x +ℤ pos (450 * n)) + unsigned_abs (y +ℤ pos (450 * m)) ≡ unsigned_abs ((x +ℤ y) +ℤ pos (450 * (n + m)))
 biased-plus x y n m h k = omega (arith, ints)
 
 amount_in-plus : (r : ℕ) (c d : Cell) (n m : ℕ) → IsWithin c n → IsWithin d m
@@ -33,17 +33,17 @@ amount_in-none (suc zero) = omega (arith, ints)
 amount_in-none (suc (suc zero)) = refl
 amount_in-none (suc (suc (suc r))) = refl
 
-biased-most : (x : ℤ) (n : ℕ) → neg_ℤ (pos (18 * n)) ≤ℤ x → x ≤ℤ pos (18 * n) → unsigned_abs (x +ℤ pos (18 * n)) ≤ 36 * n
+biased-most : (x : ℤ) (n : ℕ) → neg_ℤ (pos (450 * n)) ≤ℤ x → x ≤ℤ pos (450 * n) → unsigned_abs (x +ℤ pos (450 * n)) ≤ 900 * n
 biased-most x n h k = omega (arith, ints)
 
 -- no amount is greater than twice the bias
-pub amount_in-most : (r : ℕ) (c : Cell) (n : ℕ) → IsWithin c n → amount_in r (bias_of n) c ≤ 36 * n
+pub amount_in-most : (r : ℕ) (c : Cell) (n : ℕ) → IsWithin c n → amount_in r (bias_of n) c ≤ 900 * n
 amount_in-most zero c n h = biased-most c.re n h.re_low h.re_high
 amount_in-most (suc zero) c n h = biased-most c.im n h.im_low h.im_high
 amount_in-most (suc (suc zero)) c n h = omega (arith, h.count)
 amount_in-most (suc (suc (suc r))) c n h = omega arith
 
-unbiased-sum : (x : ℤ) (a n : ℕ) → neg_ℤ (pos (18 * n)) ≤ℤ x → a ≡ unsigned_abs (x +ℤ pos (18 * n)) → pos a -ℤ pos (18 * n) ≡ x
+unbiased-sum : (x : ℤ) (a n : ℕ) → neg_ℤ (pos (450 * n)) ≤ℤ x → a ≡ unsigned_abs (x +ℤ pos (450 * n)) → pos a -ℤ pos (450 * n) ≡ x
 unbiased-sum x a n h e = omega (arith, ints)
 
 -- a cell from its amounts

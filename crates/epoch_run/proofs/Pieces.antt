@@ -73,12 +73,12 @@ three bias c = refl
 
 -- they are small
 pub amounts-within : (w : WorkFields) (p : Piece) (cells : List Cell) → IsPart w p → All (λ c. IsWithin c (p.to - p.from)) cells
-    → All (λ a. a ≤ 36 * w.piece) (flat_map (amounts_in (bias_of (p.to - p.from))) cells)
+    → All (λ a. a ≤ 900 * w.piece) (flat_map (amounts_in (bias_of (p.to - p.from))) cells)
 amounts-within w p cells part within =
-    All-from_get_or (λ a. a ≤ 36 * w.piece) (flat_map (amounts_in (bias_of (p.to - p.from))) cells) 0 each
+    All-from_get_or (λ a. a ≤ 900 * w.piece) (flat_map (amounts_in (bias_of (p.to - p.from))) cells) 0 each
   where
     each : (i : ℕ) → i < length (flat_map (amounts_in (bias_of (p.to - p.from))) cells)
-        → get_or (flat_map (amounts_in (bias_of (p.to - p.from))) cells) i 0 ≤ 36 * w.piece
+        → get_or (flat_map (amounts_in (bias_of (p.to - p.from))) cells) i 0 ≤ 900 * w.piece
     each i h =
         let n = p.to - p.from in
         let f : Cell → List ℕ = amounts_in (bias_of n) in

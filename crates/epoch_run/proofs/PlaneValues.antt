@@ -30,7 +30,7 @@ abbrev value_of : ℤ → Option PlanesFields → Value
 value_of n o = option_and_then (λ (p : PlanesFields). plane_value p n) o
 
 abbrev pub no_planes : PlanesFields
-no_planes = record { from = pos 0; to = pos 0; packed = [] }
+no_planes = record { from = pos 0; to = pos 0; values = [] }
 
 -- cells over equal values are equal
 pub pair_cells-values : (y z : Samples) (p q : Pair) (samples lags from to : ℕ)

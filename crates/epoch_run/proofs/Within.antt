@@ -1,6 +1,6 @@
 -- What pairs of small values add up to.
 use Rattle.std.specs.Prelude.{if◌then◌else◌, IfSome}
-use Rattle.std.proofs.Common.{◌≡◌, ℕ, zero, suc, ◌+◌, ◌-◌, ◌*◌, ◌≤◌, ◌<◌, Bool, true, false, ℤ, pos, ◌+ℤ◌, ◌*ℤ◌, ◌≤ℤ◌, neg_ℤ, unsigned_abs, List, Some, None, ⊎_elim, sym, subst, arith, All}
+use Rattle.std.proofs.Common.{◌≡◌, ℕ, zero, suc, ◌+◌, ◌-◌, ◌*◌, ◌≤◌, ◌<◌, Bool, true, false, ℤ, pos, ◌+ℤ◌, ◌*ℤ◌, ◌≤ℤ◌, neg_ℤ, unsigned_abs, List, Some, None, sym, subst, arith, All}
 use Rattle.std.proofs.lemmas.Int.{ints, unsigned_abs-mul}
 use Rattle.std.proofs.lemmas.Nat.{mul-le}
 use Rattle.std.proofs.lemmas.List.FromFn.{length-map-range_with_len, get_or-map-range_with_len}
@@ -9,16 +9,16 @@ use Rattle.corr_model.specs.declared.cell.Pair.{Pair}
 use Rattle.corr_model.specs.Cell.{Value, Samples, no_cell, cell_plus, is_inside, product_of, product_at, sum_from, cell_in}
 use Rattle.corr_model.specs.Lags.{lag_of}
 use Rattle.corr_model.proofs.CellLemmas.{within_abs, cell_in-sum}
-use Rattle.station_stream.specs.Stream.{AreLevelled, IsLevelPart}
+use Rattle.station_stream.specs.Stream.{AreLevelled}
 use Rattle.epoch_run.specs.Sums.{pair_cells}
 use Rattle.epoch_run.specs.Levelled.{AllLevelled, IsWithin}
 
 -- the product of two small components
-product-nine : (x y : ℤ) → unsigned_abs x ≤ 3 → unsigned_abs y ≤ 3 → (neg_ℤ (pos 9) ≤ℤ (x *ℤ y)) × ((x *ℤ y) ≤ℤ pos 9)
-product-nine x y h k =
-    let small : unsigned_abs x * unsigned_abs y ≤ 9 = mul-le (unsigned_abs x) (unsigned_abs y) 3 3 h k in
-    let size : unsigned_abs (x *ℤ y) ≤ 9 = omega (arith, unsigned_abs-mul x y) in
-    within_abs (x *ℤ y) 9 size
+product-small : (x y : ℤ) → unsigned_abs x ≤ 15 → unsigned_abs y ≤ 15 → (neg_ℤ (pos 225) ≤ℤ (x *ℤ y)) × ((x *ℤ y) ≤ℤ pos 225)
+product-small x y h k =
+    let small : unsigned_abs x * unsigned_abs y ≤ 225 = mul-le (unsigned_abs x) (unsigned_abs y) 15 15 h k in
+    let size : unsigned_abs (x *ℤ y) ≤ 225 = omega (arith, unsigned_abs-mul x y) in
+    within_abs (x *ℤ y) 225 size
 
 pub IsWithin-none : (n : ℕ) → IsWithin no_cell n
 IsWithin-none n = record {
@@ -38,19 +38,12 @@ IsWithin-plus c d n m first second = record {
   count = omega (arith, first.count, second.count);
 }
 
--- the component of a level is at most 3
-part-small : (x : ℤ) → IsLevelPart x → unsigned_abs x ≤ 3
-part-small x part =
-    ⊎_elim (λ (none : unsigned_abs x ≡ 0). omega (arith, none))
-    (λ odd. ⊎_elim (λ (one : unsigned_abs x ≡ 1). omega (arith, one)) (λ (three : unsigned_abs x ≡ 3). omega (arith, three)) odd)
-    part
-
 IsWithin-product_of : (x y : Value) → IfSome x AreLevelled → IfSome y AreLevelled → IsWithin (product_of x y) 1
 IsWithin-product_of (Some a) (Some b) h k =
-    let rr = product-nine a.0 b.0 (part-small a.0 h.0) (part-small b.0 k.0) in
-    let ii = product-nine a.1 b.1 (part-small a.1 h.1) (part-small b.1 k.1) in
-    let ir = product-nine a.1 b.0 (part-small a.1 h.1) (part-small b.0 k.0) in
-    let ri = product-nine a.0 b.1 (part-small a.0 h.0) (part-small b.1 k.1) in
+    let rr = product-small a.0 b.0 h.0 k.0 in
+    let ii = product-small a.1 b.1 h.1 k.1 in
+    let ir = product-small a.1 b.0 h.1 k.0 in
+    let ri = product-small a.0 b.1 h.0 k.1 in
     record {
       re_low = omega (arith, ints, rr.0, ii.0);
       re_high = omega (arith, ints, rr.1, ii.1);

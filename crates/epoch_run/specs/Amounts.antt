@@ -23,9 +23,9 @@ pub record WorkFields : Type 0 where
   pub epoch : EpochPlan
   pub piece : ℕ
 
--- no pair of values adds more than 18 to a sum or takes more from it, for their components are at most 3
+-- no pair of values adds more than 450 to a sum or takes more from it, for their components are at most 15
 abbrev pub bias_of : ℕ → ℕ
-bias_of samples = 18 * samples
+bias_of samples = 450 * samples
 
 abbrev pub amounts_in : ℕ → Cell → List ℕ
 amounts_in bias c = unsigned_abs (c.re +ℤ pos bias) ∷ unsigned_abs (c.im +ℤ pos bias) ∷ c.count ∷ []
@@ -53,7 +53,7 @@ pub record IsBoardOf (w : WorkFields) (k : Sizes) : Type 0 where
   pub groups : k.groups ≡ w.epoch.products * w.epoch.baselines
   pub per_group : k.per_group ≡ per_group (cut_of w)
   pub width : k.width ≡ 3 * w.epoch.lags
-  pub bound : k.bound ≡ 36 * w.piece
+  pub bound : k.bound ≡ 900 * w.piece
 
 -- each of these finished pieces has its amounts
 abbrev pub HaveAmounts : WorkFields → List Finished → Type 0

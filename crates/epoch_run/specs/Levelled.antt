@@ -1,4 +1,4 @@
--- Values whose components have the magnitude 0, 1 or 3, and what their pairs add up to.
+-- Values whose components have a magnitude of at most 15, and what their pairs add up to.
 use Rattle.std.specs.Prelude.{ℕ, ◌*◌, ◌≤◌, ℤ, pos, neg_ℤ, ◌≤ℤ◌, IfSome}
 use Rattle.corr_model.specs.declared.cell.Cell.{Cell}
 use Rattle.corr_model.specs.Cell.{Samples}
@@ -17,10 +17,10 @@ AllLevelled z = (station chan : ℕ) (n : ℤ) → IfSome (z station chan n) Are
 
 -- what so many pairs of small values can add up to
 pub record IsWithin (c : Cell) (pairs : ℕ) : Type 0 where
-  pub re_low : neg_ℤ (pos (18 * pairs)) ≤ℤ c.re
-  pub re_high : c.re ≤ℤ pos (18 * pairs)
-  pub im_low : neg_ℤ (pos (18 * pairs)) ≤ℤ c.im
-  pub im_high : c.im ≤ℤ pos (18 * pairs)
+  pub re_low : neg_ℤ (pos (450 * pairs)) ≤ℤ c.re
+  pub re_high : c.re ≤ℤ pos (450 * pairs)
+  pub im_low : neg_ℤ (pos (450 * pairs)) ≤ℤ c.im
+  pub im_high : c.im ≤ℤ pos (450 * pairs)
   pub count : c.count ≤ pairs
 
 -- what is true of all that the workers read

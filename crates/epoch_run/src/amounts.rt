@@ -26,7 +26,7 @@ fn write_cell(cell: Cell, samples: u64, at: usize, amounts: &mut [u64])
     requires within { IsWithin cell samples }
     ensures { take (at + 3) amounts.new ≡ take at amounts.old ++ amounts_in (bias_of samples) cell }
 {
-    let bias = 18 * samples;
+    let bias = 450 * samples;
     amounts[at] = biased(cell.re, bias);
     amounts[at + 1] = biased(cell.im, bias);
     amounts[at + 2] = cell.count;
@@ -34,7 +34,7 @@ fn write_cell(cell: Cell, samples: u64, at: usize, amounts: &mut [u64])
 
 // A sum with the bias.
 fn biased(sum: i64, bias: u64) -> u64
-    requires most { bias ≤ 75497472 }
+    requires most { bias ≤ 1887436800 }
     requires low { neg_ℤ (pos bias) ≤ℤ sum }
     requires high { sum ≤ℤ pos bias }
     ensures { result ≡ unsigned_abs (sum +ℤ pos bias) }

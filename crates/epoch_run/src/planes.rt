@@ -116,7 +116,7 @@ fn left_by(alloc: Global, spare: Option<EpochPlanes>) -> Vec<Vec<Planes>> {
     over
 }
 
-// Each value of the streams has components of magnitude 0, 1 or 3.
+// Each value of the streams has components of a magnitude of at most 15.
 fn are_levelled(streams: &[Stream])
     ensures { AllLevelled (streamed streams.now) }
 {

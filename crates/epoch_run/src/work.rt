@@ -96,7 +96,7 @@ impl<'a> Work<'a> {
             u64::from(self.epoch.products) * u64::from(self.epoch.baselines),
             pieces.per_group(),
             3 * u64::from(self.epoch.lags),
-            36 * self.piece,
+            900 * self.piece,
             shares,
         )
     }
@@ -139,7 +139,7 @@ impl<'a> Work<'a> {
         requires cells { length cells.old ≡ self.now.epoch.lags }
         requires room { length amounts.old ≡ 3 * self.now.epoch.lags }
         ensures amounts { amounts.new ≡ amounts_of self.now n }
-        ensures within { All (λ a. a ≤ 36 * self.now.piece) amounts.new }
+        ensures within { All (λ a. a ≤ 900 * self.now.piece) amounts.new }
     {
         let piece = self.piece_at(n);
         let pair = self.pair_of(&piece);
@@ -163,7 +163,7 @@ impl<'a> Work<'a> {
             (λ sums. sums.cells ≡ cells_in_epoch (planed self.now.planes) self.now.pairs self.now.samples self.now.epoch) }
         ensures pieces { IfOk result (λ sums. sums.pieces ≡ pieces_in_epoch self.now.epoch self.now.piece) }
     {
-        let bias = 18 * (self.epoch.to - self.epoch.from);
+        let bias = 450 * (self.epoch.to - self.epoch.from);
         let totals = board.close(alloc, seat)?;
         Ok(totals.unbias(bias))
     }

@@ -1,17 +1,18 @@
 -- Rows of values: what is cut out of them, how large it is, and the cells that it gives.
 use Rattle.std.specs.Prelude.{◌==◌, IfSome, if◌then◌else◌}
-use Rattle.std.proofs.Common.{◌≡◌, ℕ, zero, suc, ◌+◌, ◌-◌, ◌*◌, ◌/◌, ◌%◌, min, ◌<◌, ◌≤◌, Bool, true, false, List, length, get_or, ℤ, pos, negsuc, ◌+ℤ◌, ◌-ℤ◌, Some, None, refl, sym, subst, ap, ap₂, ◌∙◌, arith, inl, inr}
+use Rattle.std.proofs.Common.{◌≡◌, ℕ, zero, suc, ◌+◌, ◌-◌, ◌*◌, ◌/◌, ◌%◌, min, ◌<◌, ◌≤◌, Bool, true, false, List, length, get_or, take, ℤ, pos, negsuc, ◌+ℤ◌, ◌-ℤ◌, Some, None, refl, sym, subst, ap, ap₂, ◌∙◌, arith, inl, inr}
 use Rattle.std.proofs.Math.Dec.{leb}
 use Rattle.std.proofs.lemmas.Bool.{cases_lt, and_right, lt-leb}
 use Rattle.std.proofs.lemmas.Int.{ints}
-use Rattle.std.proofs.lemmas.List.{get_or_past, get_or_default}
+use Rattle.std.proofs.lemmas.List.{get_or-take, get_or_past, get_or_default, length-take-le}
 use Rattle.block_lags.specs.Cells.{IsGrown as HasMore}
 use Rattle.block_lags.specs.Scans.{AreRows}
 use Rattle.bit_planes.specs.Planes.{PlanesFields, plane_value}
 use Rattle.byte_streams.specs.Streams.{value_in}
 use Rattle.byte_streams.specs.declared.streams.Streams.{Streams}
-use Rattle.packed_values.specs.Packed.{IsPacked, packed_value, packed_in, packed_at}
-use Rattle.packed_values.specs.declared.row.Packed.{Packed}
+use Rattle.packed_values.specs.From.{value_from}
+use Rattle.packed_values.specs.Packed.{values_of}
+use Rattle.packed_values.proofs.Small.{value_from-small}
 use Rattle.corr_model.specs.declared.cell.Cell.{Cell}
 use Rattle.corr_model.specs.Cell.{Value, no_cell, cell_plus, is_inside, product_of, product_at, sum_from, cell_in, AreSmall, IsProduct}
 use Rattle.corr_model.specs.Lags.{lag_of}
@@ -21,27 +22,6 @@ use Rattle.lag_kernel.specs.Planes.{plane_pair, plane_samples}
 use Rattle.lag_kernel.specs.Rows.{row_value, row_inside, row_samples}
 use Rattle.lag_kernel.specs.declared.row.Row.{Row}
 use Rattle.lag_kernel.proofs.HeldLemmas.{inside-true, IsGrown-plus}
-
--- the value of small bytes
-small-by : (b : Bool) (bias re im : ℕ) → bias ≤ 15 → re ≤ 2 * bias → im ≤ 2 * bias
-    → IfSome (if b then None else Some (pos re -ℤ pos bias, pos im -ℤ pos bias)) AreSmall
-small-by true bias re im low x y = tt
-small-by false bias re im low x y = ((omega (arith, ints), omega (arith, ints)), (omega (arith, ints), omega (arith, ints)))
-
-packed-small : (byte : ℕ) → IsPacked byte → IfSome (packed_value byte) AreSmall
-packed-small byte is = small-by (byte / 64 == 0) 3 (byte % 8) (byte / 8 % 8) (omega arith) is.re is.im
-
--- no value past the last one
-packed_in-past : (bytes : List ℕ) (k : ℕ) → length bytes ≤ k → packed_in bytes k ≡ None
-packed_in-past bytes k past = ap packed_value (get_or_past bytes k 0 past)
-
-packed_at-small : (row : Packed) (n : ℤ) → IfSome (packed_at row.bytes.now n) AreSmall
-packed_at-small row (pos k) =
-    elim (cases_lt k (length row.bytes.now)) [
-      | inl lt ↦ packed-small (get_or row.bytes.now k 0) (row.packed k lt)
-      | inr past ↦ subst (λ (v : Value). IfSome v AreSmall) (sym (packed_in-past row.bytes.now k (omega arith))) tt
-    ]
-packed_at-small row (negsuc k) = tt
 
 none-small : IsProduct no_cell
 none-small = record {
@@ -84,7 +64,7 @@ row_cell-grown a b samples lag from to =
     subst (λ (c : Cell). IsGrown c (to - from)) (sym (cell_in-sum (row_samples a b) plane_pair samples lag from to))
     (sum_from-grown (product_at (row_samples a b) plane_pair samples lag) from (to - from) (λ n.
     pair-small (row_value a (pos n)) (row_value b (pos n +ℤ lag)) (is_inside (pos n +ℤ lag) samples)
-    (packed_at-small a.packed (pos n -ℤ pos a.from)) (packed_at-small b.packed ((pos n +ℤ lag) -ℤ pos b.from))))
+    (value_from-small a.packed (pos n -ℤ pos a.from)) (value_from-small b.packed ((pos n +ℤ lag) -ℤ pos b.from))))
 
 -- cells to which others are added
 adds-each : (more : ℕ → Cell) (old new : List Cell) → length new ≡ length old
@@ -143,40 +123,41 @@ inside-false : (k n : ℕ) → n ≤ k → is_inside (pos k) n ≡ false
 inside-false k n h = and_right (leb 0 k) (leb (suc k) n) (lt-leb (suc k) n (omega (arith, h)))
 
 -- the values of a row as far as the scan goes
-pub inside-value : (r : Row) (samples held : ℕ) (p : List ℕ) (n m : ℤ) → m ≡ n -ℤ pos r.from
-    → held ≡ min (length r.packed.bytes.now) (samples - r.from)
-    → length p ≡ held
-    → ((k : ℕ) → k < held → packed_in p k ≡ packed_in r.packed.bytes.now (0 + k))
-    → packed_at p m ≡ (if is_inside n samples then packed_at r.packed.bytes.now m else None)
-inside-value r samples held p n (negsuc j) is least long same = none-by None (is_inside n samples) refl
-inside-value r samples held p n (pos k) is least long same =
+pub inside-value : (r : Row) (samples held : ℕ) (p : List Value) (n m : ℤ) → m ≡ n -ℤ pos r.from
+    → held ≡ min (length (values_of r.packed)) (samples - r.from)
+    → p ≡ take held (values_of r.packed)
+    → value_from p m ≡ (if is_inside n samples then value_from (values_of r.packed) m else None)
+inside-value r samples held p n (negsuc j) is least same = none-by None (is_inside n samples) refl
+inside-value r samples held p n (pos k) is least same =
+    let values = values_of r.packed in
     let number : n ≡ pos (r.from + k) = omega (arith, ints, is) in
+    let taken : get_or p k None ≡ get_or (take held values) k None = ap (λ (l : List Value). get_or l k None) same in
     elim (cases_lt k held) [
       | inl lt ↦
-          let place : 0 + k ≡ k = omega arith in
           let here : is_inside n samples ≡ true =
           ap (λ (x : ℤ). is_inside x samples) number ∙ inside-true (r.from + k) samples (omega (arith, lt, least)) in
-          same k lt ∙ ap (packed_in r.packed.bytes.now) place ∙ sym (ap (λ (b : Bool). if b then packed_in r.packed.bytes.now k else None) here)
+          taken ∙ get_or-take held values k None lt ∙ sym (ap (λ (b : Bool). if b then get_or values k None else None) here)
       | inr past ↦
-          packed_in-past p k (omega (arith, past, long))
-          ∙ elim (cases_lt k (length r.packed.bytes.now)) [
+          taken
+          ∙ get_or_past (take held values) k None (omega (arith, past, least, length-take-le held values (omega (arith, least))))
+          ∙ elim (cases_lt k (length values)) [
             | inl lt ↦
                 let gone : is_inside n samples ≡ false =
                 ap (λ (x : ℤ). is_inside x samples) number ∙ inside-false (r.from + k) samples (omega (arith, past, least, lt)) in
-                sym (ap (λ (b : Bool). if b then packed_in r.packed.bytes.now k else None) gone)
-            | inr end ↦ none-by (packed_in r.packed.bytes.now k) (is_inside n samples) (packed_in-past r.packed.bytes.now k end)
+                sym (ap (λ (b : Bool). if b then get_or values k None else None) gone)
+            | inr end ↦ none-by (get_or values k None) (is_inside n samples) (get_or_past values k None end)
           ]
     ]
 
 -- what is cut out of a row's values inside the scan
-pub cut-values : (r : Row) (samples count : ℕ) (s : List ℕ) (p : Streams) (place n : ℤ)
-    → ((m : ℤ) → packed_at s (m -ℤ pos r.from) ≡ row_inside r samples m)
-    → ((k : ℕ) → k < count → value_in p k ≡ packed_at s (place +ℤ pos k))
+pub cut-values : (r : Row) (samples count : ℕ) (values : List Value) (p : Streams) (place n : ℤ)
+    → ((m : ℤ) → value_from values (m -ℤ pos r.from) ≡ row_inside r samples m)
+    → ((k : ℕ) → k < count → value_in p k ≡ value_from values (place +ℤ pos k))
     → place ≡ n -ℤ pos r.from
     → (k : ℕ) → k < count → value_in p k ≡ row_inside r samples (n +ℤ pos k)
-cut-values r samples count s p place n inside cut is k lt =
+cut-values r samples count values p place n inside cut is k lt =
     let here : place +ℤ pos k ≡ (n +ℤ pos k) -ℤ pos r.from = omega (arith, ints, is) in
-    cut k lt ∙ ap (packed_at s) here ∙ inside (n +ℤ pos k)
+    cut k lt ∙ ap (value_from values) here ∙ inside (n +ℤ pos k)
 
 -- rows of the values of planes give the cells of the planes
 pub rows-planes : (r s : Row) (a b : PlanesFields) → ((n : ℤ) → row_value r n ≡ plane_value a n) → ((n : ℤ) → row_value s n ≡ plane_value b n)

@@ -1,8 +1,9 @@
-//! All lags of a range, from rows of values in bytes.
+//! All lags of a range, from rows of values.
 ghost use Rattle.std.specs.Prelude.{◌≡◌, ℕ, ℤ, ◌+◌, ◌-◌, ◌<◌, ◌≤◌, ◌^◌, ◌+ℤ◌, ◌-ℤ◌, pos, unsigned_abs, length, map, slice_index_or};
 ghost use Rattle.std.specs.List.{range_with_len};
 ghost use Rattle.byte_streams.specs.Streams.{value_in};
-ghost use Rattle.packed_values.specs.Packed.{packed_at};
+ghost use Rattle.packed_values.specs.From.{value_from};
+ghost use Rattle.packed_values.specs.Packed.{values_of};
 ghost use Rattle.corr_model.specs.declared.cell.Cell.{Cell};
 ghost use Rattle.corr_model.specs.Cell.{cell_in};
 ghost use Rattle.corr_model.specs.Lags.{lag_of};
@@ -26,9 +27,6 @@ const LAGS: usize = 1024;
 
 /// The samples of a block with those of all its lags.
 const WIDE: usize = 5120;
-
-// What makes the components of a row positive.
-const BIAS: u8 = 3;
 
 // Room for values that are cut out of a row.
 #[derive(Drop)]
@@ -72,20 +70,20 @@ impl Room {
 fn cut_out<'r>(row: &Packed<'_>, start: i64, count: usize, room: &'r mut Cut) -> Streams<'r>
     requires few { count ≤ WIDE }
     requires place { unsigned_abs start ≤ 2 ^ 41 }
-    requires size { length row.now.bytes.now ≤ 2 ^ 40 }
+    requires size { length (values_of row.now) ≤ 2 ^ 40 }
     ensures len { length result.there.now ≡ count }
-    ensures values { (k : ℕ) → k < count → value_in result k ≡ packed_at row.now.bytes.now (start +ℤ pos k) }
+    ensures values { (k : ℕ) → k < count → value_in result k ≡ value_from (values_of row.now) (start +ℤ pos k) }
 {
     let re = &mut room.re;
     let im = &mut room.im;
     let there = &mut room.there;
     let (re, im, there) = (&mut re[..count], &mut im[..count], &mut there[..count]);
-    row.unpack_from(start, re, im, there);
+    let bias = row.unpack_from(start, re, im, there);
     Streams {
         re,
         im,
         there,
-        bias: BIAS,
+        bias,
     }
 }
 

@@ -1,6 +1,7 @@
 //! The cells of all lags, from values and from planes, are the direct sums.
-ghost use Rattle.std.specs.Prelude.{◌≡◌, ◌+◌, ◌*◌, ◌%◌, ◌==◌, ◌<◌, ◌≤◌, None, slice_index, slice_index_or, unsigned_abs, length, if◌then◌else◌, IfSome};
-ghost use Rattle.corr_model.specs.Cell.{AreSmall, is_inside};
+ghost use Rattle.std.specs.Prelude.{◌≡◌, ℕ, ◌+◌, ◌-◌, ◌*◌, ◌/◌, ◌%◌, ◌==◌, ◌<◌, ◌≤◌, None, slice_index, slice_index_or, unsigned_abs, length, if◌then◌else◌, IfSome};
+ghost use Rattle.corr_model.specs.Cell.{AreSmall, IsSmall, is_inside};
+ghost use Rattle.byte_streams.specs.Values.{byte_value, component};
 ghost use Rattle.value_codes.specs.Codes.{value_of};
 ghost use Rattle.lag_kernel.specs.declared.tests.TheConstants.{KINDS};
 
@@ -164,6 +165,11 @@ fn code_of(level: u8, direction: Option<u8>, turn: usize) -> u8 {
     }
 }
 
+// The code of a level by its half byte, turned by a direction.
+fn level_code(half: u8, direction: u8) -> u8 {
+    8 + 16 * (half % 16) + direction % 8
+}
+
 impl Coded {
     // So many samples, `scale` of them at each place. From one sample to the next the first station's direction turns by `turn`,
     // and the second one's by three times as much.
@@ -186,6 +192,28 @@ impl Coded {
             let (first, second) = (first_direction(n / scale), second_direction(n / scale));
             a.push(code_of((seed >> 40 & 3) as u8, first, turned))?;
             b.push(code_of((seed >> 62) as u8, second, 3 * turned))?;
+        }
+        Ok(Coded { a, b })
+    }
+
+    // So many samples. The levels' half bytes have the bits of `first` and of `second` alone, and directions change from sample to
+    // sample in every second stretch of 500.
+    fn levels(
+        alloc: Global,
+        mut seed: u64,
+        samples: usize,
+        first: u8,
+        second: u8,
+    ) -> Result<Coded, AllocError> {
+        let mut a = Vec::new(alloc);
+        let mut b = Vec::new(alloc);
+        for n in 0..samples {
+            seed = seed
+                .wrapping_mul(6_364_136_223_846_793_005)
+                .wrapping_add(1_442_695_040_888_963_407);
+            let turn = if n / 500 % 2 == 0 { 0 } else { seed >> 20 };
+            a.push(level_code((seed >> 40 & 15) as u8 & first, (turn & 7) as u8))?;
+            b.push(level_code((seed >> 60) as u8 & second, (turn >> 8 & 7) as u8))?;
         }
         Ok(Coded { a, b })
     }
@@ -268,4 +296,66 @@ fn turning_values_are_plain_lags(rt: HostRuntime) -> Result<(), Fail> {
         same_lags(&rt, &v, &a, &b, 7_000, 7_060, 7_400, 1024)?;
     }
     Ok(())
+}
+
+// Levels of two bits with those of four bits, a range of more than one block.
+#[test]
+fn levels_of_all_widths_are_plain_lags(rt: HostRuntime) -> Result<(), Fail> {
+    let alloc = rt.alloc();
+    for (first, second) in [(12, 15), (15, 12), (15, 15)] {
+        let v = Coded::levels(alloc, 5, 4_600, first, second)?;
+        let a = filled(alloc, &v.a, 0, 4_600)?;
+        let b = filled(alloc, &v.b, 0, 4_600)?;
+        same_lags(&rt, &v, &a, &b, 9, 4_570, 4_600, 64)?;
+    }
+    Ok(())
+}
+
+// The component of a number.
+fn component(number: u16) -> i8
+    requires { number ≤ 30 }
+    ensures small { IsSmall result }
+    ensures number { result ≡ component 15 number }
+{
+    number as i8 - 15
+}
+
+// The values of all components from -15 to 15 by the numbers 0 to 960, and none by 961.
+fn any_value(number: u16) -> Option<(i8, i8)>
+    requires { number < 962 }
+    ensures value { result ≡ byte_value 15 (number / 31) (number % 31) (961 - number) }
+    ensures small { IfSome result AreSmall }
+{
+    if number == 961 {
+        return None;
+    }
+    Some((component(number / 31), component(number % 31)))
+}
+
+// Two stations' values of 5,300 samples, each station's in another order.
+#[derive(Drop)]
+struct AnyValues;
+
+impl Values for AnyValues {
+    ghost samples = { λ v station chan n.
+        if is_inside n 5300
+        then (λ (k : ℕ). byte_value 15 (k / 31) (k % 31) (961 - k)) (unsigned_abs n * (5 + 2 * (station % 2)) % 962)
+        else None };
+
+    fn z(&self, station: u32, _chan: u32, n: i64) -> Option<(i8, i8)> {
+        if n < 0 || n >= 5300 {
+            return None;
+        }
+        any_value((n as u32 * (5 + 2 * (station % 2)) % 962) as u16)
+    }
+}
+
+// Values that need not be levels turned by directions, a range of more than one block.
+#[test]
+fn planes_of_any_components(rt: HostRuntime) -> Result<(), Fail> {
+    let alloc = rt.alloc();
+    let v = AnyValues;
+    let a = Planes::build(alloc, &v, 0, 0, 0, 5300)?;
+    let b = Planes::build(alloc, &v, 1, 0, 0, 5300)?;
+    same_lags(&rt, &v, &a, &b, 3, 5_270, 5_300, 64)
 }

@@ -2,3 +2,4 @@ pub mod Lanes
 pub mod Tables
 pub mod Cuts
 pub mod Fields
+pub mod Small

@@ -1,2 +1,4 @@
+pub mod Words
+pub mod Tables
+pub mod From
 pub mod Packed
-pub mod Codes

@@ -1,15 +1,17 @@
-//! The values of a row of samples in one byte each, components from -3 to 3. The bytes are looked up by value codes in a table, and
-//! unpacked into streams from any place on, also past the row's ends. It stands on `value_codes` for values as codes and on
-//! `byte_streams` for streams of biased bytes. No call takes memory.
+//! The values of a row of samples, by a value code each, or, where they need not be levels turned by directions, by a word each. A row
+//! becomes streams from any place on, also past its ends. It stands on `value_codes` for values as codes and on `byte_streams` for
+//! streams of biased bytes. No call takes memory.
 #![tactic(auto)]
 
 mod codes;
+mod places;
 mod row;
-mod value;
+mod word;
+mod words;
 
-pub use codes::pack_codes;
 pub use row::Packed;
-pub use value::{pack, unpack};
+pub use word::{pack, unpack};
+pub use words::Words;
 
 #[cfg(test)]
 mod tests;

@@ -1,10 +1,15 @@
 -- The samples of a channel in the data array of a slot.
-use Rattle.std.proofs.Common.{◌≡◌, ◌∙◌, ap, subst, ℕ, ◌+◌, ◌-◌, ◌*◌, ◌≤◌, ◌<◌, ℤ, List, length, take, drop, get_or, Some, arith}
+use Rattle.std.proofs.Common.{◌≡◌, ◌∙◌, ap, subst, sym, ℕ, ◌+◌, ◌-◌, ◌*◌, ◌≤◌, ◌<◌, ℤ, List, length, take, drop, get_or, Some, arith}
+use Rattle.std.proofs.lemmas.Bool.Decides.{nat_tests}
 use Rattle.std.proofs.lemmas.List.{length-drop, take_rest}
 use Rattle.std.proofs.lemmas.Nat.{div-add-mod', mul-le}
 use Rattle.vdif_frame.specs.Shape.{ShapeFields, IsShape, head_bytes, chans_of, samples_per_frame}
-use Rattle.sample_unpack.specs.Level.{level_at, bit_of}
+use Rattle.sample_unpack.specs.Level.{IsWidth, level_at, bit_of}
 use Rattle.value_codes.specs.Taken.{IsTaken}
+
+-- the bits of a sample
+pub IsWidth-of : (s : ShapeFields) (bits : ℕ) → IsShape s → bits ≡ s.bits → IsWidth bits
+IsWidth-of s bits shape is = subst IsWidth (sym is) (grind (arith, nat_tests, shape.bits))
 
 -- a sample's bits end where the next one's begin, and those of the last one at the end
 bits_within : (n spf chans chan bits : ℕ) → n < spf → chan < chans → bit_of bits chans chan n + bits ≤ spf * (bits * chans)

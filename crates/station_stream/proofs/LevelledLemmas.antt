@@ -1,13 +1,13 @@
--- Each component of a value of a stream has the magnitude 0, 1 or 3.
+-- Each component of a value of a stream is at most 15 in magnitude.
 use Rattle.std.specs.Prelude.{int_le, int_lt, ◌&&◌, if◌then◌else◌, IfSome}
-use Rattle.std.proofs.Common.{◌≡◌, ◌≢◌, ℕ, zero, suc, ◌+◌, ◌*◌, ◌/◌, ◌%◌, ◌≤◌, ◌<◌, ◌⊎◌, ⊎_elim, inl, inr, refl, ap, ◌∙◌, Bool, true, false, eqb, ℤ, pos, ◌-ℤ◌, ◌*ℤ◌, unsigned_abs, List, [], ◌∷◌, get_or, map, Some, None, subst, sym, arith}
+use Rattle.std.proofs.Common.{◌≡◌, ℕ, zero, suc, ◌+◌, ◌*◌, ◌/◌, ◌%◌, ◌≤◌, ◌<◌, refl, Bool, true, false, eqb, ltb, ℤ, pos, ◌-ℤ◌, ◌*ℤ◌, unsigned_abs, List, [], ◌∷◌, get_or, map, Some, None, subst, sym, arith}
 use Rattle.std.proofs.lemmas.Int.{unsigned_abs-mul}
-use Rattle.std.proofs.lemmas.Bool.{cases_eq}
+use Rattle.std.proofs.lemmas.Bool.{agree_below_at, ltb-true}
+use Rattle.std.proofs.lemmas.Nat.{mul-le}
 use Rattle.fringe_rotator.specs.Table.{cosines, cos3, sin3}
-use Rattle.sample_unpack.specs.Level.{level_of}
 use Rattle.corr_model.specs.Cell.{Value}
 use Rattle.corr_model.specs.Rotated.{turned}
-use Rattle.value_codes.specs.Codes.{value_of, turned_by}
+use Rattle.value_codes.specs.Codes.{value_of, turned_by, half_level}
 use Rattle.station_stream.specs.Stream.{StreamFields, windowed, IsLevelPart, AreLevelled}
 
 -- each number of the list is -1, 0 or 1
@@ -31,41 +31,26 @@ cosines-units =
 cos3-unit : (k : ℕ) → unsigned_abs (cos3 k) ≤ 1
 cos3-unit k = get_or-unit cosines k cosines-units
 
--- a level of two bits is 1 or 3 in magnitude
-level_of-odd : (code : ℕ) → code < 4 → (unsigned_abs (level_of 2 code) ≡ 1) ⊎ (unsigned_abs (level_of 2 code) ≡ 3)
-level_of-odd zero h = inr refl
-level_of-odd (suc zero) h = inl refl
-level_of-odd (suc (suc zero)) h = inl refl
-level_of-odd (suc (suc (suc zero))) h = inr refl
-level_of-odd (suc (suc (suc (suc n)))) h = absurd (omega arith)
+-- the levels are at most 15 in magnitude
+half_level-part : (half : ℕ) → half < 16 → unsigned_abs (half_level half) < 16
+half_level-part half h = ltb-true _ 16 (agree_below_at (λ n. ltb (unsigned_abs (half_level n)) 16) (λ _. true) 16 half refl h)
 
--- 0 or 1 times a magnitude
-size-times : (x y : ℤ) (n : ℕ) → unsigned_abs x ≡ n → unsigned_abs (x *ℤ y) ≡ n * unsigned_abs y
-size-times x y n is = unsigned_abs-mul x y ∙ ap (λ (m : ℕ). m * unsigned_abs y) is
+-- and so they are times -1, 0 or 1
+IsLevelPart-times : (x y : ℤ) → unsigned_abs x < 16 → unsigned_abs y ≤ 1 → IsLevelPart (x *ℤ y)
+IsLevelPart-times x y small unit =
+    omega (arith, small, unsigned_abs-mul x y, mul-le (unsigned_abs x) (unsigned_abs y) (unsigned_abs x) 1 (omega arith) unit)
 
--- an odd level times -1, 0 or 1
-IsLevelPart-times : (x y : ℤ) → (unsigned_abs x ≡ 1) ⊎ (unsigned_abs x ≡ 3) → unsigned_abs y ≤ 1 → IsLevelPart (x *ℤ y)
-IsLevelPart-times x y odd unit =
-    ⊎_elim
-    (λ (none : unsigned_abs y ≡ 0). inl (unsigned_abs-mul x y ∙ ap (λ (m : ℕ). unsigned_abs x * m) none ∙ omega arith))
-    (λ (some : unsigned_abs y ≢ 0).
-    ⊎_elim
-    (λ (one : unsigned_abs x ≡ 1). inr (inl (omega (arith, size-times x y 1 one, unit, some))))
-    (λ (three : unsigned_abs x ≡ 3). inr (inr (omega (arith, size-times x y 3 three, unit, some))))
-    odd)
-    (cases_eq (unsigned_abs y) 0)
-
-AreLevelled-turned : (code sector : ℕ) → code < 4 → AreLevelled (turned (level_of 2 code) sector)
-AreLevelled-turned code sector h =
-    let odd = level_of-odd code h in
-    (IsLevelPart-times (level_of 2 code) (cos3 sector) odd (cos3-unit sector), IsLevelPart-times (level_of 2 code) (sin3 sector) odd (cos3-unit ((sector + 12) % 16)))
+AreLevelled-turned : (half sector : ℕ) → half < 16 → AreLevelled (turned (half_level half) sector)
+AreLevelled-turned half sector h =
+    let small = half_level-part half h in
+    (IsLevelPart-times (half_level half) (cos3 sector) small (cos3-unit sector), IsLevelPart-times (half_level half) (sin3 sector) small (cos3-unit ((sector + 12) % 16)))
 
 AreLevelled-value_of : (code : ℕ) → IfSome (value_of code) AreLevelled
-AreLevelled-value_of code = by (eqb code 0)
+AreLevelled-value_of code = by (eqb (code / 8 % 2) 0)
   where
-    by : (none : Bool) → IfSome (if none then None else Some (turned_by (level_of 2 (code / 64 % 4)) (code % 8))) AreLevelled
+    by : (none : Bool) → IfSome (if none then None else Some (turned_by (half_level (code / 16 % 16)) (code % 8))) AreLevelled
     by true = tt
-    by false = AreLevelled-turned (code / 64 % 4) (2 * (code % 8)) (omega arith)
+    by false = AreLevelled-turned (code / 16 % 16) (2 * (code % 8)) (omega arith)
 
 -- the values of a list of bytes, and of none past its end
 AreLevelled-codes : (codes : List ℕ) (k : ℕ) → IfSome (get_or (map value_of codes) k None) AreLevelled

@@ -1,19 +1,18 @@
 -- Levels as bytes: the byte of a level, and those of the frames of a thread.
-use Rattle.std.proofs.Common.{◌≡◌, ◌∙◌, refl, sym, ap, ap₂, subst, ℕ, ◌+◌, ◌-◌, ◌*◌, ◌/◌, ◌%◌, ◌<◌, ◌≤◌, ◌≢◌, ◌==◌, ⊎_elim, option_map, true, false, ℤ, pos, ◌*ℤ◌, unsigned_abs, List, length, get_or, Option, Some, None, arith}
+use Rattle.std.proofs.Common.{◌≡◌, ◌∙◌, refl, sym, ap, ap₂, subst, ℕ, ◌+◌, ◌-◌, ◌*◌, ◌/◌, ◌%◌, ◌<◌, ◌≤◌, ⊎_elim, option_map, true, ℤ, pos, ◌*ℤ◌, unsigned_abs, List, length, get_or, Option, Some, None, arith}
 use Rattle.std.specs.Int.{int_rem_euclid}
 use Rattle.std.specs.Ordering.{int_eq}
 use Rattle.std.proofs.lemmas.Bool.{agree_below, agree_below_at, cases_lt}
-use Rattle.std.proofs.lemmas.Bool.Decides.{Decides-int_eq, nat_tests}
+use Rattle.std.proofs.lemmas.Bool.Decides.{Decides-int_eq}
 use Rattle.std.proofs.lemmas.Nat.{div-add-mod', div-mul-add, mod-mul-add}
 use borrow.Rule.Slice.PartMut.{put_mid}
 use Rattle.vdif_frame.specs.Shape.{ShapeFields, samples_per_frame}
 use Rattle.fringe_rotator.specs.Sector.{sixteenths_of}
 use Rattle.fringe_rotator.specs.Table.{cos3, sin3}
-use Rattle.sample_unpack.specs.Level.{level_of}
 use Rattle.corr_model.specs.Rotated.{Band, turned, band_sector}
 use Rattle.delay_line.proofs.Floors.{rest_below}
 use Rattle.fringe_turns.specs.Direction.{direction_of}
-use Rattle.value_codes.specs.Codes.{value_of, turned_by}
+use Rattle.value_codes.specs.Codes.{value_of, turned_by, half_level}
 use Rattle.station_stream.specs.declared.thread_frames.ThreadFrames.{ThreadFrames}
 use Rattle.station_stream.specs.ThreadFrames.{level_in_frame}
 use Rattle.value_codes.specs.Taken.{IsTaken}
@@ -47,34 +46,38 @@ pub turned_by-direction : (level : Option ℤ) (band : Band) (rate : ℕ) (delay
 turned_by-direction level band rate delay =
     turned_by-sector level (band_sector band rate delay) (place-below (sixteenths_of band.hertz band.upper delay rate))
 
--- a byte that is 8 more than these two has both in it
-pub value_of-code : (code direction : ℕ) → code < 4 → direction < 8
-    → value_of (8 + 64 * code + direction) ≡ Some (turned_by (level_of 2 code) direction)
-value_of-code code direction four eight =
-    let some : ((8 + 64 * code + direction) == 0) ≡ false = grind (arith, nat_tests) in
-    let high : (8 + 64 * code + direction) / 64 % 4 ≡ code = omega arith in
-    let low : (8 + 64 * code + direction) % 8 ≡ direction = omega arith in
+-- a byte has no value where bit 3 is 0, and a half byte's level and a direction where they are added to 8
+value_of-none : (code : ℕ) → code < 8 → value_of code ≡ None
+value_of-none code eight =
+    let none : code / 8 % 2 ≡ 0 = omega (arith, eight) in
+    simp none refl
+
+value_of-half : (half direction : ℕ) → half < 16 → direction < 8
+    → value_of (8 + 16 * half + direction) ≡ Some (turned_by (half_level half) direction)
+value_of-half half direction sixteen eight =
+    let some : (8 + 16 * half + direction) / 8 % 2 ≡ 1 = omega (arith, eight) in
+    let high : (8 + 16 * half + direction) / 16 % 16 ≡ half = omega (arith, sixteen, eight) in
+    let low : (8 + 16 * half + direction) % 8 ≡ direction = omega (arith, eight) in
     simp (some, high, low) refl
 
 -- the byte of a level to which a direction is added
-pub value_of-turned : (code direction : ℕ) (level : Option ℤ) → code ≢ 0 → direction < 8 → IsTaken code level
+pub value_of-turned : (code direction : ℕ) (level : Option ℤ) → direction < 8 → IsTaken code level
     → value_of ((code + direction) % 256) ≡ option_map (λ x. turned_by x direction) level
-value_of-turned code direction None some eight taken = absurd (some taken)
-value_of-turned code direction (Some level) some eight taken =
-    let four : taken.0 < 4 = taken.1.0 in
-    let is : code ≡ 8 + 64 * taken.0 = taken.1.1.0 in
-    let sum : (code + direction) % 256 ≡ 8 + 64 * taken.0 + direction = omega (arith, four, is, eight) in
-    ap value_of sum ∙ value_of-code taken.0 direction four eight ∙ ap (λ (x : ℤ). Some (turned_by x direction)) (sym taken.1.1.1)
+value_of-turned code direction None eight taken = value_of-none _ (omega (arith, taken, eight))
+value_of-turned code direction (Some level) eight taken =
+    let sixteen : taken.0 < 16 = taken.1.0 in
+    let is : code ≡ 8 + 16 * taken.0 = taken.1.1.0 in
+    let sum : (code + direction) % 256 ≡ 8 + 16 * taken.0 + direction = omega (arith, sixteen, is, eight) in
+    ap value_of sum ∙ value_of-half taken.0 direction sixteen eight ∙ ap (λ (x : ℤ). Some (turned_by x direction)) (sym taken.1.1.1)
 
 -- the direction 0 is in it already
 pub value_of-taken : (code direction : ℕ) (level : Option ℤ) → direction ≡ 0 → IsTaken code level
     → value_of code ≡ option_map (λ x. turned_by x direction) level
 value_of-taken code direction None zero taken = ap value_of taken
 value_of-taken code direction (Some level) zero taken =
-    let four : taken.0 < 4 = taken.1.0 in
-    let is : code ≡ 8 + 64 * taken.0 = taken.1.1.0 in
-    let sum : code ≡ 8 + 64 * taken.0 + direction = omega (arith, is, zero) in
-    ap value_of sum ∙ value_of-code taken.0 direction four (omega (arith, zero)) ∙ ap (λ (x : ℤ). Some (turned_by x direction)) (sym taken.1.1.1)
+    let is : code ≡ 8 + 16 * taken.0 = taken.1.1.0 in
+    let sum : code ≡ 8 + 16 * taken.0 + direction = omega (arith, is, zero) in
+    ap value_of sum ∙ value_of-half taken.0 direction taken.1.0 (omega (arith, zero)) ∙ ap (λ (x : ℤ). Some (turned_by x direction)) (sym taken.1.1.1)
 
 -- ---- levels of the frames
 

@@ -10,9 +10,8 @@ use Rattle.station_stream.specs.declared.chan.StationChan.{StationChan}
 abbrev pub IsChanOf : ShapeFields → StationChan → Type 0
 IsChanOf shape c = (c.thread < 1024) × ((c.index < chans_of shape) × (c.hertz < 2 ^ 40))
 
--- A station in a scan: its samples have one or two bits, its frames fill each second, and its part lies in the scan.
+-- A station in a scan: its frames fill each second, and its part lies in the scan.
 pub record IsPart (shape : ShapeFields) (track : Track) (from to : ℕ) (chans : List (Option StationChan)) : Type 0 where
-  pub bits : shape.bits ≤ 2
   pub rate : track.rate ≡ shape.frames * samples_per_frame shape
   pub order : from ≤ to
   pub inside : to ≤ track.samples

@@ -1,5 +1,5 @@
 -- The values of a station's channels in a window of a scan.
-use Rattle.std.specs.Prelude.{◌≡◌, ◌≢◌, ℕ, ℤ, pos, ◌-ℤ◌, unsigned_abs, ◌⊎◌, int_le, int_lt, ◌&&◌, List, [], length, None, slice_index_or, Vec, if◌then◌else◌}
+use Rattle.std.specs.Prelude.{◌≡◌, ◌≢◌, ℕ, ℤ, pos, ◌-ℤ◌, unsigned_abs, ◌≤◌, int_le, int_lt, ◌&&◌, List, [], length, None, slice_index_or, Vec, if◌then◌else◌}
 use Rattle.std.specs.Global.{Global}
 use Rattle.std.specs.List.{All}
 use Rattle.corr_model.specs.Cell.{Value}
@@ -24,9 +24,9 @@ pub record IsOfWindow (from to : ℕ) (s : StreamFields) : Type 0 where
   pub begin : s.from ≡ pos from
   pub end : s.to ≡ pos to
 
--- a component of a level of one or two bits turned by a sector: its magnitude is 0, 1 or 3
+-- a component of a level of at most four bits turned by a sector: at most 15 in magnitude
 abbrev pub IsLevelPart : ℤ → Type 0
-IsLevelPart x = (unsigned_abs x ≡ 0) ⊎ ((unsigned_abs x ≡ 1) ⊎ (unsigned_abs x ≡ 3))
+IsLevelPart x = unsigned_abs x ≤ 15
 
 -- both components of such a value
 abbrev pub AreLevelled : ℤ × ℤ → Type 0

@@ -20,7 +20,6 @@ fn fill_from_frame(
     at: usize,
     codes: &mut [u8],
 )
-    requires bits { shape.now.bits ≤ 2 }
     requires index { index < chans_of shape.now }
     requires bytes { length frames.now.bytes.items ≡ length frames.now.there.items * shape.now.frame_bytes }
     requires inside { i < length frames.now.there.items }
@@ -39,7 +38,6 @@ fn fill_from_frame(
 
 // Sets `codes` to the levels of a channel from sample `past` of the frames on, counted through all of them.
 fn fill_run(frames: &ThreadFrames, shape: &Shape, index: u32, past: u64, codes: &mut [u8])
-    requires bits { shape.now.bits ≤ 2 }
     requires index { index < chans_of shape.now }
     requires bytes { length frames.now.bytes.items ≡ length frames.now.there.items * shape.now.frame_bytes }
     requires inside { past + length codes.old ≤ length frames.now.there.items * samples_per_frame shape.now }

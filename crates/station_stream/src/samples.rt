@@ -9,7 +9,6 @@ use vdif_frame::Shape;
 
 /// Sets `codes` to the levels of a channel, by its place in the complete samples, from sample `at` on, as a slot holds them.
 pub(crate) fn take_slot(shape: &Shape, slot: &[u8], index: u32, at: usize, codes: &mut [u8])
-    requires bits { shape.now.bits ≤ 2 }
     requires index { index < chans_of shape.now }
     requires slot { length slot.now ≡ shape.now.frame_bytes }
     requires room { at + length codes.old ≤ samples_per_frame shape.now }

@@ -8,17 +8,13 @@ ghost use Rattle.value_codes.specs.Taken.{IsTaken};
 use crate::{StationChan, StationPart};
 use fringe_turns::turns_of;
 
-// The byte of a level that is turned by a direction, from that of the level alone.
+// The byte of a level that is turned by a direction, from that of the level alone. Where there is no level, bit 3 stays 0.
 #[inline(always)]
 fn turned_code(code: u8, direction: u8) -> u8
     requires { direction < 8 }
     ensures { (level : Option ℤ) → IsTaken code level → value_of result ≡ option_map (λ l. turned_by l direction) level }
 {
-    if code == 0 {
-        0
-    } else {
-        code.wrapping_add(direction)
-    }
+    code.wrapping_add(direction)
 }
 
 // Turns levels by one direction. The direction 0 leaves them as they are.

@@ -1,7 +1,6 @@
-//! A value in a byte: none is 0, and a level of one or two bits turned by a direction, an eighth of a turn, is 8 and 64 times the
-//! level's code and the direction. Levels come out of a data array into bytes. It stands
-//! on `sample_unpack` for levels, on `fringe_rotator` for directions and on `corr_model` for values. No call takes memory.
-//! (VDIF 1.1.1, data array; Thompson, Moran and Swenson, chapter 9.)
+//! A value in a byte: a level of one, two or four bits turned by a direction, an eighth of a turn, or none. Levels come out of a data
+//! array into bytes. It stands on `sample_unpack` for levels, on `fringe_rotator` for directions and on `corr_model` for values. No
+//! call takes memory. (VDIF 1.1.1, data array; Thompson, Moran and Swenson, chapter 9.)
 #![tactic(auto)]
 
 mod take;

@@ -1,27 +1,39 @@
 //! The levels of a channel out of a data array.
-ghost use Rattle.std.specs.Prelude.{◌≡◌, ◌+◌, ◌*◌, ◌/◌, ◌%◌, ◌^◌, ◌<◌, ◌≤◌, ◌⊎◌, ℕ, Some, length, slice_index};
-ghost use Rattle.sample_unpack.specs.Level.{bit_of, code_at, level_at};
+ghost use Rattle.std.specs.Prelude.{◌≡◌, ◌+◌, ◌*◌, ◌/◌, ◌%◌, ◌^◌, ◌<◌, ◌≤◌, ℕ, Some, length, slice_index};
+ghost use Rattle.sample_unpack.specs.Level.{IsWidth, bit_of, code_at, level_at};
 ghost use Rattle.value_codes.specs.Taken.{IsTaken, taken_of};
+
+// The byte of a code of four bits.
+#[inline(always)]
+fn taken_of_four(code: u8) -> u8
+    requires { code < 16 }
+    ensures { result ≡ taken_of 4 code }
+{
+    let lower = if code < 8 { 3 - code / 2 } else { code / 2 - 4 };
+    8 + 128 * (code / 8) + 64 * (code % 2) + 16 * lower
+}
 
 // The byte of the code in the lowest bits of a byte.
 #[inline(always)]
 fn taken(bits: u8, byte: u8) -> u8
-    requires width { (bits ≡ 1) ⊎ (bits ≡ 2) }
+    requires width { IsWidth bits }
     ensures { result ≡ taken_of bits (byte % 2 ^ bits) }
 {
-    if bits == 2 {
+    if bits == 1 {
+        72 + 64 * (byte % 2)
+    } else if bits == 2 {
         8 + 64 * (byte % 4)
     } else {
-        72 + 64 * (byte % 2)
+        taken_of_four(byte % 16)
     }
 }
 
 // Sets each code to that of a level of a channel, the first of which begins at bit `shift` of byte `byte` and each other `step`
 // bits behind the one before.
 fn take_each(array: &[u8], byte: usize, shift: u32, bits: u8, step: u32, codes: &mut [u8])
-    requires width { (bits ≡ 1) ⊎ (bits ≡ 2) }
+    requires width { IsWidth bits }
     requires shift { shift < 8 }
-    requires step { step ≤ 128 }
+    requires step { step ≤ 256 }
     requires inside { (i : ℕ) → i < length codes.old → 8 * byte + shift + i * step + bits ≤ 8 * length array.now }
     ensures { (i : ℕ) → i < length codes.old → slice_index codes.new i ≡ taken_of bits (code_at array.now bits (8 * byte + shift + i * step)) }
 {
@@ -39,7 +51,7 @@ fn take_each(array: &[u8], byte: usize, shift: u32, bits: u8, step: u32, codes: 
 // before.
 #[inline(always)]
 fn take_byte(byte: u8, low: u32, bits: u8, step: u32, codes: &mut [u8])
-    requires width { (bits ≡ 1) ⊎ (bits ≡ 2) }
+    requires width { IsWidth bits }
     requires few { length codes.old ≤ 8 }
     requires inside { (k : ℕ) → k < length codes.old → low + k * step < 8 }
     ensures { (k : ℕ) → k < length codes.old → slice_index codes.new k ≡ taken_of bits (byte / 2 ^ (low + k * step) % 2 ^ bits) }
@@ -61,7 +73,7 @@ fn take_bytes(
     per: usize,
     codes: &mut [u8],
 )
-    requires width { (bits ≡ 1) ⊎ (bits ≡ 2) }
+    requires width { IsWidth bits }
     requires step { per * step ≡ 8 }
     requires low { low < step }
     requires whole { length codes.old ≡ per * count }
@@ -79,7 +91,7 @@ fn take_bytes(
     }
 }
 
-// The same with a loop for the first level of a byte, and one for the second of two bits.
+// The same with a loop for the first level of a byte, and one for the second of two bits and of four.
 #[inline(always)]
 fn take_bytes_by_low(
     array: &[u8],
@@ -91,7 +103,7 @@ fn take_bytes_by_low(
     per: usize,
     codes: &mut [u8],
 )
-    requires width { (bits ≡ 1) ⊎ (bits ≡ 2) }
+    requires width { IsWidth bits }
     requires step { per * step ≡ 8 }
     requires low { low < step }
     requires whole { length codes.old ≡ per * count }
@@ -102,6 +114,8 @@ fn take_bytes_by_low(
         take_bytes(array, byte, count, 0, bits, step, per, codes);
     } else if low == 2 {
         take_bytes(array, byte, count, 2, bits, step, per, codes);
+    } else if low == 4 {
+        take_bytes(array, byte, count, 4, bits, step, per, codes);
     } else {
         take_bytes(array, byte, count, low, bits, step, per, codes);
     }
@@ -119,7 +133,7 @@ fn take_bytes_by_step(
     per: usize,
     codes: &mut [u8],
 )
-    requires width { (bits ≡ 1) ⊎ (bits ≡ 2) }
+    requires width { IsWidth bits }
     requires step { per * step ≡ 8 }
     requires low { low < step }
     requires whole { length codes.old ≡ per * count }
@@ -148,17 +162,19 @@ fn take_bytes_by_width(
     per: usize,
     codes: &mut [u8],
 )
-    requires width { (bits ≡ 1) ⊎ (bits ≡ 2) }
+    requires width { IsWidth bits }
     requires step { per * step ≡ 8 }
     requires low { low < step }
     requires whole { length codes.old ≡ per * count }
     requires inside { byte + count ≤ length array.now }
     ensures { (i : ℕ) → i < length codes.old → slice_index codes.new i ≡ taken_of bits (code_at array.now bits (8 * byte + low + i * step)) }
 {
-    if bits == 2 {
+    if bits == 1 {
+        take_bytes_by_step(array, byte, count, low, 1, step, per, codes);
+    } else if bits == 2 {
         take_bytes_by_step(array, byte, count, low, 2, step, per, codes);
     } else {
-        take_bytes_by_step(array, byte, count, low, 1, step, per, codes);
+        take_bytes_by_step(array, byte, count, low, 4, step, per, codes);
     }
 }
 
@@ -172,7 +188,7 @@ fn take_whole(
     per: usize,
     codes: &mut [u8],
 )
-    requires width { (bits ≡ 1) ⊎ (bits ≡ 2) }
+    requires width { IsWidth bits }
     requires shift { shift < 8 }
     requires step { per * step ≡ 8 }
     requires some { 0 < length codes.old }
@@ -192,7 +208,7 @@ fn take_whole(
 /// Sets each code to that of a sample of channel `chan`, from sample `first` on, in a data array of `chans` channels with `bits`
 /// bits a sample, turned by the direction 0 (VDIF 1.1.1, data array).
 pub fn take_levels(array: &[u8], bits: u8, chans: u32, chan: u32, first: u64, codes: &mut [u8])
-    requires width { (bits ≡ 1) ⊎ (bits ≡ 2) }
+    requires width { IsWidth bits }
     requires channel { chan < chans }
     requires channels { chans ≤ 64 }
     requires inside { (i : ℕ) → i < length codes.old → bit_of bits chans chan (first + i) + bits ≤ 8 * length array.now }

@@ -4,10 +4,15 @@ use std::test::*;
 #[test]
 fn values_in_bytes(rt: HostRuntime) {
     assert_eq!(rt; value_of(0), None);
+    assert_eq!(rt; value_of(4), None);
+    assert_eq!(rt; value_of(240 + 7), None);
     assert_eq!(rt; value_of(8), Some((-3, 0)));
     assert_eq!(rt; value_of(72 + 4), Some((1, 0)));
     assert_eq!(rt; value_of(200 + 1), Some((3, 3)));
     assert_eq!(rt; value_of(200 + 2), Some((0, 3)));
+    assert_eq!(rt; value_of(56), Some((-15, 0)));
+    assert_eq!(rt; value_of(120 + 6), Some((0, 13)));
+    assert_eq!(rt; value_of(248 + 3), Some((-15, 15)));
 }
 
 // The byte E4 has the codes 0 to 3, the lowest bits first, and the byte 1B has them the other way round.
@@ -79,6 +84,51 @@ fn levels_of_one_bit_in_channels(rt: HostRuntime) {
     assert_eq!(rt; of_eight, [136, 72, 136, 72]);
 }
 
+// The codes 0 to 15, the lower half of a byte first.
+const SIXTEEN: [u8; 8] = [0x10, 0x32, 0x54, 0x76, 0x98, 0xBA, 0xDC, 0xFE];
+
+#[test]
+fn levels_of_four_bits(rt: HostRuntime) {
+    let mut codes = [0; 16];
+    take_levels(&SIXTEEN, 4, 1, 0, 0, &mut codes);
+    assert_eq!(rt;
+        codes,
+        [
+            56, 120, 40, 104, 24, 88, 8, 72, 136, 200, 152, 216, 168, 232, 184, 248
+        ]
+    );
+    let levels = [-15, -13, -11, -9, -7, -5, -3, -1, 1, 3, 5, 7, 9, 11, 13, 15];
+    for (place, level) in levels.iter().enumerate() {
+        assert_eq!(rt; value_of(codes[place]), Some((*level, 0)));
+    }
+    let mut from_the_fourth = [0; 6];
+    take_levels(
+        &[0xE4, 0x1B, 0x2D, 0xB1, 0x70],
+        4,
+        1,
+        0,
+        3,
+        &mut from_the_fourth,
+    );
+    assert_eq!(rt; from_the_fourth, [120, 232, 40, 120, 216, 56]);
+}
+
+#[test]
+fn levels_of_four_bits_in_channels(rt: HostRuntime) {
+    let mut first_of_two = [0; 8];
+    take_levels(&SIXTEEN, 4, 2, 0, 0, &mut first_of_two);
+    assert_eq!(rt; first_of_two, [56, 40, 24, 8, 136, 152, 168, 184]);
+    let mut second_of_two = [0; 7];
+    take_levels(&SIXTEEN, 4, 2, 1, 1, &mut second_of_two);
+    assert_eq!(rt; second_of_two, [104, 88, 72, 200, 216, 232, 248]);
+    let mut third_of_four = [0; 4];
+    take_levels(&SIXTEEN, 4, 4, 2, 0, &mut third_of_four);
+    assert_eq!(rt; third_of_four, [40, 8, 152, 184]);
+    let mut fourth_of_four = [0; 3];
+    take_levels(&SIXTEEN, 4, 4, 3, 1, &mut fourth_of_four);
+    assert_eq!(rt; fourth_of_four, [72, 216, 248]);
+}
+
 #[test]
 fn levels_of_the_last_of_64_channels(rt: HostRuntime) {
     let mut array = [0; 16];
@@ -86,4 +136,8 @@ fn levels_of_the_last_of_64_channels(rt: HostRuntime) {
     let mut codes = [0; 2];
     take_levels(&array, 1, 64, 63, 0, &mut codes);
     assert_eq!(rt; codes, [136, 72]);
+    let mut of_four_bits = [0; 64];
+    of_four_bits[31] = 0xB0;
+    take_levels(&of_four_bits, 4, 64, 63, 0, &mut codes);
+    assert_eq!(rt; codes, [216, 56]);
 }

@@ -1,12 +1,13 @@
 -- The values so far, in the room of all.
-use Rattle.std.proofs.Common.{◌≡◌, ◌<◌, ◌+◌, ℕ, length, pos}
-use Rattle.bit_planes.specs.Bytes.{AreBytes, HaveRoom, value_in}
+use Rattle.std.proofs.Common.{◌≡◌, ◌<◌, ◌≤◌, ◌+◌, ℕ, None, length, map, pos, slice_index_or}
+use Rattle.std.specs.Vec.{vec_capacity}
+use Rattle.packed_values.specs.Words.{AreWords, word_value}
 use Rattle.bit_planes.proofs.asked.ask.Given as goal
 
 abbrev pub invariant-loop-k : goal.invariant-loop-k
 invariant-loop-k g l = record {
-  are : AreBytes l.bytes;
-  room : HaveRoom l.size l.bytes;
-  long : length l.bytes.packed.items ≡ l.k;
-  values : (k : ℕ) → k < l.k → value_in l.bytes k ≡ g.V.Values.samples l.v l.station l.chan (pos (l.n + k));
+  are : AreWords l.words.items;
+  room : l.size ≤ vec_capacity l.words;
+  long : length l.words.items ≡ l.k;
+  values : (j : ℕ) → j < l.k → slice_index_or (map word_value l.words.items) j None ≡ g.V.Values.samples l.v l.station l.chan (pos (l.n + j));
 }

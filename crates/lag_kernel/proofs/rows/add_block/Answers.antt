@@ -1,6 +1,7 @@
 use Rattle.std.proofs.Common.{◌≡◌, ℕ, ℤ, ◌+◌, ◌-◌, ◌/◌, ◌<◌, pos, ◌+ℤ◌, ◌-ℤ◌, length, refl, arith}
 use Rattle.std.proofs.lemmas.Int.{ints}
 use Rattle.byte_streams.specs.Streams.{value_in}
+use Rattle.packed_values.specs.Packed.{values_of}
 use Rattle.lag_kernel.specs.Planes.{plane_pair}
 use Rattle.lag_kernel.specs.Rows.{row_inside, row_samples}
 use Rattle.corr_model.specs.Cell.{cell_in}
@@ -20,9 +21,9 @@ returns-clause-adds c =
     let first = c.cut_out-first.result in
     let second = c.cut_out-second.result in
     let mine : (k : ℕ) → k < n → value_in first k ≡ row_inside a c.args.samples (pos at +ℤ pos k) =
-    cut-values a c.args.samples n c.inside-mine.result.bytes.now first _ (pos at) c.inside-mine.ensures.values c.cut_out-first.ensures.values (omega (arith, ints)) in
+    cut-values a c.args.samples n (values_of c.inside-mine.result) first _ (pos at) c.inside-mine.ensures.values c.cut_out-first.ensures.values (omega (arith, ints)) in
     let theirs : (k : ℕ) → k < n + lags → value_in second k ≡ row_inside b c.args.samples (start +ℤ pos k) =
-    cut-values b c.args.samples (n + lags) c.inside-theirs.result.bytes.now second _ start c.inside-theirs.ensures.values c.cut_out-second.ensures.values (omega (arith, ints)) in
+    cut-values b c.args.samples (n + lags) (values_of c.inside-theirs.result) second _ start c.inside-theirs.ensures.values c.cut_out-second.ensures.values (omega (arith, ints)) in
     let whole : at + length first.there.now ≡ c.args.stop = omega (arith, c.cut_out-first.ensures.len, c.requires.order) in
     rows-add a b c.args.samples at c.args.stop (length first.there.now) least c.args.out.now c.add_lags.new.cells c.add_lags.ensures.len refl whole
     (c.add_lags.ensures.scan (row_samples a b) plane_pair c.args.samples at least

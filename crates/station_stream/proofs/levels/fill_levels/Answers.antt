@@ -19,7 +19,6 @@ fill_run-requires c =
     let room : a + n ≤ length c.loop-run.codes = omega (arith, lies.begun, lies.after, lies.end, c.loop-run.auto.codes) in
     let count : n ≡ run.to - run.from = omega (arith, lies.begun, lies.after, lies.end) in
     let size = length-part c.loop-run.codes a n room in record {
-      bits = c.args.part.now.sound.bits;
       index = c.requires.index;
       bytes = c.requires.reach.bytes;
       inside = omega (arith, lies.inside, count, size);

@@ -1,7 +1,11 @@
 use Rattle.std.proofs.Common.{ap, length}
 use Rattle.vdif_frame.specs.Shape.{ShapeFields}
-use Rattle.station_stream.proofs.LevelLemmas.{bit_of-slot, IsTaken-array}
+use Rattle.station_stream.proofs.LevelLemmas.{IsWidth-of, bit_of-slot, IsTaken-array}
 use Rattle.station_stream.proofs.samples.take_slot.Goals as goal
+
+pub take_levels-requires-clause-width : goal.take_levels-requires-clause-width
+take_levels-requires-clause-width c =
+    IsWidth-of c.args.shape.now c.shape.inside.bits c.head_bytes.ensures.invariant (ap (λ (s : ShapeFields). s.bits) c.shape.view_is)
 
 pub take_levels-requires-clause-inside : goal.take_levels-requires-clause-inside
 take_levels-requires-clause-inside c =

@@ -1,6 +1,7 @@
 use Rattle.std.proofs.Common.{rules, ◌≡◌, ◌≤◌, ◌+◌, FitsSigned, pos, ◌+ℤ◌, length, refl, sym, ap, ◌∙◌, arith}
 use Rattle.std.specs.Int.{w64}
 use Rattle.std.proofs.lemmas.Int.{ints}
+use Rattle.bit_planes.specs.Held.{values_in}
 use Rattle.bit_planes.specs.Planes.{PlanesFields, plane_value, size_of}
 use Rattle.bit_planes.proofs.Values.{plane_value-kept, plane_value-here}
 use Rattle.bit_planes.proofs.planes.Planes.fill.Goals as goal
@@ -14,7 +15,7 @@ samples_between-first-requires-clause-high c =
 pub invariant_of-self : goal.invariant_of-self
 invariant_of-self c =
     let i = c.self.inside in
-    let p : PlanesFields = record { from = i.from; to = i.to; packed = i.bytes.packed.items } in
+    let p : PlanesFields = record { from = i.from; to = i.to; values = values_in i.held } in
     let from : c.args.self.now.from ≡ p.from = ap (λ (q : PlanesFields). q.from) (sym c.self.view_is) in
     let to : c.args.self.now.to ≡ p.to = ap (λ (q : PlanesFields). q.to) (sym c.self.view_is) in
     let are = c.self.invariant.0 in
@@ -24,18 +25,17 @@ invariant_of-self c =
         start = are.start;
         order = are.order;
         end = are.end;
-        packed = c.fill.ensures.packed;
         held = omega (arith, inside, c.fill.ensures.long);
       },
-      c.fill.ensures.room (size_of p) c.self.invariant.1,
+      (c.fill.ensures.held, c.fill.ensures.room (size_of p) c.self.invariant.1.1),
     )
 
 pub returns-clause-before : goal.returns-clause-before
 returns-clause-before c n h =
     let i = c.self.inside in
-    let p : PlanesFields = record { from = i.from; to = i.to; packed = i.bytes.packed.items } in
+    let p : PlanesFields = record { from = i.from; to = i.to; values = values_in i.held } in
     let b = c.fill.new.self in
-    let new : PlanesFields = record { from = i.from; to = i.to; packed = b.packed.items } in
+    let new : PlanesFields = record { from = i.from; to = i.to; values = values_in b } in
     let fits : FitsSigned w64 i.from = search rules in
     let from : c.args.self.now.from ≡ p.from = ap (λ (q : PlanesFields). q.from) (sym c.self.view_is) in
     let first = c.samples_between-first.result in
@@ -47,7 +47,7 @@ pub returns-clause-here : goal.returns-clause-here
 returns-clause-here c n h =
     let i = c.self.inside in
     let b = c.fill.new.self in
-    let new : PlanesFields = record { from = i.from; to = i.to; packed = b.packed.items } in
+    let new : PlanesFields = record { from = i.from; to = i.to; values = values_in b } in
     let fits : FitsSigned w64 i.from = search rules in
     let from : c.args.self.now.from ≡ i.from = ap (λ (q : PlanesFields). q.from) (sym c.self.view_is) in
     let first = c.samples_between-first.result in

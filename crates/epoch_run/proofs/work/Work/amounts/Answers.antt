@@ -12,6 +12,6 @@ returns c =
     record {
       amounts = c.write_amounts.ensures ∙ ap (flat_map (amounts_in (bias_of (p.to - p.from)))) c.sum_piece.ensures.cells
           ∙ sym (amounts_of-piece w c.args.n p pair c.piece_at-piece.ensures.at c.pair_of-pair.ensures);
-      within = subst (All (λ a. a ≤ 36 * w.piece)) (sym c.write_amounts.ensures)
+      within = subst (All (λ a. a ≤ 900 * w.piece)) (sym c.write_amounts.ensures)
           (amounts-within w p c.sum_piece.new.cells c.piece_at-piece.ensures.part c.sum_piece.ensures.within);
     }

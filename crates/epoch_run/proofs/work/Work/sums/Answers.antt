@@ -29,8 +29,8 @@ returns-clause-cells c =
     let is : IsWork w = subst IsWork c.self.view_is c.self.invariant in
     let k = c.args.board.sizes in
     let finished = c.args.seat.state.finished in
-    let bias = 18 * (c.self.inside.epoch.now.to - c.self.inside.epoch.now.from) in
+    let bias = 450 * (c.self.inside.epoch.now.to - c.self.inside.epoch.now.from) in
     ap (λ (sums : EpochCells). sums.cells) c.unbias.ensures
     ∙ ap (λ (t : Totals). (unbiased bias t).cells) c.in_ok-totals.ensures.sums
-    ∙ ap (λ (v : WorkFields). (unbiased (18 * (v.epoch.to - v.epoch.from)) (totals_of k finished)).cells) c.self.view_is
+    ∙ ap (λ (v : WorkFields). (unbiased (450 * (v.epoch.to - v.epoch.from)) (totals_of k finished)).cells) c.self.view_is
     ∙ cells-epoch w k finished is c.requires.board c.in_ok-totals.ensures.each_once c.requires.amounts

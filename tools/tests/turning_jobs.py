@@ -52,8 +52,16 @@ ROWS: list[tuple[int, int, tuple[float, ...]]] = [
     (10, 900, (1, 16)),
     (64, 700, (32, 0)),
     (130, 600, (2, 256)),
+    (2, 900, (3, 0, 1)),
+    (6, 4300, (1, 64)),
+    (10, 700, (0, 16, 2)),
+    (64, 4200, (100, 0)),
+    (64, 700, (0, 0, 7)),
+    (130, 700, (33, 0)),
+    (512, 500, (12, 1000)),
 ]
 ROUND = 24  # from this row on all numbers are powers of two, so that delays come to whole sectors and to halves of a sample exactly
+WIDE = 28  # from this row on the first station has samples of four bits, and the others of one, two or four
 
 
 def time(second: int) -> str:
@@ -93,19 +101,22 @@ class Row:
     is_round: bool
 
 
-def shape(draw: random.Random, samples: int, channels: list[str]) -> Shape:
+def shape(draw: random.Random, samples: int, channels: list[str], widths: tuple[int, ...]) -> Shape:
     """A shape of some twenty to sixty frames in a scan."""
-    bits, chans = draw.choice((1, 2)), draw.choice((1, 1, 2, 4))
+    bits, chans = draw.choice(widths), draw.choice((1, 1, 2, 4))
     threads = draw.choice((1, 2)) if chans > 1 else len(channels)
     places = {channel: (number % threads, draw.randrange(chans) if threads > 1 else number) for number, channel in enumerate(channels)}
     words = max(1, samples * bits * chans // 64 // draw.randint(20, 60))
     return Shape(bits, chans, words, places, {thread: draw.randint(1, 9999) for thread in range(threads)})
 
 
-def shapes(draw: random.Random, samples: int, channels: list[str], stations: int) -> list[Shape]:
-    """Those of some stations: all alike, with the same samples, or each another one."""
-    first = shape(draw, samples, channels)
-    return [first if number == 0 or draw.random() < 0.4 else shape(draw, samples, channels) for number in range(stations)]
+def shapes(draw: random.Random, samples: int, channels: list[str], stations: int, is_wide: bool) -> list[Shape]:
+    """Those of some stations: all alike, with the same samples, or each another one; three wide ones of each width."""
+    if is_wide and stations == 3:
+        return [shape(draw, samples, channels, (bits,)) for bits in (4, 1, 2)]
+    first = shape(draw, samples, channels, (4,) if is_wide else (1, 2))
+    widths = (1, 2, 4) if is_wide else (1, 2)
+    return [first if number == 0 or draw.random() < 0.4 else shape(draw, samples, channels, widths) for number in range(stations)]
 
 
 def row(number: int) -> Row:
@@ -113,8 +124,8 @@ def row(number: int) -> Row:
     lags, samples, turns = ROWS[number]
     draw = random.Random(f"turning {number}")
     channels = ["X", "Y"][: draw.choice((1, 2)) if samples * lags * len(turns) < 120_000 else 1]
-    recorded = shapes(draw, samples, channels, len(turns))
-    is_round, is_sky = number >= ROUND, number < ROUND and number % 5 in (1, 3)
+    recorded = shapes(draw, samples, channels, len(turns), number >= WIDE)
+    is_round, is_sky = ROUND <= number < WIDE, not ROUND <= number < WIDE and number % 5 in (1, 3)
     if is_round:
         recorded = [dataclasses.replace(one, words=2 ** (one.words.bit_length() - 1)) for one in recorded]
     least = math.lcm(*(one.frame_samples for one in recorded))

@@ -38,7 +38,8 @@ fn level_of(bits: u8, code: u8) -> Result<i8> {
     match bits {
         1 if code < 2 => Ok(level(1, code)),
         2 if code < 4 => Ok(level(2, code)),
-        _ => bail!("no code of one or two bits"),
+        4 if code < 16 => Ok(level(4, code)),
+        _ => bail!("no code of one, two or four bits"),
     }
 }
 
@@ -58,6 +59,7 @@ fn sample_of(place: &[i64], bytes: &[u8]) -> Result<i8> {
     match *bits {
         1 if at < 8 * bytes.len() as u64 => Ok(sample_at(bytes, 1, chans, chan, i)),
         2 if at < 4 * bytes.len() as u64 => Ok(sample_at(bytes, 2, chans, chan, i)),
+        4 if at < 2 * bytes.len() as u64 => Ok(sample_at(bytes, 4, chans, chan, i)),
         _ => bail!("no such sample"),
     }
 }

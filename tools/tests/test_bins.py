@@ -210,7 +210,7 @@ def test_a_pulse_stands_in_its_bins(tmp_path: Path) -> None:
     on = numpy.array([1, 1, 0.5, 0, 0, 0, 0, 0])
     due = numpy.zeros((8, 4))
     due[:, 2] = on * theory.level_product(0.5, 2)
-    noise = float(theory.level_power(0.9957)) / numpy.sqrt(400_000 / 8)
+    noise = theory.level_power(2) / numpy.sqrt(400_000 / 8)
     numpy.testing.assert_allclose(means(scan, 0, 0), due, atol=5 * noise, rtol=0)
     counts = scan.cells["count"].sum(axis=(0, 1, 2))[:, 2]
     numpy.testing.assert_allclose(counts, 50_000, rtol=0.02)

@@ -18,7 +18,7 @@ import record_files
 import theory
 from numpy.typing import NDArray
 
-from vlbi import job, records, rotation, spectrum, vex
+from vlbi import job, quantiser, records, rotation, spectrum, vex
 from vlbi.commands import fits as command
 from vlbi.faults import Fault
 
@@ -480,7 +480,7 @@ def test_a_measurement_set(folder: Folder) -> None:
 
 # Amplitudes
 
-@pytest.mark.parametrize("bits", [1, 2])
+@pytest.mark.parametrize("bits", [1, 2, 4])
 def test_weak_correlations_are_corrected_for_quantisation(folder: Folder, bits: int) -> None:
     """No delays are taken out: the mean product of levels is what theory says of a correlation of 0.05."""
     (folder.path / "job.txt").write_text(job_text(bits))
@@ -489,7 +489,7 @@ def test_weak_correlations_are_corrected_for_quantisation(folder: Folder, bits: 
     def cells(scan: int, m: int, p: int, b: int) -> NDArray[Any]:
         means = numpy.zeros(LAGS, numpy.complex128)
         same = BASELINES[b][0] == BASELINES[b][1]
-        means[LAGS // 2] = amplitude if not same else 1.0 if bits == 1 else float(theory.level_power(0.9957))
+        means[LAGS // 2] = amplitude if not same else theory.level_power(bits)
         return cells_of(means)
 
     folder.write(record_file(cells), "--correct")
@@ -501,20 +501,22 @@ def test_weak_correlations_are_corrected_for_quantisation(folder: Folder, bits: 
     assert abs(folder.rows()[1][~same] - amplitude).max() < 1e-7
 
 
-def test_thresholds_are_those_of_the_power(folder: Folder) -> None:
-    """The outer threshold of one station stands at 0.7 standard deviations: its own power tells, and the gain is that of this threshold."""
-    amplitude = 0.01 * spectrum.level_gain(2, 0.7) * spectrum.level_gain(2)
+@pytest.mark.parametrize("bits, step", [(2, 0.7), (4, 0.2), (4, 0.6)])
+def test_thresholds_are_those_of_the_power(folder: Folder, bits: int, step: float) -> None:
+    """The thresholds of one station stand at another step than the best one: its own power tells, and the gain is that of this step."""
+    (folder.path / "job.txt").write_text(job_text(bits))
+    amplitude = 0.01 * quantiser.gain(bits, step) * quantiser.gain(bits)
 
     def cells(scan: int, m: int, p: int, b: int) -> NDArray[Any]:
         means = numpy.zeros(LAGS, numpy.complex128)
-        means[LAGS // 2] = {(0, 0): float(theory.level_power(0.7)), (1, 1): float(theory.level_power(0.9957))}.get(BASELINES[b], amplitude)
+        means[LAGS // 2] = {(0, 0): theory.level_power(bits, step), (1, 1): theory.level_power(bits)}.get(BASELINES[b], amplitude)
         return cells_of(means)
 
     folder.write(record_file(cells), "--correct")
     rows, found = folder.rows()
     assert abs(found[rows["BASELINE"] == 258] - 0.01).max() < 1e-6
-    assert spectrum.threshold_of(float(theory.level_power(0.7))) == pytest.approx(0.7, abs=1e-9)
-    assert spectrum.threshold_of(0.5) == spectrum.threshold_of(9.5) == spectrum.BEST_THRESHOLD
+    assert quantiser.step_of(bits, theory.level_power(bits, step)) == pytest.approx(step, abs=1e-9)
+    assert quantiser.step_of(bits, 0.5) == quantiser.step_of(bits, 226) == quantiser.BEST[bits]
 
 
 def test_a_channel_as_it_was_recorded() -> None:
@@ -534,8 +536,8 @@ def test_a_channel_as_it_was_recorded() -> None:
 
 
 def test_the_gain_of_levels_is_their_slope() -> None:
-    for bits in (1, 2):
-        assert spectrum.level_gain(bits) ** 2 == pytest.approx(float(theory.level_product(1e-4, bits)) / 1e-4, rel=1e-6)
+    for bits in (1, 2, 4):
+        assert quantiser.gain(bits) ** 2 == pytest.approx(float(theory.level_product(1e-4, bits)) / 1e-4, rel=1e-6)
 
 
 @pytest.mark.parametrize("products, edge, sign, side", [((("CH01", "CH01"),), 8400e6, 1, "U"), ((("CH04", "CH04"),), 8416e6, -1, "L")])
@@ -547,7 +549,7 @@ def test_rotation_and_whole_delays_are_corrected(folder: Folder, products: tuple
     stands = sign * edge * 0.3e-10
     parts = {
         (0, 1): 2 * theory.rotated_amplitude(0.02, numpy.zeros(1), 2),  # at lag 0 half of the band's spectrum adds up
-        (0, 2): 0.02 * spectrum.level_gain(2) ** 2 * numpy.conj(theory.three_levels(stands) * numpy.exp(-2j * numpy.pi * stands)),
+        (0, 2): 0.02 * quantiser.gain(2) ** 2 * numpy.conj(theory.three_levels(stands) * numpy.exp(-2j * numpy.pi * stands)),
     }
 
     def cells(scan: int, m: int, p: int, b: int) -> NDArray[Any]:

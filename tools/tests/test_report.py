@@ -15,6 +15,7 @@ from typing import Any
 import numpy
 import pytest
 import record_files
+import theory
 
 from vlbi import records, report
 from vlbi.commands import report as command
@@ -174,6 +175,16 @@ def test_levels(folder: Path, outer: float, judged: str) -> None:
     """Of two bits' levels the mean square is 1 inside and 9 outside."""
     words = seen(folder, night_file(late({}), power=1 + 8 * outer), JOB)[1]
     assert f"Sampler of Ef CH01, scan No0001: {judged} of the samples at the outer levels, 32 % is best." in words
+
+
+@pytest.mark.parametrize("step, judged", [(0.7, "too weak: 0 %"), (0.2, "too strong: 16 %"), (0.58, ""), (0.23, "")])
+def test_levels_of_four_bits(folder: Path, step: float, judged: str) -> None:
+    """The part at the outer levels is that of the step of the thresholds that the power tells; a fiftieth of the signal to noise is what counts."""
+    words = seen(folder, night_file(late({}), power=theory.level_power(4, step)), JOB.replace(" 2 1 40", " 4 1 40"))[1]
+    if judged:
+        assert f"Sampler of Ef CH01, scan No0001: {judged} of the samples at the outer levels, 2 % is best." in words
+    assert ("The samplers' levels are right: 4 of 4 stations and channels." in words) == (not judged)
+    assert (theory.efficiency(4, step) < 0.98 * theory.efficiency(4)) == bool(judged)
 
 
 def test_too_few_cells_to_tell(folder: Path) -> None:

@@ -18,10 +18,10 @@ import theory
 from numpy.typing import NDArray
 
 from vlbi import fringe as fringes
-from vlbi import commands, job, records, vex
+from vlbi import commands, job, quantiser, records, vex
 from vlbi.commands import simulate as command
 from vlbi.faults import Fault
-from vlbi.simulate import BLOCK, THRESHOLD, CommonNoise, Pulse, Sky, SkyFault, Station, codes_of, simulate, wave_at
+from vlbi.simulate import BLOCK, CommonNoise, Pulse, Sky, SkyFault, Station, codes_of, simulate, wave_at
 from vlbi.vdif import packed
 
 SMALL = Sky((Station("A"), Station("B")), rate=80_000, seconds=2)
@@ -36,19 +36,29 @@ def frames_of(path: Path, size: int) -> tuple[NDArray[numpy.uint32], NDArray[num
 
 # Samples
 
-def test_the_threshold_is_the_best() -> None:
-    assert THRESHOLD == pytest.approx(theory.best_threshold(), abs=5e-4)
+@pytest.mark.parametrize("bits, efficiency", [(1, 0.6366), (2, 0.8812), (4, 0.9885)])
+def test_the_thresholds_are_the_best(bits: int, efficiency: float) -> None:
+    if bits > 1:
+        assert quantiser.BEST[bits] == pytest.approx(theory.best_step(bits), abs=5e-5)
+    assert quantiser.thresholds(bits) == theory.thresholds(bits)
+    assert quantiser.gain(bits) ** 2 == pytest.approx(float(theory.level_product(1e-4, bits)) / 1e-4, rel=1e-6)
+    assert quantiser.power(bits) == pytest.approx(theory.level_power(bits), rel=1e-9)
+    assert round(theory.efficiency(bits), 4) == round(quantiser.efficiency(bits), 4) == efficiency
 
 
 def test_codes() -> None:
     voltage = numpy.array([-1.0, -0.99, -0.01, 0.0, 0.99, 1.0])
     assert codes_of(voltage, 2).tolist() == [0, 1, 1, 2, 2, 3]
     assert codes_of(voltage, 1).tolist() == [0, 0, 0, 1, 1, 1]
+    assert codes_of(voltage, 4).tolist() == [5, 5, 7, 8, 10, 10]
+    # code q from q - 8 to q - 7 steps: an outer level goes on past the last threshold
+    assert codes_of(0.3352 * numpy.array([-20, -7.01, -6.99, -1, 0.99, 7, 20]), 4).tolist() == [0, 0, 1, 7, 8, 15, 15]
 
 
 def test_the_lowest_bits_come_first() -> None:
     assert packed(numpy.array([0, 1, 2, 3, 3, 0, 0, 0], numpy.uint8), 2).tolist() == [0xE4, 0x03]
     assert packed(numpy.array([0, 1, 0, 1, 0, 1, 0, 1], numpy.uint8), 1).tolist() == [0xAA]
+    assert packed(numpy.array([0, 1, 15, 8], numpy.uint8), 4).tolist() == [0x10, 0x8F]
 
 
 def test_common_noise() -> None:
@@ -106,10 +116,11 @@ def test_the_knot_of_a_pulse() -> None:
         assert job.poly_value([int(one) for one in line.split()[2:]], knot, 80_000) == pytest.approx(2 ** 32 / float(period), abs=3)
 
 
-def codes_in(path: Path) -> NDArray[numpy.uint8]:
-    """The codes of a recording of one channel and two bits."""
-    _, data = frames_of(path, SMALL.frames.size)
-    return (data[..., None] >> numpy.array([0, 2, 4, 6], numpy.uint8) & 3).astype(numpy.uint8).ravel()
+def codes_in(path: Path, sky: Sky = SMALL) -> NDArray[numpy.uint8]:
+    """The codes of a recording of one channel."""
+    _, data = frames_of(path, sky.frames.size)
+    codes: NDArray[numpy.uint8] = (data[..., None] >> numpy.arange(0, 8, sky.bits, dtype=numpy.uint8) & 2 ** sky.bits - 1).astype(numpy.uint8)
+    return codes.ravel()
 
 
 def test_pulsed_recordings(tmp_path: Path) -> None:
@@ -132,7 +143,7 @@ def test_the_station_goes_on_when_the_source_is_off(tmp_path: Path) -> None:
     """With half of its power: the outer levels are as rare as it makes them."""
     simulated(tmp_path, common=0.5, pulse=Pulse(1, 0.0))
     levels = numpy.bincount(codes_in(tmp_path / "A.vdif"), minlength=4) / 160_000
-    outer = (1 - theory.normal_between(THRESHOLD * 2 ** 0.5)) / 2
+    outer = (1 - theory.normal_between(quantiser.BEST[2] * 2 ** 0.5)) / 2
     numpy.testing.assert_allclose(levels, [outer, 0.5 - outer, 0.5 - outer, outer], atol=0.01)
 
 
@@ -164,8 +175,31 @@ def test_frames(tmp_path: Path) -> None:
     assert set(headers[:, 3]) == {1 << 26 | 2}
     assert data.shape[1] * 8 == sky.frames.samples * 2 * 2
     levels = numpy.bincount((data[..., None] >> numpy.array([0, 2, 4, 6], numpy.uint8) & 3).ravel(), minlength=4) / (2 * 2 * 80_000)
-    outer = (1 - theory.normal_between(THRESHOLD)) / 2
+    outer = (1 - theory.normal_between(quantiser.BEST[2])) / 2
     numpy.testing.assert_allclose(levels, [outer, 0.5 - outer, 0.5 - outer, outer], atol=0.01)
+
+
+@pytest.mark.parametrize("bits", [1, 2, 4])
+def test_levels_keep_of_a_correlation_what_theory_says(tmp_path: Path, bits: int) -> None:
+    sky = simulated(tmp_path, rate=400_000, seconds=4, common=0.3, bits=bits)
+    a, b = (2.0 * codes_in(tmp_path / f"{key}.vdif", sky) - (2 ** bits - 1) for key in "AB")
+    square = theory.level_power(bits)
+    assert [(levels ** 2).mean() / square for levels in (a, b)] == pytest.approx([1, 1], abs=0.005)
+    kept = (a * b).mean() / square
+    assert kept == pytest.approx(float(theory.level_product(0.3, bits)) / square, abs=0.003)
+    assert kept / 0.3 == pytest.approx(theory.efficiency(bits), abs=0.02)
+
+
+def test_four_bits_in_a_frame(tmp_path: Path) -> None:
+    """Two samples in a byte, and those of 64 channels in four words; the header says four bits, the job too."""
+    sky = simulated(tmp_path, bits=4)
+    headers, data = frames_of(tmp_path / "A.vdif", sky.frames.size)
+    assert set(headers[:, 3]) == {3 << 26 | 1} and data.shape[1] * 2 == sky.frames.samples
+    assert f"station A 1 4 1 {sky.frames.size}\n" in (tmp_path / "job.txt").read_text()
+    found = numpy.bincount(codes_in(tmp_path / "A.vdif", sky), minlength=16) / 160_000
+    inside = numpy.diff([0.0, *(theory.normal_between(t) for t in theory.thresholds(4) if t > 0), 1.0]) / 2
+    numpy.testing.assert_allclose(found, [*inside[::-1], *inside], atol=0.004)
+    assert dataclasses.replace(sky, channels=64, rate=64_000_000).frames.samples == 250
 
 
 def test_threads_apart(tmp_path: Path) -> None:
@@ -214,7 +248,7 @@ def test_a_sideband_for_each_channel(tmp_path: Path) -> None:
     ({"stations": (Station("../A"),)}, "a station's key is made of letters, digits"),
     ({"stations": (Station(""),)}, "a station's key is made of letters, digits"),
     ({"stations": tuple(Station(f"S{number}") for number in range(33))}, "at most 32 stations"),
-    ({"bits": 3}, "1 or 2 bits"),
+    ({"bits": 3}, "1, 2 or 4 bits"),
     ({"common": 1.5}, "a part lies between 0 and 1"),
     ({"missing": -0.1}, "a part lies between 0 and 1"),
     ({"sideband": "UL"}, "one for all channels or one for each of 1: UL"),
@@ -372,8 +406,9 @@ def test_threads_apart_with_frames_missing(tmp_path: Path) -> None:
     check_fringes(Sky(stations, rate=400_000, seconds=2, channels=3, apart=True, common=0.3, missing=0.1, invalid=0.1), tmp_path)
 
 
-def test_one_bit(tmp_path: Path) -> None:
-    check_fringes(Sky((Station("Ef"), Station("Wb", delay=(1e-4, 1.1e-6))), rate=400_000, seconds=2, bits=1, common=0.3), tmp_path)
+@pytest.mark.parametrize("bits", [1, 4])
+def test_one_bit_and_four(tmp_path: Path, bits: int) -> None:
+    check_fringes(Sky((Station("Ef"), Station("Wb", delay=(1e-4, 1.1e-6))), rate=400_000, seconds=2, bits=bits, common=0.3), tmp_path)
 
 
 def test_what_the_rest_of_a_sample_costs(tmp_path: Path) -> None:
@@ -414,4 +449,4 @@ def test_what_is_missing_is_counted(tmp_path: Path) -> None:
         slots, invalid = counts[key]
         paired = scan.cells[:, 0, scan.baselines.index((number, number)), 1]["count"].sum()
         assert int(paired) == (slots - invalid) * sky.frames.samples
-        assert fringes.power(scan, number, "CH01") == pytest.approx(float(theory.level_power(THRESHOLD)), abs=0.05)
+        assert fringes.power(scan, number, "CH01") == pytest.approx(theory.level_power(2), abs=0.05)

@@ -1,6 +1,6 @@
 """What the correlator should find of a simulated fringe, from first principles: no number here comes from a program's output.
 
-A station's samples are a voltage of power 1 in one of 2 or 4 levels; a value is a sample times the three-level cosine and sine of a
+A station's samples are a voltage of power 1 in one of 2, 4 or 16 levels; a value is a sample times the three-level cosine and sine of a
 phase; a cell is the mean of a value times the other one's conjugate. Of two voltages with the correlation r, the mean product of the
 levels is the integral from 0 to r of the density of both voltages at each two thresholds, times the steps of the levels there (Price).
 """
@@ -16,9 +16,13 @@ NODES, WEIGHTS = numpy.polynomial.legendre.leggauss(24)  # type: ignore[no-untyp
 PHASES = (numpy.arange(720) + 0.5) / 720
 
 
-def thresholds(bits: int, two_bits: float = 0.9957) -> tuple[float, ...]:
-    """The thresholds of a quantiser in standard deviations: each step of its levels is 2."""
-    return (0.0,) if bits == 1 else (-two_bits, 0.0, two_bits)
+BEST = {1: 1.0, 2: 0.9957, 4: 0.3352}
+
+
+def thresholds(bits: int, step: float | None = None) -> tuple[float, ...]:
+    """The thresholds of a quantiser in standard deviations, one step from each other: at each its levels rise by 2."""
+    half = 2 ** (bits - 1)
+    return tuple(number * (step or BEST[bits]) for number in range(1 - half, half))
 
 
 def level_product(r: ArrayLike, bits: int) -> Reals:
@@ -33,10 +37,11 @@ def level_product(r: ArrayLike, bits: int) -> Reals:
     return product
 
 
-def level_power(two_bits: ArrayLike) -> Reals:
-    """The mean square of two-bit levels: 1 between the outer thresholds, 9 past them."""
-    middle: Reals = numpy.vectorize(normal_between)(two_bits)
-    return middle + 9 * (1 - middle)
+def level_power(bits: int, step: float | None = None) -> float:
+    """The mean square of levels: the square of each times the probability of a voltage between its thresholds."""
+    inside = [normal_between(t) for t in thresholds(bits, step) if t > 0] + [1.0]
+    parts = numpy.diff([0.0, *inside])
+    return float((parts * numpy.arange(1, 2 ** bits, 2) ** 2).sum())
 
 
 def normal_between(t: float) -> float:
@@ -45,11 +50,26 @@ def normal_between(t: float) -> float:
     return float((numpy.exp(-places ** 2 / 2) * WEIGHTS).sum() * t / 2 * 2 / numpy.sqrt(2 * numpy.pi))
 
 
-def best_threshold() -> float:
-    """The threshold at which two voltages of little correlation have the greatest signal to noise in levels -3, -1, +1, +3."""
-    places = numpy.linspace(0.8, 1.2, 4001)
-    slope = 2 / numpy.sqrt(2 * numpy.pi) * (1 + 2 * numpy.exp(-places ** 2 / 2))
-    return float(places[(slope ** 2 / level_power(places)).argmax()])
+def efficiency(bits: int, step: float | None = None) -> float:
+    """The part of the signal to noise of two voltages of little correlation that their levels have.
+
+    The mean of the levels' product rises with the correlation by the square of their mean slope, the sum of the density at each threshold times the
+    step of the levels there; its spread without a correlation is their mean square. Of the voltages both are 1.
+    """
+    slope = sum(2 * numpy.exp(-t * t / 2) / numpy.sqrt(2 * numpy.pi) for t in thresholds(bits, step))
+    return float(slope ** 2 / level_power(bits, step))
+
+
+def best_step(bits: int) -> float:
+    """The step of the thresholds at which the efficiency is greatest."""
+    low, high = 0.1, 2.0
+    for _ in range(60):  # it has one peak there
+        third = (high - low) / 3
+        if efficiency(bits, low + third) < efficiency(bits, high - third):
+            low += third
+        else:
+            high -= third
+    return low
 
 
 def three_levels(turns: ArrayLike) -> Complexes:

@@ -22,7 +22,7 @@ import numpy
 from astropy.io import fits
 from numpy.typing import NDArray
 
-from vlbi import __version__, geometry, rotation, spectrum
+from vlbi import __version__, geometry, quantiser, rotation, spectrum
 from vlbi.earth import LIGHT, UNIX_DAY, UNIX_MJD
 from vlbi.faults import Fault
 from vlbi.geometry import Geometry
@@ -358,8 +358,9 @@ class Amplitudes:
 
     Of a weak correlation the mean product of levels is a known part: that of the quantisation, by each station's bits and thresholds, and
     those of the three-level fringe rotation and of whole delays, by each station's delays. A coefficient is the mean product over this part; where
-    both stations of a baseline have delays, each is taken to run by itself. The thresholds of two bits are those that the power of the station's own
-    samples tells, where the job has `auto`, and else the best ones. A station with itself is no weak correlation: it is divided by its power.
+    both stations of a baseline have delays, each is taken to run by itself. The thresholds of two and four bits are those that the power of the
+    station's own samples tells, where the job has `auto`, and else the best ones. A station with itself is no weak correlation: it is divided by its
+    power.
     """
 
     def __init__(self, seen: Observation, correct: bool) -> None:
@@ -423,15 +424,13 @@ class Amplitudes:
 
     def levels(self, scan: Scan, station: int, channel: str, band: Band) -> float:
         """The gain of a station's levels in a channel."""
-        if self.seen.bits[station] == 1:
-            return spectrum.level_gain(1)
-        pairs = (channel, channel)
-        if (station, station) not in scan.baselines or pairs not in scan.head.products:
-            return spectrum.level_gain(2)
+        bits, pairs = self.seen.bits[station], (channel, channel)
+        if bits == 1 or (station, station) not in scan.baselines or pairs not in scan.head.products:
+            return quantiser.gain(bits)
         key = self.seen.records.scans.index(scan), station, scan.head.products.index(pairs), band.sign * band.hertz
         if key not in self.found:
             cells = scan.cells[:, key[2], scan.baselines.index((station, station)), scan.head.lags // 2]
             turned = float((cells["count"] * self.squares(scan, station, band, slice(0, len(scan.cells)))).sum())
             mean = float(cells["re"].sum(dtype=numpy.float64)) / turned if turned > 0 else 0.0
-            self.found[key] = spectrum.level_gain(2, spectrum.threshold_of(mean))
+            self.found[key] = quantiser.gain(bits, quantiser.step_of(bits, mean))
         return self.found[key]

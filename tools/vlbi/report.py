@@ -18,7 +18,7 @@ from numpy.typing import NDArray
 
 from vlbi import fringe as fringes
 from vlbi import job as jobs
-from vlbi import joined, network, plot, records, rotation, spectrum, vex
+from vlbi import joined, network, plot, quantiser, records, rotation, spectrum, vex
 from vlbi.faults import Fault
 from vlbi.fringe import Fringe
 from vlbi.records import Records, Scan
@@ -32,8 +32,10 @@ OFF = 0.25       # samples from which on a clock looks off,
 OFF_BLIND = 1.0  # and where nobody says what whole delays leave
 SPREAD = 1.0     # samples by which lags may differ from what clocks make of them
 THERE = 0.99     # the part of the samples below which some are said to be missing
-WEAK, STRONG = 0.20, 0.45  # parts of two bits' samples at the outer levels that are too few and too many
-BEST = 0.32      # the best part of them
+
+# Of two and four bits' samples the parts at the outer levels that are too few, best and too many: at either end a fiftieth of the signal to noise is lost.
+OUTER = {2: (0.20, 0.32, 0.45), 4: (0.00003, 0.019, 0.12)}
+
 POINTS = 64      # places of a picture to a side
 SHADES = 16
 RESTS = 257      # moments of a scan at which the rest of a whole delay is taken
@@ -89,25 +91,28 @@ class Sampler:
     """A station's channel in a scan, by its correlation with itself.
 
     powers  the spectrum, by rising frequency in the band
+    bits    of a sample; None where nobody says how many there are
     outer   the part of the samples at the outer levels; None where nobody says how many bits there are, or there is one
     """
 
     key: str
     channel: str
     powers: Reals = dataclasses.field(repr=False)
+    bits: int | None
     outer: float | None
 
     @property
     def words(self) -> str:
         """The levels in words; empty where nothing is known of them."""
-        if self.outer is None:
+        if self.outer is None or self.bits is None:
             return ""
-        judged = "too weak" if self.outer < WEAK else "too strong" if self.outer > STRONG else "right"
-        return f"{judged}: {self.outer * 100:.0f} % of the samples at the outer levels, {BEST * 100:.0f} % is best"
+        few, best, many = OUTER[self.bits]
+        judged = "too weak" if self.outer < few else "too strong" if self.outer > many else "right"
+        return f"{judged}: {self.outer * 100:.0f} % of the samples at the outer levels, {best * 100:.0f} % is best"
 
     @property
     def is_right(self) -> bool:
-        return self.outer is None or WEAK <= self.outer <= STRONG
+        return not self.words or self.words.startswith("right")
 
 
 @dataclasses.dataclass(frozen=True, eq=False)
@@ -317,20 +322,20 @@ def samplers(scan: Scan, asked: joined.Asked | None) -> Iterator[Sampler]:
             means = (cells["re"].sum(axis=0, dtype=numpy.float64) + 1j * cells["im"].sum(axis=0, dtype=numpy.float64)) / counts
             band = band_of(scan, key, x, asked)
             powers = spectrum.of_lags(means, band[1] if band else "U", spectrum.channels(scan.head.lags, scan.head.rate)).real
-            yield Sampler(key, x, powers, outer_part(scan, key, x, float(means[scan.head.lags // 2].real), asked))
+            bits = asked.shapes[key].bits if asked else None
+            yield Sampler(key, x, powers, bits, outer_part(scan, key, x, float(means[scan.head.lags // 2].real), asked))
 
 
 def outer_part(scan: Scan, key: str, channel: str, power: float, asked: joined.Asked | None) -> float | None:
-    """The part of two bits' samples at the outer levels, by the mean square of the values, of which the rotation has its part."""
+    """The part of two or four bits' samples at the outer levels, by the mean square of the values, of which the rotation has its part."""
     band = band_of(scan, key, channel, asked)
-    if asked is None or band is None or asked.shapes[key].bits != 2:
+    if asked is None or band is None or asked.shapes[key].bits not in OUTER:
         return None
     begins = scan.begins / scan.head.rate
     ends = numpy.minimum(scan.begins + scan.head.integration, scan.samples) / scan.head.rate
     late = rotation.Delays(asked.by_word, scan.head.rate).samples(key, scan.start, rotation.stretches(begins, ends, PIECES))
     turns = late * (band[0] / scan.head.rate)
-    square = power / float(rotation.power(turns).mean())
-    return min(1.0, max(0.0, (square - 1) / 8))
+    return quantiser.outer_part(asked.shapes[key].bits, power / float(rotation.power(turns).mean()))
 
 
 # Clocks

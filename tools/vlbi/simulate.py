@@ -21,6 +21,7 @@ import numpy
 from numpy.typing import NDArray
 
 from vlbi import job as jobs
+from vlbi import quantiser
 from vlbi.faults import Fault
 from vlbi.vdif import Codes, Frames, Recording, reference_epoch
 
@@ -28,7 +29,6 @@ Reals = NDArray[numpy.float64]
 Complexes = NDArray[numpy.complex128]
 Bools = NDArray[numpy.bool_]
 
-THRESHOLD = 0.9957  # the greatest signal to noise of levels -3, -1, +1, +3, in standard deviations of the samples
 BLOCK = 1 << 16     # samples that are made at once
 FINER = 4           # places between two samples at which the common noise is computed, before it is read between them
 MOST_STATIONS = 32
@@ -126,7 +126,7 @@ class Sky:
     channels   their number; their bands of rate / 2 hertz lie side by side, and the edge of the first is at the sky frequency `frequency`
     sideband   "U" or "L" of all channels, or a letter for each: a band goes up from its edge, or down
     common     the part of each station's power that all have in common, 0 to 1
-    bits       1 or 2
+    bits       1, 2 or 4
     apart      whether each channel has a thread of its own
     missing, invalid  the parts of the frames that are left out, and that are marked invalid
     seed       of all noise
@@ -154,8 +154,8 @@ class Sky:
         if len(self.stations) > MOST_STATIONS or self.channels > MOST_CHANNELS:
             raise SkyFault(f"the program takes at most {MOST_STATIONS} stations and {MOST_CHANNELS} channels")
         self.check_keys()
-        if self.bits not in (1, 2):
-            raise SkyFault(f"a sample has 1 or 2 bits, not {self.bits}")
+        if self.bits not in quantiser.BITS:
+            raise SkyFault(f"a sample has 1, 2 or 4 bits, not {self.bits}")
         if not re.fullmatch("[UL]+", self.sideband) or len(self.sideband) not in (1, self.channels):
             raise SkyFault(f"sidebands are U or L, one for all channels or one for each of {self.channels}: {self.sideband}")
         check_parts(self.common, self.missing, self.invalid)
@@ -298,9 +298,7 @@ def in_common(common: CommonNoise, wave: Reals, lead: Reals, hertz: int, side: s
 
 def codes_of(voltage: Reals, bits: int) -> Codes:
     """The codes of samples of power 1, uint8: 0 is the most negative level."""
-    if bits == 1:
-        return (voltage >= 0).astype(numpy.uint8)
-    return numpy.digitize(voltage, (-THRESHOLD, 0.0, THRESHOLD)).astype(numpy.uint8)
+    return numpy.digitize(voltage, quantiser.thresholds(bits)).astype(numpy.uint8)
 
 
 class Receiver:

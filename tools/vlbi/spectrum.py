@@ -1,4 +1,4 @@
-"""Spectra from the sums over lags of the correlator `vlbi`, and what coarse levels leave of a correlation.
+"""Spectra from the sums over lags of the correlator `vlbi`.
 
     spectrum.of_lags(scan.means(product, baseline), "U", 32)
 
@@ -9,16 +9,11 @@ delay, in either sideband.
 from __future__ import annotations
 
 import fractions
-import math
-import statistics
 
 import numpy
 from numpy.typing import NDArray
 
 Complexes = NDArray[numpy.complex128]
-
-NORMAL = statistics.NormalDist()
-BEST_THRESHOLD = 0.9957  # of two-bit levels, in standard deviations: that of the greatest signal to noise
 
 
 def channels(lags: int, rate: int, bandwidth: int | None = None) -> int:
@@ -50,19 +45,3 @@ def of_lags(means: Complexes, side: str, many: int) -> Complexes:
 def first_channel(hertz: int, side: str, many: int, width: float) -> float:
     """The sky frequency of the first of these channels, of so many hertz each, of a band with its edge at this one: the lowest."""
     return float(hertz) if side == "U" else hertz - (many - 1) * width
-
-
-def level_gain(bits: int, threshold: float = BEST_THRESHOLD) -> float:
-    """The mean slope of one or two bits' levels against a voltage of power 1.
-
-    The mean product of two stations' levels is the product of both gains times their correlation, where that is weak.
-    threshold  the outer one of two bits, in standard deviations
-    """
-    steps = 1.0 if bits == 1 else 1 + 2 * math.exp(-threshold ** 2 / 2)
-    return steps * 2 / math.sqrt(2 * math.pi)
-
-
-def threshold_of(power: float) -> float:
-    """The outer threshold, in standard deviations, at which two bits' levels have this mean square; the best one where none has it."""
-    inside = (9 - power) / 8  # the part of the samples whose levels are -1 and 1
-    return NORMAL.inv_cdf((1 + inside) / 2) if 0 < inside < 1 else BEST_THRESHOLD

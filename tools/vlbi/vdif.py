@@ -30,7 +30,7 @@ class Frames:
 
     rate      complete samples a second
     channels  their number
-    bits      of a sample, 1 or 2
+    bits      of a sample, 1, 2 or 4
     apart     whether each channel has a thread of its own
     """
 

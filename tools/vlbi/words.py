@@ -26,7 +26,7 @@ FORMS = {
     "epoch": "epoch SAMPLES, 1 to 4194304",
     "knot": "knot SAMPLES, 1 to 2^24",
     "auto": "auto, and nothing behind it",
-    "station": "station KEY ID BITS CHANS FRAME [legacy]: ID 0 to 65535; BITS 1 or 2; CHANS a power of two, 1 to 64; FRAME a multiple of 8 from 40 "
+    "station": "station KEY ID BITS CHANS FRAME [legacy]: ID 0 to 65535; BITS 1, 2 or 4; CHANS a power of two, 1 to 64; FRAME a multiple of 8 from 40 "
                "(legacy 24) to 131072, whose data holds whole complete samples",
     "file": "file KEY NAME",
     "chan": "chan KEY CHANNEL THREAD INDEX: THREAD 0 to 1023, INDEX below the station's CHANS",

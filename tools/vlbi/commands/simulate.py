@@ -21,6 +21,7 @@ from collections.abc import Callable, Sequence
 from fractions import Fraction
 from typing import TYPE_CHECKING, NamedTuple
 
+from vlbi import quantiser
 from vlbi.commands import Progress, parser_of, told
 from vlbi.faults import Fault
 
@@ -70,7 +71,7 @@ def parser() -> argparse.ArgumentParser:
     made.add_argument("--pulse-epoch", type=exact_number, metavar="MJD",
                       help="modified julian date in UTC at which a pulse begins (the start of the first scan)")
     made.add_argument("--period-derivative", type=exact_number, metavar="S/S", help="seconds that the period gains in each second (0)")
-    made.add_argument("--bits", type=int, choices=(1, 2), default=2, help="bits in a sample (2)")
+    made.add_argument("--bits", type=int, choices=quantiser.BITS, default=2, help="bits in a sample (2)")
     made.add_argument("--apart", action="store_true", default=None, help="each channel in a thread of its own; so it is where their number is no power of two")
     made.add_argument("--missing", type=float, default=0, help="part of the frames that are left out (0)")
     made.add_argument("--invalid", type=float, default=0, help="part of the frames that are marked invalid (0)")

@@ -3,6 +3,11 @@ ghost use Rattle.std.specs.Prelude.{◌≡◌, ◌+◌, ◌*◌, ◌/◌, ◌%�
 ghost use Rattle.sample_unpack.specs.Level.{IsWidth, bit_of, code_at, level_at};
 ghost use Rattle.value_codes.specs.Taken.{IsTaken, taken_of};
 
+use std::simd::prelude::*;
+
+// The levels of a vector.
+const LANES: usize = 16;
+
 // The byte of a code of four bits.
 #[inline(always)]
 fn taken_of_four(code: u8) -> u8
@@ -47,134 +52,86 @@ fn take_each(array: &[u8], byte: usize, shift: u32, bits: u8, step: u32, codes: 
     }
 }
 
-// Sets the codes to those of the levels of a byte, the first of which begins at bit `low` and each other `step` bits behind the one
-// before.
-#[inline(always)]
-fn take_byte(byte: u8, low: u32, bits: u8, step: u32, codes: &mut [u8])
-    requires width { IsWidth bits }
-    requires few { length codes.old ≤ 8 }
-    requires inside { (k : ℕ) → k < length codes.old → low + k * step < 8 }
-    ensures { (k : ℕ) → k < length codes.old → slice_index codes.new k ≡ taken_of bits (byte / 2 ^ (low + k * step) % 2 ^ bits) }
+// By lane: the byte of a level, each of which lies `step` bits behind the one before.
+fn places(step: u32) -> u8x16
+    requires { step ≤ 8 }
+    ensures long { length result ≡ LANES }
+    ensures lanes { (i : ℕ) → i < LANES → slice_index result i ≡ i * step / 8 }
 {
-    for k in 0..codes.len() {
-        codes[k] = taken(bits, byte >> (low + k as u32 * step));
+    let mut lanes = [0; LANES];
+    for i in 0..LANES {
+        lanes[i] = (i as u32 * step / 8) as u8;
     }
+    u8x16::from_array(lanes)
 }
 
-// Sets the codes to those of the levels of `count` whole bytes from byte `byte` on, `per` a byte.
+// By lane: the lowest bit of a level in its byte, where that of the first is `low`.
+fn shifts(low: u32, step: u32) -> u8x16
+    requires step { step ≤ 8 }
+    requires low { (i : ℕ) → low + i * step % 8 < 8 }
+    ensures long { length result ≡ LANES }
+    ensures lanes { (i : ℕ) → i < LANES → slice_index result i ≡ low + i * step % 8 }
+{
+    let mut lanes = [0; LANES];
+    for i in 0..LANES {
+        lanes[i] = (low + i as u32 * step % 8) as u8;
+    }
+    u8x16::from_array(lanes)
+}
+
+// By the four lowest bits of a byte: the byte of the code in the lowest of them.
+fn table(bits: u8) -> u8x16
+    requires width { IsWidth bits }
+    ensures long { length result ≡ LANES }
+    ensures lanes { (i : ℕ) → i < LANES → slice_index result i ≡ taken_of bits (i % 2 ^ bits) }
+{
+    let mut lanes = [0; LANES];
+    for i in 0..LANES {
+        lanes[i] = taken(bits, i as u8);
+    }
+    u8x16::from_array(lanes)
+}
+
+// By lane: what the table has for the four bits from the lane's shift on, in the byte at the lane's place.
 #[inline(always)]
-fn take_bytes(
+fn look_up(bytes: u8x16, places: u8x16, shifts: u8x16, table: u8x16) -> u8x16
+    requires bytes { length bytes ≡ LANES }
+    requires places { length places ≡ LANES }
+    requires shifts { length shifts ≡ LANES }
+    requires table { length table ≡ LANES }
+    requires places_inside { (i : ℕ) → i < LANES → slice_index places i < LANES }
+    requires shifts_inside { (i : ℕ) → i < LANES → slice_index shifts i < 8 }
+    ensures long { length result ≡ LANES }
+    ensures lanes { (i : ℕ) → i < LANES
+        → slice_index result i ≡ slice_index table (slice_index bytes (slice_index places i) / 2 ^ slice_index shifts i % 16) }
+{
+    table.swizzle_dyn((bytes.swizzle_dyn(places) >> shifts) & u8x16::splat(15))
+}
+
+// Sets the codes to those of the levels of `count` vectors as `take_each` does, where each byte holds as many levels and the first of
+// them begins at its bit `low`. The levels of a vector lie in `2 * step` bytes, but sixteen are read.
+fn take_vectors(
     array: &[u8],
     byte: usize,
     count: usize,
     low: u32,
     bits: u8,
     step: u32,
-    per: usize,
     codes: &mut [u8],
 )
     requires width { IsWidth bits }
-    requires step { per * step ≡ 8 }
-    requires low { low < step }
-    requires whole { length codes.old ≡ per * count }
-    requires inside { byte + count ≤ length array.now }
+    requires step { step ≤ 8 }
+    requires low { (i : ℕ) → low + i * step % 8 < 8 }
+    requires whole { length codes.old ≡ LANES * count }
+    requires inside { (v : ℕ) → v < count → byte + 2 * step * v + LANES ≤ length array.now }
     ensures { (i : ℕ) → i < length codes.old → slice_index codes.new i ≡ taken_of bits (code_at array.now bits (8 * byte + low + i * step)) }
 {
-    for j in 0..count {
-        take_byte(
-            array[byte + j],
-            low,
-            bits,
-            step,
-            &mut codes[per * j..per * j + per],
-        );
-    }
-}
-
-// The same with a loop for the first level of a byte, and one for the second of two bits and of four.
-#[inline(always)]
-fn take_bytes_by_low(
-    array: &[u8],
-    byte: usize,
-    count: usize,
-    low: u32,
-    bits: u8,
-    step: u32,
-    per: usize,
-    codes: &mut [u8],
-)
-    requires width { IsWidth bits }
-    requires step { per * step ≡ 8 }
-    requires low { low < step }
-    requires whole { length codes.old ≡ per * count }
-    requires inside { byte + count ≤ length array.now }
-    ensures { (i : ℕ) → i < length codes.old → slice_index codes.new i ≡ taken_of bits (code_at array.now bits (8 * byte + low + i * step)) }
-{
-    if low == 0 {
-        take_bytes(array, byte, count, 0, bits, step, per, codes);
-    } else if low == 2 {
-        take_bytes(array, byte, count, 2, bits, step, per, codes);
-    } else if low == 4 {
-        take_bytes(array, byte, count, 4, bits, step, per, codes);
-    } else {
-        take_bytes(array, byte, count, low, bits, step, per, codes);
-    }
-}
-
-// The same with a loop for each step between the levels of a byte.
-#[inline(always)]
-fn take_bytes_by_step(
-    array: &[u8],
-    byte: usize,
-    count: usize,
-    low: u32,
-    bits: u8,
-    step: u32,
-    per: usize,
-    codes: &mut [u8],
-)
-    requires width { IsWidth bits }
-    requires step { per * step ≡ 8 }
-    requires low { low < step }
-    requires whole { length codes.old ≡ per * count }
-    requires inside { byte + count ≤ length array.now }
-    ensures { (i : ℕ) → i < length codes.old → slice_index codes.new i ≡ taken_of bits (code_at array.now bits (8 * byte + low + i * step)) }
-{
-    if step == 1 {
-        take_bytes_by_low(array, byte, count, low, bits, 1, 8, codes);
-    } else if step == 2 {
-        take_bytes_by_low(array, byte, count, low, bits, 2, 4, codes);
-    } else if step == 4 {
-        take_bytes_by_low(array, byte, count, low, bits, 4, 2, codes);
-    } else {
-        take_bytes_by_low(array, byte, count, low, bits, 8, 1, codes);
-    }
-}
-
-// The same with loops for each width of a level.
-fn take_bytes_by_width(
-    array: &[u8],
-    byte: usize,
-    count: usize,
-    low: u32,
-    bits: u8,
-    step: u32,
-    per: usize,
-    codes: &mut [u8],
-)
-    requires width { IsWidth bits }
-    requires step { per * step ≡ 8 }
-    requires low { low < step }
-    requires whole { length codes.old ≡ per * count }
-    requires inside { byte + count ≤ length array.now }
-    ensures { (i : ℕ) → i < length codes.old → slice_index codes.new i ≡ taken_of bits (code_at array.now bits (8 * byte + low + i * step)) }
-{
-    if bits == 1 {
-        take_bytes_by_step(array, byte, count, low, 1, step, per, codes);
-    } else if bits == 2 {
-        take_bytes_by_step(array, byte, count, low, 2, step, per, codes);
-    } else {
-        take_bytes_by_step(array, byte, count, low, 4, step, per, codes);
+    let places = places(step);
+    let shifts = shifts(low, step);
+    let table = table(bits);
+    for v in 0..count {
+        let bytes = u8x16::from_slice(&array[byte + 2 * step as usize * v..]);
+        look_up(bytes, places, shifts, table).copy_to_slice(&mut codes[LANES * v..]);
     }
 }
 
@@ -197,12 +154,14 @@ fn take_whole(
 {
     let low = shift % step;
     let head = (per - (shift / step) as usize).min(codes.len());
-    let count = (codes.len() - head) / per;
+    let used = 2 * step as usize;
+    let room = (array.len() - byte - 1).saturating_sub(LANES - used);
+    let count = ((codes.len() - head) / LANES).min(room / used);
     let (front, behind) = codes.split_at_mut(head);
-    let (middle, rest) = behind.split_at_mut(per * count);
+    let (middle, rest) = behind.split_at_mut(LANES * count);
     take_each(array, byte, shift, bits, step, front);
-    take_bytes_by_width(array, byte + 1, count, low, bits, step, per, middle);
-    take_each(array, byte + 1 + count, low, bits, step, rest);
+    take_vectors(array, byte + 1, count, low, bits, step, middle);
+    take_each(array, byte + 1 + used * count, low, bits, step, rest);
 }
 
 /// Sets each code to that of a sample of channel `chan`, from sample `first` on, in a data array of `chans` channels with `bits`

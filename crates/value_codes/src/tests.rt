@@ -1,4 +1,8 @@
+ghost use Rattle.std.specs.Prelude.{◌≤◌, ◌+◌, ◌*◌, length};
+ghost use Rattle.sample_unpack.specs.Level.{IsWidth};
+
 use super::*;
+use sample_unpack::sample_at;
 use std::test::*;
 
 #[test]
@@ -140,4 +144,81 @@ fn levels_of_the_last_of_64_channels(rt: HostRuntime) {
     of_four_bits[31] = 0xB0;
     take_levels(&of_four_bits, 4, 64, 63, 0, &mut codes);
     assert_eq!(rt; codes, [216, 56]);
+}
+
+// Fills bytes without a pattern.
+fn fill_noise(bytes: &mut [u8]) {
+    let mut state = 1_u32;
+    for i in 0..bytes.len() {
+        state = state.wrapping_mul(1_664_525).wrapping_add(1_013_904_223);
+        bytes[i] = (state >> 24) as u8;
+    }
+}
+
+// Whether the codes of the samples of each channel, from sample `first` on, have the levels that `sample_at` gives.
+fn channels_have_levels(array: &[u8], bits: u8, chans: u32, first: u32, codes: &mut [u8]) -> bool
+    requires width { IsWidth bits }
+    requires channels { chans ≤ 64 }
+    requires first { first ≤ 10000 }
+    requires count { length codes.old ≤ 1000 }
+    requires inside { (first + length codes.old) * (chans * bits) ≤ 8 * length array.now }
+{
+    for chan in 0..chans {
+        take_levels(array, bits, chans, chan, u64::from(first), codes);
+        for i in 0..codes.len() {
+            let level = sample_at(array, bits, chans, chan, first + i as u32);
+            if value_of(codes[i]) != Some((level, 0)) {
+                return false;
+            }
+        }
+    }
+    true
+}
+
+// The array ends with the last of 199 levels.
+#[test]
+fn levels_of_one_bit_to_the_end(rt: HostRuntime) {
+    let mut array = [0; 1024];
+    fill_noise(&mut array);
+    let mut codes = [0; 199];
+    assert!(rt; channels_have_levels(&array, 1, 1, 7993, &mut codes));
+    assert!(rt; channels_have_levels(&array, 1, 2, 3897, &mut codes));
+    assert!(rt; channels_have_levels(&array, 1, 4, 1849, &mut codes));
+    assert!(rt; channels_have_levels(&array, 1, 8, 825, &mut codes));
+}
+
+#[test]
+fn levels_of_two_bits_to_the_end(rt: HostRuntime) {
+    let mut array = [0; 1024];
+    fill_noise(&mut array);
+    let mut codes = [0; 199];
+    assert!(rt; channels_have_levels(&array, 2, 1, 3897, &mut codes));
+    assert!(rt; channels_have_levels(&array, 2, 2, 1849, &mut codes));
+    assert!(rt; channels_have_levels(&array, 2, 4, 825, &mut codes));
+    assert!(rt; channels_have_levels(&array, 2, 8, 313, &mut codes));
+}
+
+#[test]
+fn levels_of_four_bits_to_the_end(rt: HostRuntime) {
+    let mut array = [0; 1024];
+    fill_noise(&mut array);
+    let mut codes = [0; 199];
+    assert!(rt; channels_have_levels(&array, 4, 1, 1849, &mut codes));
+    assert!(rt; channels_have_levels(&array, 4, 2, 825, &mut codes));
+    assert!(rt; channels_have_levels(&array, 4, 4, 313, &mut codes));
+    assert!(rt; channels_have_levels(&array, 4, 8, 57, &mut codes));
+}
+
+#[test]
+fn levels_of_any_length(rt: HostRuntime) {
+    let mut array = [0; 1024];
+    fill_noise(&mut array);
+    let mut codes = [0; 200];
+    for n in 0..201 {
+        let first = n as u32 % 8;
+        assert!(rt; channels_have_levels(&array, 1, 1, first, &mut codes[..n]));
+        assert!(rt; channels_have_levels(&array, 2, 1, first, &mut codes[..n]));
+        assert!(rt; channels_have_levels(&array, 2, 2, first, &mut codes[..n]));
+        assert!(rt; channels_have_levels(&array, 4, 1, first, &mut codes[..n]));
+    }
 }

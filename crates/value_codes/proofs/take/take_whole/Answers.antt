@@ -1,69 +1,72 @@
-use Rattle.std.proofs.Common.{◌≡◌, ℕ, ◌+◌, ◌-◌, ◌*◌, ◌/◌, ◌%◌, ◌<◌, ◌≤◌, length, slice_index, sym, subst, ap, ◌∙◌, arith}
+use Rattle.std.proofs.Common.{◌≡◌, ℕ, ◌+◌, ◌-◌, ◌*◌, ◌%◌, ◌<◌, ◌≤◌, length, slice_index, sym, subst, ap, ◌∙◌, arith}
+use Rattle.std.proofs.lemmas.Nat.{mod_below}
 use Rattle.sample_unpack.specs.Level.{code_at}
 use Rattle.value_codes.specs.Taken.{taken_of}
-use Rattle.value_codes.proofs.ByteLemmas.{levels-of-bytes, bytes-inside, behind-head, behind-bytes, each-of-three}
+use Rattle.value_codes.proofs.ByteLemmas.{some-step, behind-head, behind-bytes, each-of-three}
+use Rattle.value_codes.proofs.VectorLemmas.{bits-inside, levels-of-vectors, vectors-inside}
 use Rattle.value_codes.proofs.take.take_whole.Goals as goal
 
-pub take_bytes_by_width-requires-clause-inside : goal.take_bytes_by_width-requires-clause-inside
-take_bytes_by_width-requires-clause-inside c =
+pub take_vectors-requires-clause-low : goal.take_vectors-requires-clause-low
+take_vectors-requires-clause-low c i =
     let a = c.args in
-    let behind : ℕ = length a.codes.now - c.min-head.result in
-    bytes-inside (length a.array.now) a.byte a.shift a.bits a.step a.per (length a.codes.now) c.min-head.result (behind / a.per) c.requires.step c.requires.shift c.min-head.ensures c.requires.some
-    (omega (arith, c.requires.width)) (levels-of-bytes behind a.per) c.requires.inside
+    let below : a.shift % a.step < a.step = mod_below a.shift a.step (some-step a.per a.step c.requires.step) in
+    bits-inside (a.shift % a.step) a.step a.per i c.requires.step below
+
+pub overflow_add-byte : goal.overflow_add-byte
+overflow_add-byte c = omega (arith, c.requires.inside 0 c.requires.some)
 
 pub overflow_add-byte-2 : goal.overflow_add-byte-2
 overflow_add-byte-2 c = omega (arith, c.requires.inside 0 c.requires.some)
 
 pub overflow_add-byte-3 : goal.overflow_add-byte-3
 overflow_add-byte-3 c =
-    let a = c.args in
-    let behind : ℕ = length a.codes.now - c.min-head.result in
-    let inside : a.byte + 1 + behind / a.per ≤ length a.array.now =
-    bytes-inside (length a.array.now) a.byte a.shift a.bits a.step a.per (length a.codes.now) c.min-head.result (behind / a.per) c.requires.step c.requires.shift c.min-head.ensures c.requires.some
-    (omega (arith, c.requires.width)) (levels-of-bytes behind a.per) c.requires.inside in
-    omega (arith, inside)
+    omega (arith, c.requires.inside 0 c.requires.some, c.saturating_sub-room.ensures, vectors-inside c.args.step _ _ c.min-count.result c.min-count.ensures)
 
 pub take_each-requires-2-clause-inside : goal.take_each-requires-2-clause-inside
 take_each-requires-2-clause-inside c i h =
     let a = c.args in
     let n : ℕ = length a.codes.now in
     let head : ℕ = c.min-head.result in
-    let count : ℕ = (n - head) / a.per in
-    let behind : a.per * count + i < n - head =
-    omega (arith, h, c.split_at_mut-front.ensures.back_len, c.split_at_mut-middle.ensures.back_len) in
-    let place : 8 * a.byte + a.shift + (head + (a.per * count + i)) * a.step ≡ 8 * (a.byte + 1 + count) + a.shift % a.step + i * a.step =
-    behind-bytes a.byte a.shift a.step a.per n head count i c.requires.step c.requires.shift c.min-head.ensures behind in
-    subst (λ m. m + a.bits ≤ 8 * length a.array.now) place (c.requires.inside (head + (a.per * count + i)) (omega (arith, behind)))
+    let count : ℕ = c.min-count.result in
+    let bytes : ℕ = 2 * a.step * count in
+    let vectors : a.per * bytes ≡ 16 * count = levels-of-vectors a.step a.per count c.requires.step in
+    let behind : a.per * bytes + i < n - head =
+    omega (arith, h, vectors, c.split_at_mut-front.ensures.back_len, c.split_at_mut-middle.ensures.back_len) in
+    let place : 8 * a.byte + a.shift + (head + (a.per * bytes + i)) * a.step ≡ 8 * (a.byte + 1 + bytes) + a.shift % a.step + i * a.step =
+    behind-bytes a.byte a.shift a.step a.per n head bytes i c.requires.step c.requires.shift c.min-head.ensures behind in
+    subst (λ m. m + a.bits ≤ 8 * length a.array.now) place (c.requires.inside (head + (a.per * bytes + i)) (omega (arith, behind)))
 
 pub returns : goal.returns
 returns c i h =
     let a = c.args in
     let n : ℕ = length a.codes.now in
     let head : ℕ = c.min-head.result in
-    let count : ℕ = (n - head) / a.per in
-    let levels : a.per * count ≤ n - head = levels-of-bytes (n - head) a.per in
+    let count : ℕ = c.min-count.result in
+    let bytes : ℕ = 2 * a.step * count in
+    let vectors : a.per * bytes ≡ 16 * count = levels-of-vectors a.step a.per count c.requires.step in
+    let levels : 16 * count ≤ n - head = omega (arith, c.min-count.ensures) in
     let P : ℕ → ℕ → Type 0 = λ m code. code ≡ taken_of a.bits (code_at a.array.now a.bits (8 * a.byte + a.shift + m * a.step)) in
     let place : ℕ → ℕ = λ m. 8 * a.byte + a.shift + m * a.step in
     let front : length c.take_each.new.codes ≡ head = c.take_each.auto.codes ∙ c.split_at_mut-front.ensures.front_len in
-    let middle : length c.take_bytes_by_width.new.codes ≡ a.per * count = c.take_bytes_by_width.auto.codes ∙ c.split_at_mut-middle.ensures.front_len in
-    let rest : length c.take_each-2.new.codes ≡ n - head - a.per * count =
+    let middle : length c.take_vectors.new.codes ≡ 16 * count = c.take_vectors.auto.codes ∙ c.split_at_mut-middle.ensures.front_len in
+    let rest : length c.take_each-2.new.codes ≡ n - head - 16 * count =
     omega (arith, c.take_each-2.auto.codes, c.split_at_mut-front.ensures.back_len, c.split_at_mut-middle.ensures.back_len) in
-    let second : (k : ℕ) → k < length c.take_bytes_by_width.new.codes → P (length c.take_each.new.codes + k) (slice_index c.take_bytes_by_width.new.codes k) =
+    let second : (k : ℕ) → k < length c.take_vectors.new.codes → P (length c.take_each.new.codes + k) (slice_index c.take_vectors.new.codes k) =
     λ k within.
     let behind : k < n - head = omega (arith, within, middle, levels) in
     let there : place (length c.take_each.new.codes + k) ≡ 8 * (a.byte + 1) + a.shift % a.step + k * a.step =
     ap (λ m. place (m + k)) front ∙ behind-head a.byte a.shift a.step a.per n head k c.requires.step c.requires.shift c.min-head.ensures behind in
-    c.take_bytes_by_width.ensures k (subst (λ m. k < m) c.take_bytes_by_width.auto.codes within)
+    c.take_vectors.ensures k (subst (λ m. k < m) c.take_vectors.auto.codes within)
     ∙ ap (λ m. taken_of a.bits (code_at a.array.now a.bits m)) (sym there) in
-    let third : (k : ℕ) → k < length c.take_each-2.new.codes → P (length c.take_each.new.codes + (length c.take_bytes_by_width.new.codes + k)) (slice_index c.take_each-2.new.codes k) =
+    let third : (k : ℕ) → k < length c.take_each-2.new.codes → P (length c.take_each.new.codes + (length c.take_vectors.new.codes + k)) (slice_index c.take_each-2.new.codes k) =
     λ k within.
-    let behind : a.per * count + k < n - head = omega (arith, within, rest) in
-    let there : place (length c.take_each.new.codes + (length c.take_bytes_by_width.new.codes + k)) ≡ 8 * (a.byte + 1 + count) + a.shift % a.step + k * a.step =
-    ap (λ m. place (m + (length c.take_bytes_by_width.new.codes + k))) front ∙ ap (λ m. place (head + (m + k))) middle
-    ∙ behind-bytes a.byte a.shift a.step a.per n head count k c.requires.step c.requires.shift c.min-head.ensures behind in
+    let behind : a.per * bytes + k < n - head = omega (arith, within, rest, vectors) in
+    let there : place (length c.take_each.new.codes + (length c.take_vectors.new.codes + k)) ≡ 8 * (a.byte + 1 + bytes) + a.shift % a.step + k * a.step =
+    ap (λ m. place (m + (length c.take_vectors.new.codes + k))) front ∙ ap (λ m. place (head + (m + k))) (middle ∙ sym vectors)
+    ∙ behind-bytes a.byte a.shift a.step a.per n head bytes k c.requires.step c.requires.shift c.min-head.ensures behind in
     c.take_each-2.ensures k (subst (λ m. k < m) c.take_each-2.auto.codes within)
     ∙ ap (λ m. taken_of a.bits (code_at a.array.now a.bits m)) (sym there) in
-    let all : i < length c.take_each.new.codes + (length c.take_bytes_by_width.new.codes + length c.take_each-2.new.codes) =
+    let all : i < length c.take_each.new.codes + (length c.take_vectors.new.codes + length c.take_each-2.new.codes) =
     omega (arith, h, front, middle, rest, levels, c.min-head.ensures) in
-    each-of-three P c.take_each.new.codes c.take_bytes_by_width.new.codes c.take_each-2.new.codes
+    each-of-three P c.take_each.new.codes c.take_vectors.new.codes c.take_each-2.new.codes
     (λ k within. c.take_each.ensures k (subst (λ m. k < m) c.take_each.auto.codes within)) second third i all

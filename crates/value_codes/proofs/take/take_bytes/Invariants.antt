@@ -1,8 +1,0 @@
--- The codes of the bytes so far.
-use Rattle.std.proofs.Common.{◌≡◌, ◌+◌, ◌*◌, ◌<◌, ℕ, slice_index}
-use Rattle.sample_unpack.specs.Level.{code_at}
-use Rattle.value_codes.specs.Taken.{taken_of}
-use Rattle.value_codes.proofs.take.take_bytes.Given as goal
-
-abbrev pub invariant-loop-j : goal.invariant-loop-j
-invariant-loop-j l = (i : ℕ) → i < l.per * l.j → slice_index l.codes i ≡ taken_of l.bits (code_at l.array l.bits (8 * l.byte + l.low + i * l.step))

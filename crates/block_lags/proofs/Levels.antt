@@ -6,7 +6,7 @@ use Rattle.byte_lags.proofs.IntProducts.{int_add-mul}
 use Rattle.byte_lags.specs.Streams.{IsBiased}
 use Rattle.byte_lags.specs.declared.product.Stream.{Stream}
 use Rattle.byte_streams.specs.Values.{re_of, im_of}
-use Rattle.block_lags.specs.Sides.{number_in}
+use Rattle.byte_streams.specs.Rows.{number_in}
 use Rattle.block_lags.proofs.Products.{product-re, product-im}
 use Rattle.block_lags.proofs.IntFactors.{int_sub-mul, int_neg-mul, int_mul_assoc, int_mul_left_comm, int_mul-mul}
 

@@ -1,4 +1,3 @@
 pub mod Cells
 pub mod Counts
 pub mod Scans
-pub mod Sides

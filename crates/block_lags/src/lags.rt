@@ -1,79 +1,66 @@
-//! All lags of a stretch, block by block.
-ghost use Rattle.std.specs.Prelude.{◌≡◌, ◌<◌, ◌≤◌, ◌+◌, ◌*◌, ◌^◌, ℕ, ℤ, pos, ◌+ℤ◌, length, slice_index_or};
+//! All lags of a block.
+ghost use Rattle.std.specs.Prelude.{◌≡◌, ◌<◌, ◌≤◌, ◌+◌, ◌^◌, ℕ, ℤ, pos, ◌+ℤ◌, true, None, length, slice_index_or};
 ghost use Rattle.corr_model.specs.declared.cell.Pair.{Pair};
-ghost use Rattle.corr_model.specs.Cell.{Samples, cell_in};
+ghost use Rattle.corr_model.specs.Cell.{Samples, cell_in, no_cell};
 ghost use Rattle.byte_lags.specs.Streams.{AreWithin};
-ghost use Rattle.corr_model.specs.Cell.{no_cell};
-ghost use Rattle.byte_streams.specs.Streams.{value_in};
+ghost use Rattle.byte_streams.specs.Rows.{row_len, row_value};
 ghost use Rattle.block_lags.specs.Cells.{IsGrown, lag_cell};
 ghost use Rattle.block_lags.specs.Scans.{AreRows};
 
 use crate::counts::add_counts;
-use crate::cut::block_size;
 use crate::pairs::add_pairs;
-use crate::turning::BLOCK;
-use byte_streams::Streams;
+use crate::uniform::are_all;
+use byte_streams::Row;
 use corr_model::Cell;
 
-// Adds to each cell the pairs of a block.
-fn add_block(
-    first: &Streams,
-    second: &Streams,
-    numbers: &mut [u8],
-    sums: &mut [u32],
-    cells: &mut [Cell],
-)
-    requires size { length first.now.there.now ≤ BLOCK }
-    requires room { length first.now.there.now + length cells.old ≤ length second.now.there.now }
-    requires numbers { length second.now.there.now ≤ length numbers.old }
-    requires work { length sums.old ≡ length cells.old }
-    requires within { AreWithin (2 ^ 62 + 2 ^ 60) cells.old }
-    ensures len { length cells.new ≡ length cells.old }
-    ensures work { length sums.new ≡ length sums.old }
-    ensures numbers { length numbers.new ≡ length numbers.old }
-    ensures grown { (i : ℕ) → i < length cells.old
-        → IsGrown (lag_cell (value_in first.now) (value_in second.now) i (length first.now.there.now)) (slice_index_or cells.old i no_cell) (slice_index_or cells.new i no_cell) }
-    ensures within { (most : ℕ) → AreWithin most cells.old → AreWithin (most + 2 ^ 36) cells.new }
+// Whether a row has no value.
+fn is_empty(row: &Row) -> bool
+    ensures { result ≡ true → (k : ℕ) → k < row_len row.now → row_value row.now k ≡ None }
 {
-    add_pairs(
-        first,
-        second,
-        &mut numbers[..second.there.len()],
-        sums,
-        cells,
-    );
-    add_counts(first.there, second.there, sums, cells);
+    match row {
+        Row::Turning(streams) => are_all(streams.there, 0),
+        Row::Still(levels) => levels.level.bytes.is_empty(),
+    }
 }
 
-/// Adds to each cell the pairs of the first values, at most 2^24, and the second values, these as many places on as the cell's number. The second row
-/// begins where the first lag has the first sample's pair, and goes on to the last sample's pair at the last lag, and one place
-/// further; where there is no sample, as outside a scan, its streams hold none. `sums` has a place for each cell, and `numbers`
-/// 4,096 and one for each cell; both are overwritten.
-pub fn add_lags(
-    first: &Streams,
-    second: &Streams,
-    numbers: &mut [u8],
-    sums: &mut [u32],
-    cells: &mut [Cell],
-)
-    requires size { length first.now.there.now ≤ 2 ^ 24 }
-    requires room { length first.now.there.now + length cells.old ≤ length second.now.there.now }
-    requires numbers { 4096 + length cells.old ≤ length numbers.old }
+// Adds to each cell the pairs of a block.
+fn add_block(first: &Row, second: &Row, numbers: &mut [u8], sums: &mut [u32], cells: &mut [Cell])
+    requires size { row_len first.now ≤ 4096 }
+    requires room { row_len first.now + length cells.old ≤ row_len second.now }
+    requires wide { row_len second.now ≤ 5120 }
+    requires numbers { row_len second.now ≤ length numbers.old }
     requires work { length sums.old ≡ length cells.old }
     requires within { AreWithin (2 ^ 62) cells.old }
     ensures len { length cells.new ≡ length cells.old }
     ensures grown { (i : ℕ) → i < length cells.old
-        → IsGrown (lag_cell (value_in first.now) (value_in second.now) i (length first.now.there.now)) (slice_index_or cells.old i no_cell) (slice_index_or cells.new i no_cell) }
-    ensures scan { (z : Samples) (pair : Pair) (samples from : ℕ) (least : ℤ) → AreRows z pair samples from least first.now second.now → (i : ℕ) → i < length cells.old
-        → IsGrown (cell_in z pair samples (least +ℤ pos i) from (from + length first.now.there.now)) (slice_index_or cells.old i no_cell) (slice_index_or cells.new i no_cell) }
+        → IsGrown (lag_cell (row_value first.now) (row_value second.now) i (row_len first.now)) (slice_index_or cells.old i no_cell) (slice_index_or cells.new i no_cell) }
 {
-    let count = first.there.len();
-    let mut at = 0;
-    while at < count {
-        let size = block_size(first, second, at, cells.len());
-        let here = first.part(at, size);
-        let there = second.part(at, size + cells.len());
-        add_block(&here, &there, numbers, sums, cells);
-        at += size;
+    add_pairs(first, second, &mut numbers[..second.len()], sums, cells);
+    add_counts(first, second, sums, cells);
+}
+
+/// Adds to each cell the pairs of a block of at most 4,096 values and the second values, these as many places on as the cell's number.
+/// The second row begins where the first lag has the first sample's pair, and goes on to the last sample's pair at the last lag, and
+/// one place further; where there is no sample, as outside a scan, it has no value. A row without a value costs nothing. `sums` has a place for each cell, and `numbers`
+/// one for each of the second values; both are overwritten.
+pub fn add_lags(first: &Row, second: &Row, numbers: &mut [u8], sums: &mut [u32], cells: &mut [Cell])
+    requires size { row_len first.now ≤ 4096 }
+    requires room { row_len first.now + length cells.old ≤ row_len second.now }
+    requires wide { row_len second.now ≤ 5120 }
+    requires numbers { row_len second.now ≤ length numbers.old }
+    requires work { length sums.old ≡ length cells.old }
+    requires within { AreWithin (2 ^ 62) cells.old }
+    ensures len { length cells.new ≡ length cells.old }
+    ensures grown { (i : ℕ) → i < length cells.old
+        → IsGrown (lag_cell (row_value first.now) (row_value second.now) i (row_len first.now)) (slice_index_or cells.old i no_cell) (slice_index_or cells.new i no_cell) }
+    ensures scan { (z : Samples) (pair : Pair) (samples from : ℕ) (least : ℤ) → AreRows z pair samples from least first.now second.now → (i : ℕ) → i < length cells.old
+        → IsGrown (cell_in z pair samples (least +ℤ pos i) from (from + row_len first.now)) (slice_index_or cells.old i no_cell) (slice_index_or cells.new i no_cell) }
+{
+    if is_empty(first) {
+        return;
     }
+    if is_empty(second) {
+        return;
+    }
+    add_block(first, second, numbers, sums, cells);
 }

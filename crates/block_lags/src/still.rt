@@ -3,12 +3,12 @@ ghost use Rattle.std.specs.Prelude.{◌≡◌, ◌<◌, ◌≤◌, ◌+◌, ◌*
 ghost use Rattle.byte_lags.specs.Streams.{AreWithin, IsUnit, IsWeight};
 ghost use Rattle.corr_model.specs.Cell.{no_cell};
 ghost use Rattle.byte_streams.specs.Streams.{value_in};
+ghost use Rattle.byte_streams.specs.Rows.{level_value};
 ghost use Rattle.block_lags.specs.Cells.{HasProducts, lag_cell};
 
-use crate::side::Side;
 use crate::turning::BLOCK;
 use byte_lags::{Weights, add_products};
-use byte_streams::Streams;
+use byte_streams::{Levels, Streams};
 use corr_model::Cell;
 
 // The weights of a product of two directions, of which the second one is conjugate.
@@ -66,18 +66,18 @@ fn exchanged(d: Weights) -> Weights
 }
 
 /// Adds to each cell the products of two rows that each have one direction.
-pub(crate) fn add_levels(a: &Side, b: &Side, greatest: u8, sums: &mut [u32], cells: &mut [Cell])
+pub(crate) fn add_levels(a: &Levels, b: &Levels, greatest: u8, sums: &mut [u32], cells: &mut [Cell])
     requires greatest { greatest ≤ 60 }
-    requires first { 4 * a.now.row.bias ≤ greatest }
-    requires second { 4 * b.now.row.bias ≤ greatest }
-    requires size { length a.now.row.there.now ≤ BLOCK }
-    requires room { length a.now.row.there.now + length cells.old ≤ length b.now.row.there.now }
+    requires first { 4 * a.now.level.bias ≤ greatest }
+    requires second { 4 * b.now.level.bias ≤ greatest }
+    requires size { length a.now.level.bytes.now ≤ BLOCK }
+    requires room { length a.now.level.bytes.now + length cells.old ≤ length b.now.level.bytes.now }
     requires work { length sums.old ≡ length cells.old }
     requires within { AreWithin (2 ^ 62 + 2 ^ 60) cells.old }
     ensures len { length cells.new ≡ length cells.old }
     ensures work { length sums.new ≡ length sums.old }
     ensures products { (i : ℕ) → i < length cells.old
-        → HasProducts (lag_cell (value_in a.now.row) (value_in b.now.row) i (length a.now.row.there.now)) (slice_index_or cells.old i no_cell) (slice_index_or cells.new i no_cell) }
+        → HasProducts (lag_cell (level_value a.now) (level_value b.now) i (length a.now.level.bytes.now)) (slice_index_or cells.old i no_cell) (slice_index_or cells.new i no_cell) }
     ensures within { (most : ℕ) → AreWithin most cells.old → AreWithin (most + 3 * 2 ^ 34) cells.new }
 {
     add_products(
@@ -92,23 +92,23 @@ pub(crate) fn add_levels(a: &Side, b: &Side, greatest: u8, sums: &mut [u32], cel
 
 /// Adds to each cell the products of a row that has one direction and another one.
 pub(crate) fn add_with_level(
-    a: &Side,
+    a: &Levels,
     second: &Streams,
     greatest: u8,
     sums: &mut [u32],
     cells: &mut [Cell],
 )
     requires greatest { greatest ≤ 60 }
-    requires first { 4 * a.now.row.bias ≤ greatest }
+    requires first { 4 * a.now.level.bias ≤ greatest }
     requires second { 4 * second.now.bias ≤ greatest }
-    requires size { length a.now.row.there.now ≤ BLOCK }
-    requires room { length a.now.row.there.now + length cells.old ≤ length second.now.there.now }
+    requires size { length a.now.level.bytes.now ≤ BLOCK }
+    requires room { length a.now.level.bytes.now + length cells.old ≤ length second.now.there.now }
     requires work { length sums.old ≡ length cells.old }
     requires within { AreWithin (2 ^ 62 + 2 ^ 60) cells.old }
     ensures len { length cells.new ≡ length cells.old }
     ensures work { length sums.new ≡ length sums.old }
     ensures products { (i : ℕ) → i < length cells.old
-        → HasProducts (lag_cell (value_in a.now.row) (value_in second.now) i (length a.now.row.there.now)) (slice_index_or cells.old i no_cell) (slice_index_or cells.new i no_cell) }
+        → HasProducts (lag_cell (level_value a.now) (value_in second.now) i (length a.now.level.bytes.now)) (slice_index_or cells.old i no_cell) (slice_index_or cells.new i no_cell) }
     ensures within { (most : ℕ) → AreWithin most cells.old → AreWithin (most + 3 * 2 ^ 34) cells.new }
 {
     add_products(
@@ -132,22 +132,22 @@ pub(crate) fn add_with_level(
 /// Adds to each cell the products of a row and another one that has one direction.
 pub(crate) fn add_to_level(
     first: &Streams,
-    b: &Side,
+    b: &Levels,
     greatest: u8,
     sums: &mut [u32],
     cells: &mut [Cell],
 )
     requires greatest { greatest ≤ 60 }
     requires first { 4 * first.now.bias ≤ greatest }
-    requires second { 4 * b.now.row.bias ≤ greatest }
+    requires second { 4 * b.now.level.bias ≤ greatest }
     requires size { length first.now.there.now ≤ BLOCK }
-    requires room { length first.now.there.now + length cells.old ≤ length b.now.row.there.now }
+    requires room { length first.now.there.now + length cells.old ≤ length b.now.level.bytes.now }
     requires work { length sums.old ≡ length cells.old }
     requires within { AreWithin (2 ^ 62 + 2 ^ 60) cells.old }
     ensures len { length cells.new ≡ length cells.old }
     ensures work { length sums.new ≡ length sums.old }
     ensures products { (i : ℕ) → i < length cells.old
-        → HasProducts (lag_cell (value_in first.now) (value_in b.now.row) i (length first.now.there.now)) (slice_index_or cells.old i no_cell) (slice_index_or cells.new i no_cell) }
+        → HasProducts (lag_cell (value_in first.now) (level_value b.now) i (length first.now.there.now)) (slice_index_or cells.old i no_cell) (slice_index_or cells.new i no_cell) }
     ensures within { (most : ℕ) → AreWithin most cells.old → AreWithin (most + 3 * 2 ^ 34) cells.new }
 {
     add_products(

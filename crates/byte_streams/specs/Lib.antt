@@ -1,2 +1,4 @@
 pub mod Values
 pub mod Streams
+pub mod Levels
+pub mod Rows

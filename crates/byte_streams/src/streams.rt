@@ -46,19 +46,4 @@ impl<'a> Streams<'a> {
             bias: self.bias,
         }
     }
-
-    /// `count` samples from place `at` on.
-    pub fn part(&self, at: usize, count: usize) -> Streams<'a>
-        requires inside { at + count ≤ length self.now.there.now }
-        ensures len { length result.there.now ≡ count }
-        ensures bias { result.bias ≡ self.now.bias }
-        ensures values { (k : ℕ) → k < count → value_in result k ≡ value_in self.now (at + k) }
-    {
-        Streams {
-            re: &self.re[at..at + count],
-            im: &self.im[at..at + count],
-            there: &self.there[at..at + count],
-            bias: self.bias,
-        }
-    }
 }

@@ -1,6 +1,6 @@
 -- Rows of values: what is cut out of them, how large it is, and the cells that it gives.
-use Rattle.std.specs.Prelude.{◌==◌, IfSome, if◌then◌else◌}
-use Rattle.std.proofs.Common.{◌≡◌, ℕ, zero, suc, ◌+◌, ◌-◌, ◌*◌, ◌/◌, ◌%◌, min, ◌<◌, ◌≤◌, Bool, true, false, List, length, get_or, take, ℤ, pos, negsuc, ◌+ℤ◌, ◌-ℤ◌, Some, None, refl, sym, subst, ap, ap₂, ◌∙◌, arith, inl, inr}
+use Rattle.std.specs.Prelude.{IfSome, if◌then◌else◌}
+use Rattle.std.proofs.Common.{◌≡◌, ℕ, zero, suc, ◌+◌, ◌-◌, ◌/◌, min, ◌<◌, ◌≤◌, Bool, true, false, List, length, get_or, take, ℤ, pos, negsuc, ◌+ℤ◌, ◌-ℤ◌, Some, None, refl, sym, subst, ap, ap₂, ◌∙◌, arith, inl, inr}
 use Rattle.std.proofs.Math.Dec.{leb}
 use Rattle.std.proofs.lemmas.Bool.{cases_lt, and_right, lt-leb}
 use Rattle.std.proofs.lemmas.Int.{ints}
@@ -8,8 +8,8 @@ use Rattle.std.proofs.lemmas.List.{get_or-take, get_or_past, get_or_default, len
 use Rattle.block_lags.specs.Cells.{IsGrown as HasMore}
 use Rattle.block_lags.specs.Scans.{AreRows}
 use Rattle.bit_planes.specs.Planes.{PlanesFields, plane_value}
-use Rattle.byte_streams.specs.Streams.{value_in}
-use Rattle.byte_streams.specs.declared.streams.Streams.{Streams}
+use Rattle.byte_streams.specs.Rows.{row_len, row_value as block_value}
+use Rattle.byte_streams.specs.declared.row.Row.{Row as BlockRow}
 use Rattle.packed_values.specs.From.{value_from}
 use Rattle.packed_values.specs.Packed.{values_of}
 use Rattle.packed_values.proofs.Small.{value_from-small}
@@ -84,11 +84,11 @@ adds-grown more old new n m adds grown each k d h =
     subst (λ (c : Cell). IsGrown c (n + m)) (sym (adds k d h)) (IsGrown-plus (get_or old k d) (more k) n m (grown k d h) (each k))
 
 -- values of two rows hold the samples of the scan
-pub rows-are : (a b : Row) (samples at : ℕ) (least start : ℤ) (s t : Streams)
-    → at + length s.there.now ≤ samples
+pub rows-are : (a b : Row) (samples at : ℕ) (least start : ℤ) (s t : BlockRow)
+    → at + row_len s ≤ samples
     → start ≡ pos at +ℤ least
-    → ((k : ℕ) → k < length s.there.now → value_in s k ≡ row_inside a samples (pos at +ℤ pos k))
-    → ((k : ℕ) → k < length t.there.now → value_in t k ≡ row_inside b samples (start +ℤ pos k))
+    → ((k : ℕ) → k < row_len s → block_value s k ≡ row_inside a samples (pos at +ℤ pos k))
+    → ((k : ℕ) → k < row_len t → block_value t k ≡ row_inside b samples (start +ℤ pos k))
     → AreRows (row_samples a b) plane_pair samples at least s t
 rows-are a b samples at least start s t inside begin first second = record {
   first = λ k lt.
@@ -150,11 +150,11 @@ inside-value r samples held p n (pos k) is least same =
     ]
 
 -- what is cut out of a row's values inside the scan
-pub cut-values : (r : Row) (samples count : ℕ) (values : List Value) (p : Streams) (place n : ℤ)
+pub cut-values : (r : Row) (samples count : ℕ) (values : List Value) (p : BlockRow) (place n : ℤ)
     → ((m : ℤ) → value_from values (m -ℤ pos r.from) ≡ row_inside r samples m)
-    → ((k : ℕ) → k < count → value_in p k ≡ value_from values (place +ℤ pos k))
+    → ((k : ℕ) → k < count → block_value p k ≡ value_from values (place +ℤ pos k))
     → place ≡ n -ℤ pos r.from
-    → (k : ℕ) → k < count → value_in p k ≡ row_inside r samples (n +ℤ pos k)
+    → (k : ℕ) → k < count → block_value p k ≡ row_inside r samples (n +ℤ pos k)
 cut-values r samples count values p place n inside cut is k lt =
     let here : place +ℤ pos k ≡ (n +ℤ pos k) -ℤ pos r.from = omega (arith, ints, is) in
     cut k lt ∙ ap (value_from values) here ∙ inside (n +ℤ pos k)

@@ -7,6 +7,7 @@
 #![tactic(auto)]
 
 mod block;
+mod cut;
 mod lags;
 mod parts;
 mod planes;

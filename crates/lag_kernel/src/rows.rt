@@ -1,7 +1,7 @@
 //! All lags of a range, from rows of values.
-ghost use Rattle.std.specs.Prelude.{◌≡◌, ℕ, ℤ, ◌+◌, ◌-◌, ◌<◌, ◌≤◌, ◌^◌, ◌+ℤ◌, ◌-ℤ◌, pos, unsigned_abs, length, map, slice_index_or};
+ghost use Rattle.std.specs.Prelude.{◌≡◌, ℕ, ℤ, ◌+◌, ◌-◌, ◌<◌, ◌≤◌, ◌/◌, ◌^◌, ◌+ℤ◌, ◌-ℤ◌, pos, unsigned_abs, length, map, slice_index_or};
 ghost use Rattle.std.specs.List.{range_with_len};
-ghost use Rattle.byte_streams.specs.Streams.{value_in};
+ghost use Rattle.byte_streams.specs.Rows.{row_len, row_value as block_value};
 ghost use Rattle.packed_values.specs.From.{value_from};
 ghost use Rattle.packed_values.specs.Packed.{values_of};
 ghost use Rattle.corr_model.specs.declared.cell.Cell.{Cell};
@@ -12,15 +12,13 @@ ghost use Rattle.lag_kernel.specs.Held.{AddsEach};
 ghost use Rattle.lag_kernel.specs.Planes.{plane_pair};
 ghost use Rattle.lag_kernel.specs.Rows.{row_inside, row_samples};
 
+use crate::cut::{BLOCK, block_size};
 use crate::lags::clear;
 use crate::row::Row;
 use block_lags::add_lags;
-use byte_streams::Streams;
+use byte_streams::Row as BlockRow;
 use corr_model::Cell;
 use packed_values::Packed;
-
-/// The samples of a block.
-const BLOCK: u64 = 4096;
 
 /// The most lags.
 const LAGS: usize = 1024;
@@ -66,25 +64,51 @@ impl Room {
     }
 }
 
-// The streams of `count` values from place `start` on; there is none before the first place and past the last one.
-fn cut_out<'r>(row: &Packed<'_>, start: i64, count: usize, room: &'r mut Cut) -> Streams<'r>
+// The row of `count` values from place `start` on; there is none before the first place and past the last one.
+fn cut_out<'r>(row: &Packed<'_>, start: i64, count: usize, room: &'r mut Cut) -> BlockRow<'r>
     requires few { count ≤ WIDE }
     requires place { unsigned_abs start ≤ 2 ^ 41 }
     requires size { length (values_of row.now) ≤ 2 ^ 40 }
-    ensures len { length result.there.now ≡ count }
-    ensures values { (k : ℕ) → k < count → value_in result k ≡ value_from (values_of row.now) (start +ℤ pos k) }
+    ensures len { row_len result ≡ count }
+    ensures values { (k : ℕ) → k < count → block_value result k ≡ value_from (values_of row.now) (start +ℤ pos k) }
 {
     let re = &mut room.re;
     let im = &mut room.im;
     let there = &mut room.there;
-    let (re, im, there) = (&mut re[..count], &mut im[..count], &mut there[..count]);
-    let bias = row.unpack_from(start, re, im, there);
-    Streams {
-        re,
-        im,
-        there,
-        bias,
-    }
+    row.row_from(
+        start,
+        &mut re[..count],
+        &mut im[..count],
+        &mut there[..count],
+    )
+}
+
+// The place of sample `at` in the first row, and that of its pair at the first lag in the second row.
+fn places(a: &Row, b: &Row, at: u64, lags: usize) -> (i64, i64)
+    requires sample { at ≤ 2 ^ 40 }
+    requires lags { lags ≤ 1024 }
+    ensures first { result.0 ≡ pos at -ℤ pos a.now.from }
+    ensures second { result.1 ≡ (pos at -ℤ pos (lags / 2)) -ℤ pos b.now.from }
+    ensures small { (unsigned_abs result.0 ≤ 2 ^ 40 + 2 ^ 20) × (unsigned_abs result.1 ≤ 2 ^ 40 + 2 ^ 20) }
+{
+    let at = at as i64;
+    (at - a.from as i64, at - (lags / 2) as i64 - b.from as i64)
+}
+
+// The sample behind the block that begins with sample `at`.
+fn next_stop(a: &Row, b: &Row, at: u64, to: u64, samples: u64, lags: usize) -> u64
+    requires lags { lags ≤ 1024 }
+    requires order { at < to }
+    requires inside { to ≤ samples }
+    requires scan { samples ≤ 2 ^ 40 }
+    ensures some { at < result }
+    ensures block { result ≤ at + 4096 }
+    ensures most { result ≤ to }
+{
+    let most = BLOCK.min((to - at) as usize);
+    let (place, other) = places(a, b, at, lags);
+    let (mine, theirs) = (a.inside(samples), b.inside(samples));
+    at + block_size(&mine, place, &theirs, other, lags, most) as u64
 }
 
 /// Sets `out[i]` to the cell of lag `i - L/2`, `L` being the length of `out`, from the rows of the first station and the second one.
@@ -101,7 +125,7 @@ pub(crate) fn row_lags(a: &Row, b: &Row, from: u64, to: u64, samples: u64, out: 
     let mut room = Room::new();
     let mut at = from;
     while at < to {
-        let stop = (at + BLOCK).min(to);
+        let stop = next_stop(a, b, at, to, samples, out.len());
         add_block(a, b, at, stop, samples, at - from, &mut room, out);
         at = stop;
     }
@@ -130,8 +154,7 @@ fn add_block(
     ensures grown { (k : ℕ) (d : Cell) → k < length out.old → IsGrown (slice_index_or out.new k d) (pairs + (stop - at)) }
 {
     let (len, lags) = ((stop - at) as usize, out.len());
-    let place = at as i64 - a.from as i64;
-    let other = at as i64 - (lags / 2) as i64 - b.from as i64;
+    let (place, other) = places(a, b, at, lags);
     let (mine, theirs) = (a.inside(samples), b.inside(samples));
     let first = cut_out(&mine, place, len, &mut room.first);
     let second = cut_out(&theirs, other, len + lags, &mut room.second);

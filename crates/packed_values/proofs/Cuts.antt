@@ -1,10 +1,11 @@
 -- The words of a row, also before its first place and past its last one, and their values.
-use Rattle.std.proofs.Common.{◌≡◌, ℕ, ◌+◌, ◌-◌, ◌<◌, ◌≤◌, min, List, ◌++◌, length, map, take, drop, get_or, ℤ, pos, negsuc, ◌+ℤ◌, ◌<ℤ◌, None, refl, sym, subst, ap, ◌∙◌, arith, inl, inr}
+use Rattle.std.proofs.Common.{◌≡◌, ℕ, ◌+◌, ◌-◌, ◌<◌, ◌≤◌, min, List, ◌++◌, length, map, take, drop, get_or, ℤ, pos, negsuc, ◌+ℤ◌, ◌-ℤ◌, ◌<ℤ◌, None, refl, sym, subst, ap, ◌∙◌, arith, inl, inr}
 use Rattle.std.proofs.lemmas.Bool.{cases_lt}
 use Rattle.std.proofs.lemmas.Int.{ints}
 use Rattle.std.proofs.lemmas.List.{get_or_past, get_or_default, get_or-map, length-map, get_or_append_left, get_or-append-add, get_or-take, get_or-drop, length-take-le, length-append, length-drop}
 use borrow.Rule.Slice.PartMut.{post_of}
 use Rattle.corr_model.specs.Cell.{Value}
+use Rattle.value_codes.specs.Codes.{value_of}
 use Rattle.packed_values.specs.From.{value_from}
 use Rattle.packed_values.specs.Words.{word_at}
 
@@ -83,64 +84,90 @@ pub record Filled (g : ℕ → ℕ) (outside first last n : ℕ) (inside xs ys :
   pub long_part : length ys ≡ length inside
   pub part : (k : ℕ) → k < length inside → get_or ys k 0 ≡ g (get_or inside k 0)
 
+-- The codes of a cut of n places, from place `first` up to, not including, `last`
+module _ (codes : List ℕ) (first last n : ℕ) (is_last : last ≡ first + length codes) (room : last ≤ n) where
+  pub code-before : (k : ℕ) → k < first → word_at codes 0 (pos k -ℤ pos first) ≡ 0
+  code-before k lt = word_at-before codes 0 (pos k -ℤ pos first) (omega (arith, ints, lt))
+
+  pub code-past : (k : ℕ) → last ≤ k → word_at codes 0 (pos k -ℤ pos first) ≡ 0
+  code-past k le = word_at-past codes 0 (k - first) (pos k -ℤ pos first) (omega (arith, ints, is_last, le)) (omega (arith, is_last, le))
+
+  pub code-inside : (k : ℕ) → k < length codes → get_or codes k 0 ≡ word_at codes 0 (pos (first + k) -ℤ pos first)
+  code-inside k lt = word_at-inside codes 0 k (pos (first + k) -ℤ pos first) (omega (arith, ints)) lt
+
+  module _ (g : ℕ → ℕ) (outside : ℕ) (xs ys : List ℕ) (outside_is : g 0 ≡ outside) (filled : Filled g outside first last n codes xs ys) where
+    long : length ys ≡ last - first
+    long = omega (arith, filled.long_part, is_last)
+
+    pub length-filled : length (take first xs ++ (ys ++ post_of first (last - first) xs)) ≡ n
+    length-filled = length-part xs ys first last (omega (arith, is_last)) (omega (arith, filled.long, room)) long ∙ filled.long
+
+    pub filled-at : (k : ℕ) → k < n → get_or (take first xs ++ (ys ++ post_of first (last - first) xs)) k 0 ≡ g (word_at codes 0 (pos k -ℤ pos first))
+    filled-at k lt =
+        part-all xs ys first last (omega (arith, is_last)) (omega (arith, filled.long, room)) long (λ j. g (word_at codes 0 (pos j -ℤ pos first)))
+        (λ j l. filled.before j l ∙ sym outside_is ∙ ap g (sym (code-before j l)))
+        (λ j le l. filled.behind j le (omega (arith, l, filled.long)) ∙ sym outside_is ∙ ap g (sym (code-past j le)))
+        (λ j l. let within : j < length codes = omega (arith, l, is_last) in filled.part j within ∙ ap g (code-inside j within))
+        k (omega (arith, lt, filled.long))
+
 -- The codes of a cut of n places from `start` on: those from `first` up to, not including, `last` lie in the row, from place `from` on.
 module _
     (codes : List ℕ) (start : ℤ) (before place from first last n : ℕ) (negative : (k : ℕ) → k < before → (start +ℤ pos k) <ℤ pos 0)
     (at : pos place ≡ start +ℤ pos before) (is_from : from ≡ min place (length codes)) (is_first : first ≡ min before n)
     (is_last : last ≡ min (first + (length codes - from)) n) where
-  pub code-before : (k : ℕ) → k < first → word_at codes 0 (start +ℤ pos k) ≡ 0
-  code-before k lt = word_at-before codes 0 (start +ℤ pos k) (negative k (omega (arith, is_first, lt)))
+  abbrev inside : List ℕ
+  inside = take ((from + (last - first)) - from) (drop from codes)
 
-  pub code-past : (k : ℕ) → last ≤ k → k < n → word_at codes 0 (start +ℤ pos k) ≡ 0
-  code-past k le lt =
-      let from_before : before ≤ k = omega (arith, is_first, is_last, le, lt) in
-      word_at-past codes 0 (place + (k - before)) (start +ℤ pos k) (omega (arith, ints, at, from_before)) (omega (arith, is_from, is_first, is_last, le, lt))
-
-  pub code-inside : (k : ℕ) → k < last - first → get_or codes (from + k) 0 ≡ word_at codes 0 (start +ℤ pos (first + k))
-  code-inside k lt =
-      let same_place : from ≡ place = omega (arith, is_from, is_last, lt) in
-      let same_first : first ≡ before = omega (arith, is_first, is_last, lt) in
-      word_at-inside codes 0 (from + k) (start +ℤ pos (first + k)) (omega (arith, ints, at, same_place, same_first)) (omega (arith, is_from, is_last, lt))
-
-  -- what holds of 0 and of the codes in the row holds of each
-  pub code-all : (P : ℕ → Type 0) → P 0 → ((k : ℕ) → k < last - first → P (get_or codes (from + k) 0)) → (k : ℕ) → k < n → P (word_at codes 0 (start +ℤ pos k))
-  code-all P outside each k lt =
-      elim (cases_lt k first) [
-        | inl l ↦ subst P (sym (code-before k l)) outside
-        | inr m ↦
-            elim (cases_lt k last) [
-              | inl within ↦
-                  let back : first + (k - first) ≡ k = omega (arith, m) in
-                  let inside : k - first < last - first = omega (arith, m, within) in
-                  subst (λ j. P (word_at codes 0 (start +ℤ pos j))) back (subst P (code-inside (k - first) inside) (each (k - first) inside))
-              | inr past ↦ subst P (sym (code-past k past lt)) outside
-            ]
-      ]
-
-  pub length-inside : length (take ((from + (last - first)) - from) (drop from codes)) ≡ last - first
+  pub length-inside : length inside ≡ last - first
   length-inside =
       let room : (from + (last - first)) - from ≤ length (drop from codes) = omega (arith, length-drop from codes, is_from, is_last) in
       omega (arith, length-take-le ((from + (last - first)) - from) (drop from codes) room)
 
-  pub get_or-inside : (k : ℕ) → k < last - first → get_or (take ((from + (last - first)) - from) (drop from codes)) k 0 ≡ get_or codes (from + k) 0
-  get_or-inside k lt = get_or-take ((from + (last - first)) - from) (drop from codes) k 0 (omega (arith, lt)) ∙ get_or-drop from codes k 0
+  row-before : (k : ℕ) → k < first → word_at codes 0 (start +ℤ pos k) ≡ 0
+  row-before k lt = word_at-before codes 0 (start +ℤ pos k) (negative k (omega (arith, is_first, lt)))
 
-  order : first ≤ last
-  order = omega (arith, is_first, is_last)
+  row-past : (k : ℕ) → last ≤ k → k < n → word_at codes 0 (start +ℤ pos k) ≡ 0
+  row-past k le lt =
+      let from_before : before ≤ k = omega (arith, is_first, is_last, le, lt) in
+      word_at-past codes 0 (place + (k - before)) (start +ℤ pos k) (omega (arith, ints, at, from_before)) (omega (arith, is_from, is_first, is_last, le, lt))
 
-  module _
-      (g : ℕ → ℕ) (outside : ℕ) (xs ys : List ℕ) (outside_is : g 0 ≡ outside)
-      (filled : Filled g outside first last n (take ((from + (last - first)) - from) (drop from codes)) xs ys) where
-    room : last ≤ length xs
-    room = omega (arith, filled.long, is_last)
+  row-inside : (k : ℕ) → k < last - first → get_or inside k 0 ≡ word_at codes 0 (start +ℤ pos (first + k))
+  row-inside k lt =
+      let same_place : from ≡ place = omega (arith, is_from, is_last, lt) in
+      let same_first : first ≡ before = omega (arith, is_first, is_last, lt) in
+      get_or-take ((from + (last - first)) - from) (drop from codes) k 0 (omega (arith, lt))
+      ∙ get_or-drop from codes k 0
+      ∙ word_at-inside codes 0 (from + k) (start +ℤ pos (first + k)) (omega (arith, ints, at, same_place, same_first)) (omega (arith, is_from, is_last, lt))
 
-    pub length-filled : length (take first xs ++ (ys ++ post_of first (last - first) xs)) ≡ n
-    length-filled = length-part xs ys first last order room (filled.long_part ∙ length-inside) ∙ filled.long
+  ends : last ≡ first + length inside
+  ends = omega (arith, length-inside, is_first, is_last)
 
-    pub filled-at : (k : ℕ) → k < n → get_or (take first xs ++ (ys ++ post_of first (last - first) xs)) k 0 ≡ g (word_at codes 0 (start +ℤ pos k))
-    filled-at k lt =
-        part-all xs ys first last order room (filled.long_part ∙ length-inside) (λ j. g (word_at codes 0 (start +ℤ pos j)))
-        (λ j l. filled.before j l ∙ sym outside_is ∙ ap g (sym (code-before j l)))
-        (λ j le l. filled.behind j le (omega (arith, l, filled.long)) ∙ sym outside_is ∙ ap g (sym (code-past j le (omega (arith, l, filled.long)))))
-        (λ j l. filled.part j (omega (arith, l, length-inside)) ∙ ap g (get_or-inside j l ∙ code-inside j l))
-        k (omega (arith, lt, filled.long))
+  -- the code at a place
+  pub code-cut : (k : ℕ) → k < n → word_at inside 0 (pos k -ℤ pos first) ≡ word_at codes 0 (start +ℤ pos k)
+  code-cut k lt =
+      let room : last ≤ n = omega (arith, is_last) in
+      elim (cases_lt k first) [
+        | inl l ↦ code-before inside first last n ends room k l ∙ sym (row-before k l)
+        | inr m ↦
+            elim (cases_lt k last) [
+              | inl within ↦
+                  let back : first + (k - first) ≡ k = omega (arith, m) in
+                  let part : k - first < last - first = omega (arith, m, within) in
+                  subst (λ j. word_at inside 0 (pos j -ℤ pos first) ≡ word_at codes 0 (start +ℤ pos j)) back
+                  (sym (code-inside inside first last n ends room (k - first) (omega (arith, part, length-inside))) ∙ row-inside (k - first) part)
+              | inr past ↦ code-past inside first last n ends room k past ∙ sym (row-past k past lt)
+            ]
+      ]
+
+-- the values of codes that are those of a row from `start` on
+module _
+    (inside codes : List ℕ) (first n : ℕ) (start : ℤ)
+    (same : (k : ℕ) → k < n → word_at inside 0 (pos k -ℤ pos first) ≡ word_at codes 0 (start +ℤ pos k)) where
+  pub cut-value : (k : ℕ) → k < n → value_of (word_at inside 0 (pos k -ℤ pos first)) ≡ value_from (map value_of codes) (start +ℤ pos k)
+  cut-value k lt = ap value_of (same k lt) ∙ value_from-word value_of codes 0 refl (start +ℤ pos k)
+
+  -- where all places lie in the row
+  pub whole-value : first + length inside ≤ n → length inside ≡ n → (k : ℕ) → k < n
+      → value_of (get_or inside k 0) ≡ value_from (map value_of codes) (start +ℤ pos k)
+  whole-value room whole k lt =
+      ap value_of (word_at-inside inside 0 k (pos k -ℤ pos first) (omega (arith, ints, room, whole)) (omega (arith, whole, lt))) ∙ cut-value k lt

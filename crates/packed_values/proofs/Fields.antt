@@ -1,15 +1,13 @@
 -- The streams of words and of codes.
-use Rattle.std.proofs.Common.{◌≡◌, ◌⊎◌, ℕ, ◌+◌, ◌-◌, ◌*◌, ◌/◌, ◌%◌, ◌<◌, ◌≤◌, min, List, ◌++◌, length, map, take, drop, get_or, ℤ, pos, ◌+ℤ◌, ◌<ℤ◌, inl, inr, refl, subst, ap, ◌∙◌, arith}
+use Rattle.std.proofs.Common.{◌≡◌, ℕ, ◌*◌, ◌/◌, ◌%◌, ◌<◌, ◌≤◌, List, length, get_or, ℤ, inl, inr, refl, ap, ◌∙◌, arith}
 use Rattle.byte_streams.specs.Values.{AreStreams, byte_value}
 use Rattle.byte_streams.proofs.Bytes.{all_small}
-use borrow.Rule.Slice.PartMut.{post_of}
 use Rattle.value_codes.specs.Codes.{value_of}
-use Rattle.packed_values.specs.From.{value_from}
 use Rattle.packed_values.specs.Words.{IsWord, AreWords, word_value, word_at, field_of}
-use Rattle.packed_values.specs.Tables.{biased_of, there_of}
+use Rattle.packed_values.specs.Tables.{biased_of, there_of, IsBiasOf}
 use Rattle.packed_values.specs.declared.codes.TheConstants.{LEVELS, REAL, IMAGINARY}
-use Rattle.packed_values.proofs.Cuts.{word_at-all, value_from-word, Filled, code-all, length-inside, get_or-inside, length-filled, filled-at}
-use Rattle.packed_values.proofs.Tables.{IsNarrow, IsBias, code-value, real-most, imaginary-most, real-none, imaginary-none}
+use Rattle.packed_values.proofs.Cuts.{word_at-all}
+use Rattle.packed_values.proofs.Tables.{IsBias, bias-at, code-value, real-most, imaginary-most, real-none, imaginary-none}
 
 none_word : IsWord 495
 none_word = record { re = omega arith; im = omega arith; there = omega arith; none = λ zero. refl }
@@ -48,7 +46,7 @@ fields-value word r i t packed e f g =
 
 -- the streams of the components of codes
 module _
-    (n bias : ℕ) (f : ℕ → ℕ) (r i t : List ℕ) (low : bias ≤ 15) (bytes : (k : ℕ) → k < n → f k < 256) (is_bias : (k : ℕ) → k < n → IsBias bias (f k))
+    (n bias : ℕ) (f : ℕ → ℕ) (r i t : List ℕ) (low : bias ≤ 15) (bytes : (k : ℕ) → f k < 256) (is_bias : (k : ℕ) → IsBias bias (f k))
     (long_r : length r ≡ n) (long_i : length i ≡ n) (long_t : length t ≡ n)
     (is_r : (k : ℕ) → k < n → get_or r k 0 ≡ biased_of LEVELS REAL bias (f k))
     (is_i : (k : ℕ) → k < n → get_or i k 0 ≡ biased_of LEVELS IMAGINARY bias (f k))
@@ -60,84 +58,26 @@ module _
     long_im = omega (arith, long_i, long_t);
     re = all_small (2 * bias) r (λ k lt.
         let within : k < n = omega (arith, lt, long_r) in
-        omega (arith, is_r k within, real-most bias (f k) (bytes k within) (is_bias k within)));
+        omega (arith, is_r k within, real-most bias (f k) (bytes k) (is_bias k)));
     im = all_small (2 * bias) i (λ k lt.
         let within : k < n = omega (arith, lt, long_i) in
-        omega (arith, is_i k within, imaginary-most bias (f k) (bytes k within) (is_bias k within)));
+        omega (arith, is_i k within, imaginary-most bias (f k) (bytes k) (is_bias k)));
     there = all_small 1 t (λ k lt. omega (arith, is_t k (omega (arith, lt, long_t))));
     none = λ k lt none.
         let within : k < n = omega (arith, lt, long_t) in
         let zero : there_of (f k) ≡ 0 = omega (arith, is_t k within, none) in
-        (is_r k within ∙ real-none bias (f k) (bytes k within) (is_bias k within) zero, is_i k within ∙ imaginary-none bias (f k) (bytes k within) (is_bias k within) zero);
+        (is_r k within ∙ real-none bias (f k) (bytes k) (is_bias k) zero, is_i k within ∙ imaginary-none bias (f k) (bytes k) (is_bias k) zero);
   }
 
   pub components-value : (k : ℕ) → k < n → byte_value bias (get_or r k 0) (get_or i k 0) (get_or t k 0) ≡ value_of (f k)
-  components-value k lt = rw (is_r k lt, is_i k lt, is_t k lt) (code-value bias (f k) (bytes k lt) (is_bias k lt))
+  components-value k lt = rw (is_r k lt, is_i k lt, is_t k lt) (code-value bias (f k) (bytes k) (is_bias k))
 
--- the streams of a cut of codes
-module _
-    (codes : List ℕ) (start : ℤ) (before place from first last n : ℕ) (negative : (k : ℕ) → k < before → (start +ℤ pos k) <ℤ pos 0)
-    (at : pos place ≡ start +ℤ pos before) (is_from : from ≡ min place (length codes)) (is_first : first ≡ min before n)
-    (is_last : last ≡ min (first + (length codes - from)) n) (bytes : (k : ℕ) → get_or codes k 0 < 256) (bias : ℕ) where
-  abbrev pub inside : List ℕ
-  inside = take ((from + (last - first)) - from) (drop from codes)
+-- the codes of a cut are bytes and have the bias of those in the row
 
-  abbrev code : ℕ → ℕ
-  code k = word_at codes 0 (start +ℤ pos k)
+pub code-byte : (codes : List ℕ) → ((k : ℕ) → get_or codes k 0 < 256) → (n : ℤ) → word_at codes 0 n < 256
+code-byte codes bytes n = word_at-all (λ c. c < 256) codes 0 (λ j l. bytes j) (omega arith) n
 
-  abbrev pub set : List ℕ → List ℕ → List ℕ
-  set xs ys = take first xs ++ (ys ++ post_of first (last - first) xs)
-
-  module _
-      (is_bias : (bias ≡ 15) ⊎ ((bias ≡ 3) × ((k : ℕ) → k < length inside → IsNarrow (get_or inside k 0)))) (xs xs' ys ys' zs zs' : List ℕ)
-      (re : Filled (biased_of LEVELS REAL bias) bias first last n inside xs xs')
-      (im : Filled (biased_of LEVELS IMAGINARY bias) bias first last n inside ys ys')
-      (there : Filled there_of 0 first last n inside zs zs') where
-    low : bias ≤ 15
-    low = elim is_bias [ inl wide ↦ omega (arith, wide) | inr narrow ↦ omega (arith, narrow.0) ]
-
-    has_bias : (k : ℕ) → k < n → IsBias bias (code k)
-    has_bias k lt =
-        elim is_bias [
-          | inl wide ↦ inl wide
-          | inr narrow ↦
-              inr (
-                narrow.0,
-                code-all codes start before place from first last n negative at is_from is_first is_last IsNarrow refl
-                    (λ j l.
-                    subst IsNarrow (get_or-inside codes start before place from first last n negative at is_from is_first is_last j l)
-                    (narrow.1 j (omega (arith, l, length-inside codes start before place from first last n negative at is_from is_first is_last))))
-                    k lt,
-              )
-        ]
-
-    byte : (k : ℕ) → k < n → code k < 256
-    byte k lt = word_at-all (λ c. c < 256) codes 0 (λ j l. bytes j) (omega arith) (start +ℤ pos k)
-
-    long : (g : ℕ → ℕ) (outside : ℕ) (us vs : List ℕ) → g 0 ≡ outside → Filled g outside first last n inside us vs → length (set us vs) ≡ n
-    long g outside us vs e filled = length-filled codes start before place from first last n negative at is_from is_first is_last g outside us vs e filled
-
-    each : (g : ℕ → ℕ) (outside : ℕ) (us vs : List ℕ) → g 0 ≡ outside → Filled g outside first last n inside us vs
-        → (k : ℕ) → k < n → get_or (set us vs) k 0 ≡ g (code k)
-    each g outside us vs e filled = filled-at codes start before place from first last n negative at is_from is_first is_last g outside us vs e filled
-
-    real_zero : biased_of LEVELS REAL bias 0 ≡ bias
-    real_zero = omega (arith, low)
-
-    imaginary_zero : biased_of LEVELS IMAGINARY bias 0 ≡ bias
-    imaginary_zero = omega (arith, low)
-
-    pub cut_are : AreStreams bias (set xs xs') (set ys ys') (set zs zs')
-    cut_are =
-        components_are n bias code (set xs xs') (set ys ys') (set zs zs') low byte has_bias
-        (long _ bias xs xs' real_zero re) (long _ bias ys ys' imaginary_zero im) (long there_of 0 zs zs' refl there)
-        (each _ bias xs xs' real_zero re) (each _ bias ys ys' imaginary_zero im) (each there_of 0 zs zs' refl there)
-
-    pub cut-value : (k : ℕ) → k < n
-        → byte_value bias (get_or (set xs xs') k 0) (get_or (set ys ys') k 0) (get_or (set zs zs') k 0) ≡ value_from (map value_of codes) (start +ℤ pos k)
-    cut-value k lt =
-        components-value n bias code (set xs xs') (set ys ys') (set zs zs') low byte has_bias
-        (long _ bias xs xs' real_zero re) (long _ bias ys ys' imaginary_zero im) (long there_of 0 zs zs' refl there)
-        (each _ bias xs xs' real_zero re) (each _ bias ys ys' imaginary_zero im) (each there_of 0 zs zs' refl there)
-        k lt
-        ∙ value_from-word value_of codes 0 refl (start +ℤ pos k)
+pub code-bias : (bias : ℕ) (codes : List ℕ) → IsBiasOf bias codes → (n : ℤ) → IsBias bias (word_at codes 0 n)
+code-bias bias codes is n =
+    let outside : IsBias bias 0 = elim is [ inl wide ↦ inl wide | inr narrow ↦ inr (narrow.0, refl) ] in
+    word_at-all (IsBias bias) codes 0 (bias-at bias codes is) outside n

@@ -1,15 +1,18 @@
-//! The streams of a row of value codes, by look-ups in tables of sixteen.
-ghost use Rattle.std.specs.Prelude.{◌≡◌, ◌<◌, ◌≤◌, ◌+◌, ◌*◌, ◌%◌, ◌/◌, ◌^◌, ◌⊎◌, true, ℕ, ℤ, pos, ◌+ℤ◌, length, map, slice_index, unsigned_abs};
-ghost use Rattle.byte_streams.specs.Values.{AreStreams, byte_value};
+//! The row of value codes, by look-ups in tables of sixteen.
+ghost use Rattle.std.specs.Prelude.{◌≡◌, ◌<◌, ◌≤◌, ◌+◌, ◌*◌, ◌^◌, ℕ, pos, ◌+ℤ◌, ◌-ℤ◌, length, map, slice_index, unsigned_abs, IsTrue};
+ghost use Rattle.byte_lags.specs.Streams.{IsUnit};
+ghost use Rattle.byte_streams.specs.Rows.{level_value, row_len, row_value};
+ghost use Rattle.byte_streams.specs.Streams.{value_in};
 ghost use Rattle.value_codes.specs.Codes.{value_of};
 ghost use Rattle.packed_values.specs.From.{value_from};
-ghost use Rattle.packed_values.specs.Tables.{biased_of, there_of};
+ghost use Rattle.packed_values.specs.Tables.{are_signs, biased_of, IsAlong, IsBiasOf, there_of, weights_along};
+ghost use Rattle.packed_values.specs.Words.{word_at};
 
+use crate::kinds::{LANES, kind_of};
 use crate::places::places;
+use byte_lags::{Stream, Weights};
+use byte_streams::{Levels, Row, Streams};
 use std::simd::prelude::*;
-
-// The codes of a vector.
-const LANES: usize = 16;
 
 // By a code's higher half byte: the level.
 const LEVELS: [u8; 16] = [
@@ -26,16 +29,27 @@ const IMAGINARY: [u8; 16] = [
     128, 128, 128, 128, 128, 128, 128, 128, 128, 0, 0, 0, 128, 12, 12, 12,
 ];
 
-// The bias of a component of one or two bits, and that of one of four.
-const NARROW: u8 = 3;
-
-const WIDE: u8 = 15;
+// The same for a level along each of four directions: 12 where a code has the opposite one.
+const ALONG: [[u8; 16]; 4] = [
+    [
+        128, 128, 128, 128, 128, 128, 128, 128, 0, 128, 128, 128, 12, 128, 128, 128,
+    ],
+    [
+        128, 128, 128, 128, 128, 128, 128, 128, 128, 0, 128, 128, 128, 12, 128, 128,
+    ],
+    [
+        128, 128, 128, 128, 128, 128, 128, 128, 128, 128, 0, 128, 128, 128, 12, 128,
+    ],
+    [
+        128, 128, 128, 128, 128, 128, 128, 128, 128, 128, 128, 0, 128, 128, 128, 12,
+    ],
+];
 
 // The components of sixteen codes, with the bias.
 #[inline(always)]
 fn components(codes: u8x16, signs: u8x16, bias: u8) -> u8x16
     requires codes { length codes ≡ 16 }
-    requires signs { (signs ≡ REAL) ⊎ (signs ≡ IMAGINARY) }
+    requires signs { IsTrue (are_signs signs) }
     ensures { result ≡ map (biased_of LEVELS signs bias) codes }
 {
     let turn = signs.swizzle_dyn(codes & u8x16::splat(15));
@@ -144,50 +158,142 @@ fn fill_outside(out: &mut [u8], first: usize, last: usize, byte: u8)
     out[last..].fill(byte);
 }
 
-// Whether no code has a level that one or two bits do not have.
-fn is_narrow(codes: &[u8]) -> bool
-    ensures { result ≡ true → (k : ℕ) → k < length codes.now → slice_index codes.now k / 16 % 4 ≡ 0 }
-{
-    let mut wide = 0;
-    for code in codes {
-        wide |= *code & 48;
-    }
-    wide == 0
-}
-
-/// Fills streams with the values of codes from place `start` on, and gives the bias of their components: 3 where no code that is cut
-/// out has a larger one, else 15. Before the first place and past the last one there are none.
-pub(crate) fn streams_of(
-    codes: &[u8],
-    start: i64,
-    re: &mut [u8],
-    im: &mut [u8],
-    there: &mut [u8],
-) -> u8
-    requires start { unsigned_abs start ≤ 2 ^ 41 }
-    requires size { length codes.now ≤ 2 ^ 41 }
+// The streams of codes of which the first one is at place `first`. Before it and past the last one there are none.
+fn fill_cut(codes: &[u8], first: usize, bias: u8, re: &mut [u8], im: &mut [u8], there: &mut [u8])
+    requires room { first + length codes.now ≤ length there.old }
     requires re { length re.old ≡ length there.old }
     requires im { length im.old ≡ length there.old }
-    ensures len { length there.new ≡ length there.old }
-    ensures streams { AreStreams result re.new im.new there.new }
-    ensures values { (k : ℕ) → k < length there.old
-        → byte_value result (slice_index re.new k) (slice_index im.new k) (slice_index there.new k) ≡ value_from (map value_of codes.now) (start +ℤ pos k) }
+    ensures re_len { length re.new ≡ length there.old }
+    ensures im_len { length im.new ≡ length there.old }
+    ensures there_len { length there.new ≡ length there.old }
+    ensures re { (k : ℕ) → k < length there.old → slice_index re.new k ≡ biased_of LEVELS REAL bias (word_at codes.now 0 (pos k -ℤ pos first)) }
+    ensures im { (k : ℕ) → k < length there.old → slice_index im.new k ≡ biased_of LEVELS IMAGINARY bias (word_at codes.now 0 (pos k -ℤ pos first)) }
+    ensures there { (k : ℕ) → k < length there.old → slice_index there.new k ≡ there_of (word_at codes.now 0 (pos k -ℤ pos first)) }
 {
-    let (before, place) = places(start);
-    let from = place.min(codes.len());
-    let first = before.min(there.len());
-    let last = (first + (codes.len() - from)).min(there.len());
-    let inside = &codes[from..from + (last - first)];
-    let bias = if is_narrow(inside) { NARROW } else { WIDE };
+    let last = first + codes.len();
     fill_outside(re, first, last, bias);
     fill_outside(im, first, last, bias);
     fill_outside(there, first, last, 0);
     fill_streams(
-        inside,
+        codes,
         bias,
         &mut re[first..last],
         &mut im[first..last],
         &mut there[first..last],
     );
-    bias
+}
+
+// The same as streams, with the values of codes.
+fn streams_of<'r>(
+    codes: &[u8],
+    first: usize,
+    bias: u8,
+    re: &'r mut [u8],
+    im: &'r mut [u8],
+    there: &'r mut [u8],
+) -> Streams<'r>
+    requires bias { IsBiasOf bias codes.now }
+    requires room { first + length codes.now ≤ length there.old }
+    requires re { length re.old ≡ length there.old }
+    requires im { length im.old ≡ length there.old }
+    ensures len { length result.there.now ≡ length there.old }
+    ensures values { (k : ℕ) → k < length there.old → value_in result k ≡ value_of (word_at codes.now 0 (pos k -ℤ pos first)) }
+{
+    fill_cut(codes, first, bias, re, im, there);
+    Streams {
+        re,
+        im,
+        there,
+        bias,
+    }
+}
+
+// The levels of codes along a direction.
+fn fill_levels(codes: &[u8], signs: &[u8; 16], bias: u8, out: &mut [u8])
+    requires signs { IsTrue (are_signs signs.now) }
+    requires out { length out.old ≡ length codes.now }
+    ensures len { length out.new ≡ length codes.now }
+    ensures each { (k : ℕ) → k < length codes.now → slice_index out.new k ≡ biased_of LEVELS signs.now bias (slice_index codes.now k) }
+{
+    let count = codes.len() / LANES;
+    let table = u8x16::from_array(*signs);
+    for i in 0..count {
+        let at = LANES * i;
+        let vector = u8x16::from_slice(&codes[at..]);
+        components(vector, table, bias).copy_to_slice(&mut out[at..]);
+    }
+    for k in LANES * count..codes.len() {
+        out[k] = component(codes[k], signs, bias);
+    }
+}
+
+// How many times a level along a direction counts in the real part and in the imaginary one.
+fn weights_of(direction: usize) -> Weights
+    ensures weights { result ≡ weights_along direction }
+    ensures re { IsUnit result.re }
+    ensures im { IsUnit result.im }
+{
+    match direction {
+        0 => Weights { re: 1, im: 0 },
+        1 => Weights { re: 1, im: 1 },
+        2 => Weights { re: 0, im: 1 },
+        _ => Weights { re: -1, im: 1 },
+    }
+}
+
+// The levels of codes that have one direction or its opposite.
+fn levels_of<'r>(codes: &[u8], bias: u8, direction: usize, out: &'r mut [u8]) -> Levels<'r>
+    requires bias { IsBiasOf bias codes.now }
+    requires direction { direction < 4 }
+    requires along { (k : ℕ) → k < length codes.now → IsAlong direction (slice_index codes.now k) }
+    requires out { length out.old ≡ length codes.now }
+    ensures len { length result.level.bytes.now ≡ length codes.now }
+    ensures values { (k : ℕ) → k < length codes.now → level_value result k ≡ value_of (slice_index codes.now k) }
+{
+    fill_levels(codes, &ALONG[direction], bias, out);
+    Levels {
+        level: Stream { bytes: out, bias },
+        direction: weights_of(direction),
+    }
+}
+
+// The codes of a cut of `count` places from `start` on that lie in the row, and the place of the first of them in the cut.
+fn part_of<'c>(codes: &'c [u8], start: i64, count: usize) -> (usize, &'c [u8])
+    requires start { unsigned_abs start ≤ 2 ^ 41 }
+    requires size { length codes.now ≤ 2 ^ 41 }
+    ensures room { result.0 + length result.1.now ≤ count }
+    ensures codes { (k : ℕ) → k < count → word_at result.1.now 0 (pos k -ℤ pos result.0) ≡ word_at codes.now 0 (start +ℤ pos k) }
+{
+    let (before, place) = places(start);
+    let from = place.min(codes.len());
+    let first = before.min(count);
+    let last = (first + (codes.len() - from)).min(count);
+    (first, &codes[from..from + (last - first)])
+}
+
+/// The row of the values of codes from place `start` on: the levels where all are there and have one direction or its opposite, and
+/// else both components. The bias is 3 where no code that is cut out has a larger component, else 15. Before the first place and past
+/// the last one there are none.
+pub(crate) fn row_of<'r>(
+    codes: &[u8],
+    start: i64,
+    re: &'r mut [u8],
+    im: &'r mut [u8],
+    there: &'r mut [u8],
+) -> Row<'r>
+    requires start { unsigned_abs start ≤ 2 ^ 41 }
+    requires size { length codes.now ≤ 2 ^ 41 }
+    requires re { length re.old ≡ length there.old }
+    requires im { length im.old ≡ length there.old }
+    ensures len { row_len result ≡ length there.old }
+    ensures values { (k : ℕ) → k < length there.old → row_value result k ≡ value_from (map value_of codes.now) (start +ℤ pos k) }
+{
+    let (first, inside) = part_of(codes, start, there.len());
+    let (bias, still) = kind_of(inside);
+    if let Some(direction) = still {
+        if inside.len() == there.len() {
+            return Row::Still(levels_of(inside, bias, direction, re));
+        }
+    }
+    Row::Turning(streams_of(inside, first, bias, re, im, there))
 }

@@ -4,6 +4,7 @@
 #![tactic(auto)]
 
 mod codes;
+mod kinds;
 mod places;
 mod row;
 mod word;

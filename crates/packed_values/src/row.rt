@@ -1,6 +1,8 @@
 //! A row of values, and its streams from any place on.
-use crate::codes::streams_of;
+use crate::codes::row_of;
+use crate::kinds::alike_from;
 use crate::words::Words;
+use byte_streams::{Row, Streams};
 
 /// The values of a row of samples: a value code each, or a word each.
 #[derive(Clone, Copy)]
@@ -10,8 +12,8 @@ pub enum Packed<'a> {
 }
 
 impl<'a> Packed<'a> {
-    ghost use Rattle.std.specs.Prelude.{◌≡◌, ◌<◌, ◌≤◌, ◌+◌, ◌^◌, ℕ, pos, ◌+ℤ◌, length, take, slice_index, unsigned_abs};
-    ghost use Rattle.byte_streams.specs.Values.{AreStreams, byte_value};
+    ghost use Rattle.std.specs.Prelude.{◌≡◌, ◌<◌, ◌≤◌, ◌+◌, ◌^◌, ℕ, pos, ◌+ℤ◌, length, take, unsigned_abs};
+    ghost use Rattle.byte_streams.specs.Rows.{row_len, row_value};
     ghost use Rattle.packed_values.specs.From.{value_from};
     ghost use Rattle.packed_values.specs.Packed.{values_of};
 
@@ -38,21 +40,47 @@ impl<'a> Packed<'a> {
         }
     }
 
-    /// Fills streams with the values from place `start` on, and gives the bias of their components: 3 where no code that is cut out has
-    /// a larger one, else 15. Before the first place and past the last one there are none.
-    pub fn unpack_from(&self, start: i64, re: &mut [u8], im: &mut [u8], there: &mut [u8]) -> u8
+    /// How many samples from place `start` on, of at most `most`, are of one kind: all there and of one direction or its opposite, or
+    /// all without a value. Of words it is `most`: it is not looked for. A stretch that is cut there makes a row of levels.
+    pub fn alike_from(&self, start: i64, most: usize) -> usize
+        requires start { unsigned_abs start ≤ 2 ^ 41 }
+        requires size { length (values_of self.now) ≤ 2 ^ 41 }
+        ensures { result ≤ most }
+    {
+        match self {
+            Packed::Codes(codes) => alike_from(codes, start, most),
+            Packed::Words(_) => most,
+        }
+    }
+
+    /// The row of the values from place `start` on, in room for as many: the levels of codes that are all there and have one direction
+    /// or its opposite, and else both components. Before the first place and past the last one there are none. The bias is 3 where no
+    /// code that is cut out has a larger component, else 15.
+    pub fn row_from<'r>(
+        &self,
+        start: i64,
+        re: &'r mut [u8],
+        im: &'r mut [u8],
+        there: &'r mut [u8],
+    ) -> Row<'r>
         requires start { unsigned_abs start ≤ 2 ^ 41 }
         requires size { length (values_of self.now) ≤ 2 ^ 41 }
         requires re { length re.old ≡ length there.old }
         requires im { length im.old ≡ length there.old }
-        ensures len { length there.new ≡ length there.old }
-        ensures streams { AreStreams result re.new im.new there.new }
-        ensures values { (k : ℕ) → k < length there.old
-            → byte_value result (slice_index re.new k) (slice_index im.new k) (slice_index there.new k) ≡ value_from (values_of self.now) (start +ℤ pos k) }
+        ensures len { row_len result ≡ length there.old }
+        ensures values { (k : ℕ) → k < length there.old → row_value result k ≡ value_from (values_of self.now) (start +ℤ pos k) }
     {
         match self {
-            Packed::Codes(codes) => streams_of(codes, start, re, im, there),
-            Packed::Words(row) => row.unpack_from(start, re, im, there),
+            Packed::Codes(codes) => row_of(codes, start, re, im, there),
+            Packed::Words(row) => {
+                let bias = row.unpack_from(start, re, im, there);
+                Row::Turning(Streams {
+                    re,
+                    im,
+                    there,
+                    bias,
+                })
+            }
         }
     }
 }

@@ -1,4 +1,4 @@
-use Rattle.std.proofs.Common.{◌≡◌, ◌+◌, ◌*◌, ◌<◌, ◌≤◌, ℕ, arith, get_or, length}
+use Rattle.std.proofs.Common.{◌*◌, ◌<◌, arith, length}
 use Rattle.byte_streams.proofs.Bytes.{all_small, byte_re, byte_im, difference_number}
 use Rattle.byte_streams.proofs.sums.component_differences.Goals as goal
 

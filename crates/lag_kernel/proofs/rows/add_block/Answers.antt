@@ -1,6 +1,6 @@
 use Rattle.std.proofs.Common.{◌≡◌, ℕ, ℤ, ◌+◌, ◌-◌, ◌/◌, ◌<◌, pos, ◌+ℤ◌, ◌-ℤ◌, length, refl, arith}
 use Rattle.std.proofs.lemmas.Int.{ints}
-use Rattle.byte_streams.specs.Streams.{value_in}
+use Rattle.byte_streams.specs.Rows.{row_len, row_value as block_value}
 use Rattle.packed_values.specs.Packed.{values_of}
 use Rattle.lag_kernel.specs.Planes.{plane_pair}
 use Rattle.lag_kernel.specs.Rows.{row_inside, row_samples}
@@ -20,12 +20,12 @@ returns-clause-adds c =
     let start : ℤ = pos at -ℤ pos (lags / 2) in
     let first = c.cut_out-first.result in
     let second = c.cut_out-second.result in
-    let mine : (k : ℕ) → k < n → value_in first k ≡ row_inside a c.args.samples (pos at +ℤ pos k) =
-    cut-values a c.args.samples n (values_of c.inside-mine.result) first _ (pos at) c.inside-mine.ensures.values c.cut_out-first.ensures.values (omega (arith, ints)) in
-    let theirs : (k : ℕ) → k < n + lags → value_in second k ≡ row_inside b c.args.samples (start +ℤ pos k) =
-    cut-values b c.args.samples (n + lags) (values_of c.inside-theirs.result) second _ start c.inside-theirs.ensures.values c.cut_out-second.ensures.values (omega (arith, ints)) in
-    let whole : at + length first.there.now ≡ c.args.stop = omega (arith, c.cut_out-first.ensures.len, c.requires.order) in
-    rows-add a b c.args.samples at c.args.stop (length first.there.now) least c.args.out.now c.add_lags.new.cells c.add_lags.ensures.len refl whole
+    let mine : (k : ℕ) → k < n → block_value first k ≡ row_inside a c.args.samples (pos at +ℤ pos k) =
+    cut-values a c.args.samples n (values_of c.inside-mine.result) first _ (pos at) c.inside-mine.ensures.values c.cut_out-first.ensures.values (omega (arith, ints, c.places-place.ensures.first)) in
+    let theirs : (k : ℕ) → k < n + lags → block_value second k ≡ row_inside b c.args.samples (start +ℤ pos k) =
+    cut-values b c.args.samples (n + lags) (values_of c.inside-theirs.result) second _ start c.inside-theirs.ensures.values c.cut_out-second.ensures.values (omega (arith, ints, c.places-place.ensures.second)) in
+    let whole : at + row_len first ≡ c.args.stop = omega (arith, c.cut_out-first.ensures.len, c.requires.order) in
+    rows-add a b c.args.samples at c.args.stop (row_len first) least c.args.out.now c.add_lags.new.cells c.add_lags.ensures.len refl whole
     (c.add_lags.ensures.scan (row_samples a b) plane_pair c.args.samples at least
     (rows-are a b c.args.samples at least start first second (omega (arith, whole, c.requires.inside)) (omega (arith, ints))
     (λ k lt. mine k (omega (arith, lt, c.cut_out-first.ensures.len))) (λ k lt. theirs k (omega (arith, lt, c.cut_out-second.ensures.len)))))

@@ -20,11 +20,11 @@ loop-at-init c = record {
 pub loop-at-preserved : goal.loop-at-preserved
 loop-at-preserved c =
     let z = row_samples c.args.a.now c.args.b.now in
-    let stop = c.min-stop.result in
+    let stop = c.next_stop-stop.result in
     let at = c.loop-at.at in
     let same : length c.loop-at.out ≡ length c.args.out.now = c.loop-at.auto.out ∙ c.clear.auto.out in
-    let above : at ≤ stop = omega (arith, c.min-stop.ensures, c.loop-at-test.true) in
-    let below : stop ≤ c.args.to = omega (arith, c.min-stop.ensures) in
+    let above : at ≤ stop = omega (arith, c.next_stop-stop.ensures.some) in
+    let below : stop ≤ c.args.to = c.next_stop-stop.ensures.most in
     let begun : c.args.from ≤ at = c.loop-at.invariant.begun in
     let count : at - c.args.from + (stop - at) ≡ stop - c.args.from = omega (arith, above, begun) in
     record {

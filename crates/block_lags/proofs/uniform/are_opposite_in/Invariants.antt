@@ -1,6 +1,0 @@
--- The bytes of the stretch so far have the sum.
-use Rattle.std.proofs.Common.{◌≡◌, ◌<◌, ◌≤◌, ◌+◌, ℕ, true, get_or}
-use Rattle.block_lags.proofs.uniform.are_opposite_in.Given as goal
-
-abbrev pub invariant-loop-k : goal.invariant-loop-k
-invariant-loop-k l = l.same ≡ true → (k : ℕ) → k < l.k → l.from ≤ k → get_or l.a k 0 + get_or l.b k 0 ≡ l.sum

@@ -1,0 +1,64 @@
+-- Codes by the bits in which they differ from one.
+use Rattle.std.proofs.Common.{◌≡◌, ℕ, ◌+◌, ◌*◌, ◌/◌, ◌%◌, ◌<◌, ◌⊎◌, Bool, not, ◌||◌, ◌&&◌, eqb, List, length, get_or, Option, Some, None, IfSome, refl, sym, subst, ap, ◌∙◌, arith, inl, inr, bit_and, bit_or, bit_xor}
+use Rattle.std.proofs.lemmas.Bool.{and_parts, eqb-true, eq-eqb}
+use Rattle.std.proofs.lemmas.Nat.{and_assoc, and_comm, and_le_r, and_mask, and_or_self, and_xor_apart, or_comm, xor_mod}
+use Rattle.packed_values.specs.Tables.{there_of, IsNarrow, IsBiasOf, IsAlong}
+use Rattle.packed_values.proofs.Tables.{all_below, implied}
+
+narrow-from_bits : (c : ℕ) → c < 256 → bit_and c 48 ≡ 0 → IsNarrow c
+narrow-from_bits c lt e =
+    eqb-true (c / 16 % 4) 0
+    (implied (eqb (bit_and c 48) 0) (eqb (c / 16 % 4) 0) (all_below (λ x. not (eqb (bit_and x 48) 0) || eqb (x / 16 % 4) 0) refl c lt) (eq-eqb (bit_and c 48) 0 e))
+
+none_of_both : (a b m : ℕ) → bit_and (bit_or a b) m ≡ 0 → bit_and b m ≡ 0
+none_of_both a b m e =
+    ap (λ x. bit_and x m) (sym (and_or_self b a) ∙ and_comm (bit_or a b) b) ∙ and_assoc m b (bit_or a b) ∙ ap (bit_and b) e ∙ omega (arith, and_le_r b 0)
+
+pub neither : (a b m : ℕ) → bit_and (bit_or a b) m ≡ 0 → (bit_and a m ≡ 0) × (bit_and b m ≡ 0)
+neither a b m e = (none_of_both b a m (ap (λ x. bit_and x m) (or_comm b a) ∙ e), none_of_both a b m e)
+
+narrow-from_one : (c one : ℕ) → c < 256 → bit_and one 48 ≡ 0 → bit_and (bit_xor c one) 48 ≡ 0 → IsNarrow c
+narrow-from_one c one lt e f = narrow-from_bits c lt (sym (and_xor_apart 48 c one e) ∙ f)
+
+-- of two half bytes
+alike_halves : ℕ → Bool
+alike_halves x = not (eqb (bit_and (bit_xor (x / 16) (x % 16)) 11) 0) || (eqb (x / 16 / 8) (x % 16 / 8) && eqb (x / 16 % 4) (x % 16 % 4))
+
+along-from_one : (c one : ℕ) → there_of one ≡ 1 → bit_and (bit_xor c one) 11 ≡ 0 → IsAlong (one % 4) c
+unfolding alike_halves
+along-from_one c one there e =
+    let x = 16 * (c % 16) + one % 16 in
+    let high : x / 16 ≡ c % 16 = omega arith in
+    let low : x % 16 ≡ one % 16 = omega arith in
+    let lower : bit_and (bit_xor (c % 16) (one % 16)) 11 ≡ 0 =
+    ap (λ y. bit_and y 11) (sym (xor_mod c one 4) ∙ sym (and_mask (bit_xor c one) 4)) ∙ and_assoc 11 (bit_xor c one) 15 ∙ e in
+    let bits : bit_and (bit_xor (x / 16) (x % 16)) 11 ≡ 0 = ap (λ y. bit_and (bit_xor y (x % 16)) 11) high ∙ ap (λ y. bit_and (bit_xor (c % 16) y) 11) low ∙ lower in
+    let both =
+    and_parts (eqb (x / 16 / 8) (x % 16 / 8)) (eqb (x / 16 % 4) (x % 16 % 4))
+    (implied (eqb (bit_and (bit_xor (x / 16) (x % 16)) 11) 0) _ (all_below alike_halves refl x (omega arith)) (eq-eqb _ 0 bits)) in
+    let there_is : x / 16 / 8 ≡ x % 16 / 8 = eqb-true (x / 16 / 8) (x % 16 / 8) both.0 in
+    let direction_is : x / 16 % 4 ≡ x % 16 % 4 = eqb-true (x / 16 % 4) (x % 16 % 4) both.1 in
+    (omega arith, omega arith)
+
+-- codes that differ from one in these bits at most
+abbrev IsDiffering : List ℕ → ℕ → ℕ → Type 0
+IsDiffering codes one bits = (m : ℕ) → bit_and bits m ≡ 0 → (k : ℕ) → k < length codes → bit_and (bit_xor (get_or codes k 0) one) m ≡ 0
+
+pub bias-from_one : (codes : List ℕ) (one bits bias : ℕ) → ((k : ℕ) → get_or codes k 0 < 256) → IsDiffering codes one bits
+    → (bias ≡ 15) ⊎ ((bias ≡ 3) × (bit_and (bit_or bits one) 48 ≡ 0)) → IsBiasOf bias codes
+bias-from_one codes one bits bias bytes differ is =
+    elim is [
+      | inl wide ↦ inl wide
+      | inr narrow ↦
+          let both = neither bits one 48 narrow.1 in
+          inr (narrow.0, λ k lt. narrow-from_one (get_or codes k 0) one (bytes k) both.1 (differ 48 both.0 k lt))
+    ]
+
+pub direction-from_one : (codes : List ℕ) (one bits : ℕ) (direction : Option ℕ) → IsDiffering codes one bits
+    → IfSome direction (λ d. (d ≡ one % 4) × (there_of one ≡ 1) × (bit_and bits 11 ≡ 0))
+    → IfSome direction (λ d. (d < 4) × ((k : ℕ) → k < length codes → IsAlong d (get_or codes k 0)))
+direction-from_one codes one bits None differ is = tt
+direction-from_one codes one bits (Some d) differ is = (
+  omega (arith, is.0),
+  λ k lt. subst (λ e. IsAlong e (get_or codes k 0)) (sym is.0) (along-from_one (get_or codes k 0) one is.1 (differ 11 is.2 k lt)),
+)

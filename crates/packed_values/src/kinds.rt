@@ -1,0 +1,101 @@
+//! What codes have in common: their bias, and the direction that all have.
+ghost use Rattle.std.specs.Prelude.{◌≡◌, ◌⊎◌, ◌<◌, ◌≤◌, ◌%◌, ◌^◌, ℕ, length, slice_index, unsigned_abs, bit_and, bit_or, bit_xor, IfSome};
+ghost use Rattle.packed_values.specs.Tables.{IsAlong, IsBiasOf, there_of};
+
+use crate::places::places;
+
+// The codes of a vector.
+pub(crate) const LANES: usize = 16;
+
+// The codes of a piece that is looked through at once.
+const PIECE: usize = 256;
+
+// The bits of a code that say whether there is a value, and which direction it has up to the opposite one.
+const KIND: u8 = 11;
+
+// The bits of a code that levels of one or two bits do not have.
+const FINE: u8 = 48;
+
+// The bias of a component of one or two bits, and that of one of four.
+const NARROW: u8 = 3;
+
+const WIDE: u8 = 15;
+
+// The bits in which any of the codes differs from one.
+#[inline(always)]
+fn differing(codes: &[u8], one: u8) -> u8
+    ensures { (m : ℕ) → bit_and result m ≡ 0 → (k : ℕ) → k < length codes.now → bit_and (bit_xor (slice_index codes.now k) one) m ≡ 0 }
+{
+    let mut bits = 0;
+    for code in codes {
+        bits |= *code ^ one;
+    }
+    bits
+}
+
+// The bias of codes, by one of them and the bits in which any differs from it.
+fn bias_of(one: u8, bits: u8) -> u8
+    ensures { (result ≡ WIDE) ⊎ ((result ≡ NARROW) × (bit_and (bit_or bits one) FINE ≡ 0)) }
+{
+    if (bits | one) & FINE == 0 {
+        NARROW
+    } else {
+        WIDE
+    }
+}
+
+// The direction of codes that all have a value along it, by the same.
+fn direction_of(one: u8, bits: u8) -> Option<usize>
+    ensures { IfSome result (λ d. (d ≡ one % 4) × (there_of one ≡ 1) × (bit_and bits KIND ≡ 0)) }
+{
+    if one / 8 % 2 == 1 && bits & KIND == 0 {
+        Some(usize::from(one % 4))
+    } else {
+        None
+    }
+}
+
+// The bias of codes, and the direction where all have a value along it.
+pub(crate) fn kind_of(codes: &[u8]) -> (u8, Option<usize>)
+    ensures bias { IsBiasOf result.0 codes.now }
+    ensures direction { IfSome result.1 (λ d. (d < 4) × ((k : ℕ) → k < length codes.now → IsAlong d (slice_index codes.now k))) }
+{
+    let one = if codes.is_empty() { 0 } else { codes[0] };
+    let bits = differing(codes, one);
+    (bias_of(one, bits), direction_of(one, bits))
+}
+
+// How many codes, from the first one on, are of one kind with a code.
+fn alike(codes: &[u8], one: u8) -> usize
+    ensures { result ≤ length codes.now }
+{
+    let mut at = 0;
+    while codes.len() - at >= PIECE && differing(&codes[at..at + PIECE], one) & KIND == 0 {
+        at += PIECE;
+    }
+    while codes.len() - at >= LANES && differing(&codes[at..at + LANES], one) & KIND == 0 {
+        at += LANES;
+    }
+    while at < codes.len() && (codes[at] ^ one) & KIND == 0 {
+        at += 1;
+    }
+    at
+}
+
+/// How many samples from place `start` on, of at most `most`, are of one kind: all there and of one direction or its opposite, or all
+/// without a value. Before the first place and past the last one they are without a value.
+pub(crate) fn alike_from(codes: &[u8], start: i64, most: usize) -> usize
+    requires start { unsigned_abs start ≤ 2 ^ 41 }
+    requires size { length codes.now ≤ 2 ^ 41 }
+    ensures { result ≤ most }
+{
+    let (before, place) = places(start);
+    if before > 0 {
+        return before.min(most);
+    }
+    if place >= codes.len() {
+        return most;
+    }
+    let count = (codes.len() - place).min(most);
+    alike(&codes[place..place + count], codes[place])
+}

@@ -1,17 +1,20 @@
 -- The epochs of a job are the walk with the job's own epoch length.
 use Rattle.std.specs.Prelude.{slice_get, flat_map}
 use Rattle.std.specs.List.{range_with_len, enumerate_from}
-use Rattle.std.proofs.Common.{◌≡◌, ◌∙◌, sym, ap, refl, ℕ, zero, suc, ◌+◌, ◌*◌, min, List, [], ◌∷◌, ◌++◌, length, map, Option, Some, None, arith}
+use Rattle.std.proofs.Common.{◌≡◌, ◌∙◌, sym, ap, refl, subst, ℕ, zero, suc, ◌+◌, ◌-◌, ◌*◌, min, List, [], ◌∷◌, ◌++◌, length, map, Option, Some, None, arith}
 use Rattle.std.proofs.lemmas.List.{length-append, append_assoc}
 use Rattle.piece_plan.specs.declared.job.ScanSize.{ScanSize}
 use Rattle.piece_plan.specs.declared.epoch.EpochPlan.{EpochPlan}
 use Rattle.piece_plan.specs.Parts.{part_at, part_count, parts}
-use Rattle.piece_plan.specs.Epochs.{JobSizes, IsJob, range_of, integration_at, integration_count, integration_epochs, scan_epochs, epochs_of}
+use Rattle.piece_plan.specs.Epochs.{JobSizes, IsJob, IsEpoch, range_of, integration_at, integration_count, integration_epochs, scan_epochs, epochs_of}
 use Rattle.piece_plan.specs.Order.{Place, place_of, first_place, place_after, AreInOrder}
 use Rattle.piece_plan.proofs.ListPlaces.{slice_get-right}
 use Rattle.piece_plan.proofs.WalkLemmas.{epochs-CoverJob}
-use Rattle.plan_places.specs.Walk.{next_epoch, IsWalk}
-use Rattle.plan_places.proofs.CutLemmas.{cut_of, cut-is}
+use Rattle.plan_places.specs.Places.{IsPlace, IsUpTo}
+use Rattle.plan_places.specs.Search.{IsIn}
+use Rattle.plan_places.specs.Walk.{cut_at, next_epoch, IsWalk}
+use Rattle.plan_places.proofs.CutLemmas.{cut_of, cut-is, size-same}
+use Rattle.plan_places.proofs.WalkLemmas.{walk-first}
 
 -- each epoch is the one that is cut from where it begins
 abbrev AreCut : JobSizes → List EpochPlan → Type 0
@@ -83,3 +86,33 @@ cut-IsWalk job due (e ∷ epochs) order cut = (
 
 pub epochs-IsWalk : (job : JobSizes) → IsJob job → IsWalk job job.epoch (first_place 0 job.scans) (epochs_of job)
 epochs-IsWalk job is = cut-IsWalk job (first_place 0 job.scans) (epochs_of job) (epochs-CoverJob job is) (job-AreCut job)
+
+AreCut-at : (job : JobSizes) (epochs : List EpochPlan) (k : ℕ) (e : EpochPlan) (size : ScanSize) → AreCut job epochs → slice_get epochs k ≡ Some e
+    → slice_get job.scans e.scan ≡ Some size → cut_of job job.epoch (place_of e) size ≡ e
+AreCut-at job [] k e size cut at there = absurd (cc)
+AreCut-at job (d ∷ epochs) zero e size cut at there =
+    let same : d ≡ e = cc in
+    subst (λ (x : EpochPlan). cut_of job job.epoch (place_of x) size ≡ x) same (cut.0 size (rw same there))
+AreCut-at job (d ∷ epochs) (suc k) e size cut at there = AreCut-at job epochs k e size cut.1 at there
+
+-- an epoch of the job is the one that is cut from where it begins
+pub epoch-cut : (job : JobSizes) (k : ℕ) (e : EpochPlan) → IsEpoch job e → slice_get (epochs_of job) k ≡ Some e
+    → cut_at job job.epoch (place_of e) ≡ Some e
+epoch-cut job k e is at =
+    cut-is job job.epoch (place_of e) is.size is.scan ∙ ap Some (AreCut-at job (epochs_of job) k e is.size (job-AreCut job) at is.scan)
+
+-- from a place in such an epoch on, the number of its samples gives what the job's own number gives
+pub cut-in-own : (job : JobSizes) (p : Place) (e : EpochPlan) → IsPlace job p → IsEpoch job e → cut_at job job.epoch (place_of e) ≡ Some e
+    → IsUpTo (place_of e) p → IsIn p e → cut_at job (e.to - e.from) p ≡ cut_at job job.epoch p
+cut-in-own job p e place is own le has =
+    let size = size-same job p e place is has.scan in
+    let samples : is.size.samples ≡ place.size.samples = ap (λ (s : ScanSize). s.samples) size in
+    let begun = le.from has.scan has.m in
+    let times : (e.m + 1) * job.integration ≡ (p.m + 1) * job.integration = ap (λ n. (n + 1) * job.integration) has.m in
+    let first = walk-first job job.epoch (place_of e) is.size e is.scan own in
+    let to : min (e.from + job.epoch) (integration_at job is.size e.m).to ≡ e.to = ap (λ (x : EpochPlan). x.to) first in
+    let end : min (p.from + (e.to - e.from)) (integration_at job place.size p.m).to ≡ min (p.from + job.epoch) (integration_at job place.size p.m).to =
+    omega (arith, to, samples, times, begun, is.some) in
+    cut-is job (e.to - e.from) p place.size place.scan
+    ∙ ap {B = Option EpochPlan} (λ n. Some (range_of job p.scan place.size p.m (record { from = p.from; to = n }))) end
+    ∙ sym (cut-is job job.epoch p place.size place.scan)

@@ -9,7 +9,7 @@ mod place;
 mod search;
 
 pub use count::left;
-pub use place::{Place, after, cut, is_place, start};
+pub use place::{Place, after, cut, cut_own, is_place, start};
 
 #[cfg(test)]
 mod tests;

@@ -6,7 +6,7 @@ ghost use Rattle.plan_places.specs.Places.{place_at, IsPlace};
 ghost use Rattle.plan_places.specs.Search.{begin_at};
 ghost use Rattle.plan_places.specs.Walk.{cut_at};
 
-use crate::search::{integration_last, is_in_some};
+use crate::search::{epoch_with, integration_last, is_in_some};
 use piece_plan::{EpochPlan, JobPlan};
 
 /// Where a run stands: sample `from` of integration `m` of a scan, by its number in the scan. `scan` counts
@@ -71,6 +71,18 @@ pub fn cut(plan: &JobPlan, at: &Place, epoch: u64) -> EpochPlan
         baselines: last.baselines,
         lags: last.lags,
     }
+}
+
+/// The epoch from a place on that the job's own length of an epoch gives.
+pub fn cut_own(plan: &JobPlan, at: &Place) -> EpochPlan
+    requires { IsPlace plan.now (place_at at.now) }
+    ensures cut { cut_at plan.now plan.now.epoch (place_at at.now) ≡ Some result }
+    ensures fits { IsEpoch plan.now result }
+    ensures of_plan { IsOfPlan result }
+{
+    // an epoch of the plan is shorter only where its integration ends, and there this one ends too
+    let own = epoch_with(plan, at);
+    cut(plan, at, own.to - own.from)
 }
 
 /// The place behind an epoch of the job, however long that is: where it ends, in its integration or, at that one's

@@ -5,6 +5,7 @@ ghost use Rattle.piece_plan.specs.Epochs.{epochs_of, IsEpoch, IsJob, IsOfPlan};
 ghost use Rattle.piece_plan.specs.Order.{place_of, place_after, CoverJob};
 ghost use Rattle.plan_places.specs.Places.{place_at, IsPlace, IsUpTo, IsBefore};
 ghost use Rattle.plan_places.specs.Search.{begin_at, IsIn, IsCount, EndsIntegration, EndsScan};
+ghost use Rattle.plan_places.specs.Walk.{cut_at};
 
 use crate::Place;
 use piece_plan::{EpochPlan, JobPlan};
@@ -59,6 +60,18 @@ pub(crate) fn is_in_some(plan: &JobPlan, at: &Place) -> bool
     }
     let e = plan.epoch(count - 1);
     has_place(&e, at)
+}
+
+// The epoch of the plan that has a place.
+pub(crate) fn epoch_with(plan: &JobPlan, at: &Place) -> EpochPlan
+    requires { IsPlace plan.now (place_at at.now) }
+    ensures own { cut_at plan.now plan.now.epoch (place_of result) ≡ Some result }
+    ensures up_to { IsUpTo (place_of result) (place_at at.now) }
+    ensures has { IsIn (place_at at.now) result }
+    ensures inside { IsEpoch plan.now result }
+    ensures of_plan { IsOfPlan result }
+{
+    plan.epoch(number_up_to(plan, at) - 1)
 }
 
 // The last epoch of the plan in a place's integration, and its number.

@@ -166,6 +166,27 @@ fn walks_from_inside(rt: HostRuntime) -> Result<(), Fail> {
     Ok(())
 }
 
+// Epochs of 40 samples, and those up to the end of an integration where fewer are left.
+#[test]
+fn own_epochs(rt: HostRuntime) -> Result<(), Fail> {
+    let plan = JobPlan::new(rt.alloc(), &[size(100)], 64, 40, 4)?;
+    for e in &[
+        epoch(0, 0, 0, 40),
+        epoch(0, 0, 10, 50),
+        epoch(0, 0, 39, 64),
+        epoch(0, 0, 63, 64),
+        epoch(0, 1, 64, 100),
+        epoch(0, 1, 70, 100),
+    ] {
+        let at = place(e.scan, e.m, e.from);
+        if !is_place(&plan, &at) {
+            panic!(&rt; "no place");
+        }
+        assert_eq!(&rt; cut_own(&plan, &at), *e);
+    }
+    Ok(())
+}
+
 #[test]
 fn places_at_the_limits(rt: HostRuntime) -> Result<(), Fail> {
     let none = JobPlan::new(rt.alloc(), &[], 1, 1, 4)?;

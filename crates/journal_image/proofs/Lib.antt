@@ -1,0 +1,10 @@
+pub mod Numbers
+pub mod HeadLemmas
+pub mod RowLemmas
+pub mod ThingLemmas
+pub mod FrontLemmas
+pub mod ReadingLemmas
+pub mod KeptLemmas
+pub mod RangeLemmas
+pub mod GateLemmas
+pub mod DifferLemmas

@@ -71,7 +71,7 @@ def test_without_one_instruction_of_v3(tmp_path: Path, flag: str) -> None:
 
 @pytest.mark.parametrize("flag", V2)
 def test_without_one_instruction_of_v2(tmp_path: Path, flag: str) -> None:
-    refused = (126, [], f"vlbi: the program is not for this processor, which lacks {flag}\n")
+    refused: tuple[int, list[str], str] = (126, [], f"vlbi: the program is not for this processor, which lacks {flag}\n")
     assert call(installed(tmp_path, [*V3, *(it for it in V2 if it != flag)])) == refused
 
 

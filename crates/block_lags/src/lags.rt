@@ -39,7 +39,8 @@ fn add_block(first: &Row, second: &Row, numbers: &mut [u8], sums: &mut [u32], ce
     add_counts(first, second, sums, cells);
 }
 
-/// Adds to each cell the pairs of a block of at most 4,096 values and the second values, these as many places on as the cell's number.
+/// Adds to each cell the pairs of a block of at most 4,096 values and the second values, at most 5,120, these as many places on as the
+/// cell's number.
 /// The second row begins where the first lag has the first sample's pair, and goes on to the last sample's pair at the last lag, and
 /// one place further; where there is no sample, as outside a scan, it has no value. A row without a value costs nothing. `sums` has a place for each cell, and `numbers`
 /// one for each of the second values; both are overwritten.

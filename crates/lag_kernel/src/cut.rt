@@ -7,8 +7,9 @@ use packed_values::Packed;
 /// The most samples of a block.
 pub(crate) const BLOCK: usize = 4096;
 
-// So many samples of one direction are summed by themselves.
-const SHORT: usize = 256;
+// Blocks are cut at a change of direction only where both rows keep one kind for so many samples: a block costs as much as summing some
+// hundreds of samples more by both components.
+const SHORT: usize = 1024;
 
 // Blocks are cut behind multiples of so many samples, which are summed at once.
 const STEP: usize = 32;
@@ -99,7 +100,8 @@ fn turning_len(
 
 /// How many samples the next block has, of at most `most`: those for which both rows are of one kind, where these are many; else those
 /// up to where they are so again. `place` and `other` are those of the first sample in the first row, and of the first sample at the first
-/// lag in the second row.
+/// lag in the second row. It is a hint: that it is at least 1 and at most `most` is all that is promised. A wrong one costs time, and
+/// never a cell.
 pub(crate) fn block_size(
     first: &Packed<'_>,
     place: i64,

@@ -1,7 +1,8 @@
 -- Codes by the bits in which they differ from one.
 use Rattle.std.proofs.Common.{◌≡◌, ℕ, ◌+◌, ◌*◌, ◌/◌, ◌%◌, ◌<◌, ◌⊎◌, Bool, not, ◌||◌, ◌&&◌, eqb, List, length, get_or, Option, Some, None, IfSome, refl, sym, subst, ap, ◌∙◌, arith, inl, inr, bit_and, bit_or, bit_xor}
-use Rattle.std.proofs.lemmas.Bool.{and_parts, eqb-true, eq-eqb}
-use Rattle.std.proofs.lemmas.Nat.{and_assoc, and_comm, and_le_r, and_mask, and_or_self, and_xor_apart, or_comm, xor_mod}
+use Rattle.std.proofs.lemmas.Bool.{and_from, and_parts, cases_lt, eqb-true, eq-eqb}
+use Rattle.std.proofs.lemmas.Nat.{and_assoc, and_comm, and_le_r, and_mask, and_or_apart, and_or_self, and_xor_apart, or_comm, xor_mod}
+use Rattle.std.proofs.lemmas.List.{get_or_past}
 use Rattle.packed_values.specs.Tables.{there_of, IsNarrow, IsBiasOf, IsAlong}
 use Rattle.packed_values.proofs.Tables.{all_below, implied}
 
@@ -17,6 +18,14 @@ none_of_both a b m e =
 pub neither : (a b m : ℕ) → bit_and (bit_or a b) m ≡ 0 → (bit_and a m ≡ 0) × (bit_and b m ≡ 0)
 neither a b m e = (none_of_both b a m (ap (λ x. bit_and x m) (or_comm b a) ∙ e), none_of_both a b m e)
 
+pub none_of_either : (a b m : ℕ) → bit_and a m ≡ 0 → bit_and b m ≡ 0 → bit_and (bit_or a b) m ≡ 0
+none_of_either a b m e f = and_or_apart m a b f ∙ e
+
+bits-from_narrow : (c : ℕ) → c < 256 → IsNarrow c → bit_and c 48 ≡ 0
+bits-from_narrow c lt narrow =
+    eqb-true (bit_and c 48) 0
+    (implied (eqb (c / 16 % 4) 0) (eqb (bit_and c 48) 0) (all_below (λ x. not (eqb (x / 16 % 4) 0) || eqb (bit_and x 48) 0) refl c lt) (eq-eqb (c / 16 % 4) 0 narrow))
+
 narrow-from_one : (c one : ℕ) → c < 256 → bit_and one 48 ≡ 0 → bit_and (bit_xor c one) 48 ≡ 0 → IsNarrow c
 narrow-from_one c one lt e f = narrow-from_bits c lt (sym (and_xor_apart 48 c one e) ∙ f)
 
@@ -24,14 +33,17 @@ narrow-from_one c one lt e f = narrow-from_bits c lt (sym (and_xor_apart 48 c on
 alike_halves : ℕ → Bool
 alike_halves x = not (eqb (bit_and (bit_xor (x / 16) (x % 16)) 11) 0) || (eqb (x / 16 / 8) (x % 16 / 8) && eqb (x / 16 % 4) (x % 16 % 4))
 
+-- the bits of a code's kind are in its lower half byte
+lower_bits : (c one : ℕ) → bit_and (bit_xor (c % 16) (one % 16)) 11 ≡ bit_and (bit_xor c one) 11
+lower_bits c one = ap (λ y. bit_and y 11) (sym (xor_mod c one 4) ∙ sym (and_mask (bit_xor c one) 4)) ∙ and_assoc 11 (bit_xor c one) 15
+
 along-from_one : (c one : ℕ) → there_of one ≡ 1 → bit_and (bit_xor c one) 11 ≡ 0 → IsAlong (one % 4) c
 unfolding alike_halves
 along-from_one c one there e =
     let x = 16 * (c % 16) + one % 16 in
     let high : x / 16 ≡ c % 16 = omega arith in
     let low : x % 16 ≡ one % 16 = omega arith in
-    let lower : bit_and (bit_xor (c % 16) (one % 16)) 11 ≡ 0 =
-    ap (λ y. bit_and y 11) (sym (xor_mod c one 4) ∙ sym (and_mask (bit_xor c one) 4)) ∙ and_assoc 11 (bit_xor c one) 15 ∙ e in
+    let lower : bit_and (bit_xor (c % 16) (one % 16)) 11 ≡ 0 = lower_bits c one ∙ e in
     let bits : bit_and (bit_xor (x / 16) (x % 16)) 11 ≡ 0 = ap (λ y. bit_and (bit_xor y (x % 16)) 11) high ∙ ap (λ y. bit_and (bit_xor (c % 16) y) 11) low ∙ lower in
     let both =
     and_parts (eqb (x / 16 / 8) (x % 16 / 8)) (eqb (x / 16 % 4) (x % 16 % 4))
@@ -39,6 +51,23 @@ along-from_one c one there e =
     let there_is : x / 16 / 8 ≡ x % 16 / 8 = eqb-true (x / 16 / 8) (x % 16 / 8) both.0 in
     let direction_is : x / 16 % 4 ≡ x % 16 % 4 = eqb-true (x / 16 % 4) (x % 16 % 4) both.1 in
     (omega arith, omega arith)
+
+kinds_agree : ℕ → Bool
+kinds_agree x = not (eqb (x / 16 / 8) (x % 16 / 8) && eqb (x / 16 % 4) (x % 16 % 4)) || eqb (bit_and (bit_xor (x / 16) (x % 16)) 11) 0
+
+one-from_along : (c one : ℕ) → there_of c ≡ there_of one → c % 4 ≡ one % 4 → bit_and (bit_xor c one) 11 ≡ 0
+unfolding kinds_agree
+one-from_along c one there direction =
+    let x = 16 * (c % 16) + one % 16 in
+    let high : x / 16 ≡ c % 16 = omega arith in
+    let low : x % 16 ≡ one % 16 = omega arith in
+    let same_there : x / 16 / 8 ≡ x % 16 / 8 = omega arith in
+    let same_direction : x / 16 % 4 ≡ x % 16 % 4 = omega arith in
+    let none : bit_and (bit_xor (x / 16) (x % 16)) 11 ≡ 0 =
+    eqb-true _ 0
+    (implied (eqb (x / 16 / 8) (x % 16 / 8) && eqb (x / 16 % 4) (x % 16 % 4)) _ (all_below kinds_agree refl x (omega arith))
+    (and_from _ _ (eq-eqb _ _ same_there) (eq-eqb _ _ same_direction))) in
+    sym (lower_bits c one) ∙ sym (ap (λ y. bit_and (bit_xor y (x % 16)) 11) high ∙ ap (λ y. bit_and (bit_xor (c % 16) y) 11) low) ∙ none
 
 -- codes that differ from one in these bits at most
 abbrev IsDiffering : List ℕ → ℕ → ℕ → Type 0
@@ -62,3 +91,29 @@ direction-from_one codes one bits (Some d) differ is = (
   omega (arith, is.0),
   λ k lt. subst (λ e. IsAlong e (get_or codes k 0)) (sym is.0) (along-from_one (get_or codes k 0) one is.1 (differ 11 is.2 k lt)),
 )
+
+-- what is seen where all codes are narrow or lie along one direction
+module _
+    (codes : List ℕ) (one bits : ℕ) (bytes : (k : ℕ) → get_or codes k 0 < 256) (first : one ≡ get_or codes 0 0)
+    (no_more : (m : ℕ) → ((k : ℕ) → k < length codes → bit_and (bit_xor (get_or codes k 0) one) m ≡ 0) → bit_and bits m ≡ 0) where
+  narrow-first : ((k : ℕ) → k < length codes → IsNarrow (get_or codes k 0)) → IsNarrow one
+  narrow-first narrow =
+      elim (cases_lt 0 (length codes)) [
+        | inl some ↦ subst IsNarrow (sym first) (narrow 0 some)
+        | inr none ↦ subst IsNarrow (sym (first ∙ get_or_past codes 0 0 (omega (arith, none)))) refl
+      ]
+
+  pub bits-all_narrow : ((k : ℕ) → k < length codes → IsNarrow (get_or codes k 0)) → bit_and (bit_or bits one) 48 ≡ 0
+  bits-all_narrow narrow =
+      let one_bits : bit_and one 48 ≡ 0 = bits-from_narrow one (omega (arith, first, bytes 0)) (narrow-first narrow) in
+      none_of_either bits one 48
+      (no_more 48 (λ k lt. and_xor_apart 48 (get_or codes k 0) one one_bits ∙ bits-from_narrow (get_or codes k 0) (bytes k) (narrow k lt)))
+      one_bits
+
+  pub first-along : (d : ℕ) → 0 < length codes → ((k : ℕ) → k < length codes → IsAlong d (get_or codes k 0)) → IsAlong d one
+  first-along d some along = subst (IsAlong d) (sym first) (along 0 some)
+
+  pub bits-all_along : (d : ℕ) → 0 < length codes → ((k : ℕ) → k < length codes → IsAlong d (get_or codes k 0)) → bit_and bits 11 ≡ 0
+  bits-all_along d some along =
+      let is = first-along d some along in
+      no_more 11 (λ k lt. let this = along k lt in one-from_along (get_or codes k 0) one (this.0 ∙ sym is.0) (this.1 ∙ sym is.1))

@@ -7,6 +7,7 @@ use borrow.Rule.Slice.PartMut.{post_of}
 use Rattle.corr_model.specs.Cell.{Value}
 use Rattle.value_codes.specs.Codes.{value_of}
 use Rattle.packed_values.specs.From.{value_from}
+use Rattle.packed_values.specs.Tables.{IsAlong}
 use Rattle.packed_values.specs.Words.{word_at}
 
 pub word_at-before : (words : List ℕ) (outside : ℕ) (n : ℤ) → n <ℤ pos 0 → word_at words outside n ≡ outside
@@ -171,3 +172,25 @@ module _
       → value_of (get_or inside k 0) ≡ value_from (map value_of codes) (start +ℤ pos k)
   whole-value room whole k lt =
       ap value_of (word_at-inside inside 0 k (pos k -ℤ pos first) (omega (arith, ints, room, whole)) (omega (arith, whole, lt))) ∙ cut-value k lt
+
+  -- what holds of each code of the cut holds of each code inside
+  pub inside-all : first + length inside ≤ n → (P : ℕ → Type 0) → ((k : ℕ) → k < n → P (word_at codes 0 (start +ℤ pos k)))
+      → (k : ℕ) → k < length inside → P (get_or inside k 0)
+  inside-all room P all k lt =
+      let within : first + k < n = omega (arith, room, lt) in
+      subst P (sym (code-inside inside first (first + length inside) n refl room k lt ∙ same (first + k) within)) (all (first + k) within)
+
+  -- where all codes of the cut have values, all its places lie in the row
+  pub whole-along : first + length inside ≤ n → 0 < n → (d : ℕ) → ((k : ℕ) → k < n → IsAlong d (word_at codes 0 (start +ℤ pos k))) → length inside ≡ n
+  whole-along room some d along =
+      let last = first + length inside in
+      let there : (k : ℕ) → k < n → word_at inside 0 (pos k -ℤ pos first) ≡ 0 → ⊥ =
+      λ k lt none. let zero = subst (IsAlong d) (sym (same k lt) ∙ none) (along k lt) in omega (arith, zero.0) in
+      elim (cases_lt 0 first) [
+        | inl before ↦ absurd (there 0 some (code-before inside first last n refl room 0 before))
+        | inr front ↦
+            elim (cases_lt last n) [
+              | inl behind ↦ absurd (there last behind (code-past inside first last n refl room last (omega arith)))
+              | inr full ↦ omega (arith, front, full, room)
+            ]
+      ]

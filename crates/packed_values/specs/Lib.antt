@@ -2,3 +2,4 @@ pub mod Words
 pub mod Tables
 pub mod From
 pub mod Packed
+pub mod Kinds

@@ -1,11 +1,12 @@
 //! The row of value codes, by look-ups in tables of sixteen.
-ghost use Rattle.std.specs.Prelude.{◌≡◌, ◌<◌, ◌≤◌, ◌+◌, ◌*◌, ◌^◌, ℕ, pos, ◌+ℤ◌, ◌-ℤ◌, length, map, slice_index, unsigned_abs, IsTrue};
+ghost use Rattle.std.specs.Prelude.{◌≡◌, ◌<◌, ◌≤◌, ◌+◌, ◌*◌, ◌^◌, ℕ, pos, ◌+ℤ◌, ◌-ℤ◌, Some, IfSome, true, length, map, slice_index, unsigned_abs, IsTrue};
 ghost use Rattle.byte_lags.specs.Streams.{IsUnit};
-ghost use Rattle.byte_streams.specs.Rows.{level_value, row_len, row_value};
+ghost use Rattle.byte_streams.specs.Rows.{bias_in, level_value, row_len, row_value};
 ghost use Rattle.byte_streams.specs.Streams.{value_in};
 ghost use Rattle.value_codes.specs.Codes.{value_of};
 ghost use Rattle.packed_values.specs.From.{value_from};
-ghost use Rattle.packed_values.specs.Tables.{are_signs, biased_of, IsAlong, IsBiasOf, there_of, weights_along};
+ghost use Rattle.packed_values.specs.Kinds.{is_still};
+ghost use Rattle.packed_values.specs.Tables.{are_signs, biased_of, IsAlong, IsBiasOf, IsNarrow, there_of, weights_along};
 ghost use Rattle.packed_values.specs.Words.{word_at};
 
 use crate::kinds::{LANES, kind_of};
@@ -197,6 +198,7 @@ fn streams_of<'r>(
     requires re { length re.old ≡ length there.old }
     requires im { length im.old ≡ length there.old }
     ensures len { length result.there.now ≡ length there.old }
+    ensures bias { result.bias ≡ bias }
     ensures values { (k : ℕ) → k < length there.old → value_in result k ≡ value_of (word_at codes.now 0 (pos k -ℤ pos first)) }
 {
     fill_cut(codes, first, bias, re, im, there);
@@ -248,6 +250,7 @@ fn levels_of<'r>(codes: &[u8], bias: u8, direction: usize, out: &'r mut [u8]) ->
     requires along { (k : ℕ) → k < length codes.now → IsAlong direction (slice_index codes.now k) }
     requires out { length out.old ≡ length codes.now }
     ensures len { length result.level.bytes.now ≡ length codes.now }
+    ensures bias { result.level.bias ≡ bias }
     ensures values { (k : ℕ) → k < length codes.now → level_value result k ≡ value_of (slice_index codes.now k) }
 {
     fill_levels(codes, &ALONG[direction], bias, out);
@@ -271,6 +274,14 @@ fn part_of<'c>(codes: &'c [u8], start: i64, count: usize) -> (usize, &'c [u8])
     (first, &codes[from..from + (last - first)])
 }
 
+// The direction of `count` values, of which `inside` have a code: none where a code is missing.
+fn whole(direction: Option<usize>, inside: usize, count: usize) -> Option<usize>
+    ensures whole { IfSome result (λ d. (direction ≡ Some d) × (inside ≡ count)) }
+    ensures same { inside ≡ count → result ≡ direction }
+{
+    if inside == count { direction } else { None }
+}
+
 /// The row of the values of codes from place `start` on: the levels where all are there and have one direction or its opposite, and
 /// else both components. The bias is 3 where no code that is cut out has a larger component, else 15. Before the first place and past
 /// the last one there are none.
@@ -287,13 +298,13 @@ pub(crate) fn row_of<'r>(
     requires im { length im.old ≡ length there.old }
     ensures len { row_len result ≡ length there.old }
     ensures values { (k : ℕ) → k < length there.old → row_value result k ≡ value_from (map value_of codes.now) (start +ℤ pos k) }
+    ensures still { (d : ℕ) → 0 < length there.old → ((k : ℕ) → k < length there.old → IsAlong d (word_at codes.now 0 (start +ℤ pos k))) → is_still result ≡ true }
+    ensures narrow { ((k : ℕ) → k < length there.old → IsNarrow (word_at codes.now 0 (start +ℤ pos k))) → bias_in result ≡ 3 }
 {
     let (first, inside) = part_of(codes, start, there.len());
-    let (bias, still) = kind_of(inside);
-    if let Some(direction) = still {
-        if inside.len() == there.len() {
-            return Row::Still(levels_of(inside, bias, direction, re));
-        }
+    let (bias, direction) = kind_of(inside);
+    match whole(direction, inside.len(), there.len()) {
+        Some(direction) => Row::Still(levels_of(inside, bias, direction, re)),
+        None => Row::Turning(streams_of(inside, first, bias, re, im, there)),
     }
-    Row::Turning(streams_of(inside, first, bias, re, im, there))
 }

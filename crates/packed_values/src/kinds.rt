@@ -1,6 +1,6 @@
 //! What codes have in common: their bias, and the direction that all have.
-ghost use Rattle.std.specs.Prelude.{◌≡◌, ◌⊎◌, ◌<◌, ◌≤◌, ◌%◌, ◌^◌, ℕ, length, slice_index, unsigned_abs, bit_and, bit_or, bit_xor, IfSome};
-ghost use Rattle.packed_values.specs.Tables.{IsAlong, IsBiasOf, there_of};
+ghost use Rattle.std.specs.Prelude.{◌≡◌, ◌⊎◌, ◌<◌, ◌≤◌, ◌%◌, ◌^◌, ℕ, Some, length, slice_index, unsigned_abs, bit_and, bit_or, bit_xor, IfSome};
+ghost use Rattle.packed_values.specs.Tables.{IsAlong, IsBiasOf, IsNarrow, there_of};
 
 use crate::places::places;
 
@@ -24,7 +24,8 @@ const WIDE: u8 = 15;
 // The bits in which any of the codes differs from one.
 #[inline(always)]
 fn differing(codes: &[u8], one: u8) -> u8
-    ensures { (m : ℕ) → bit_and result m ≡ 0 → (k : ℕ) → k < length codes.now → bit_and (bit_xor (slice_index codes.now k) one) m ≡ 0 }
+    ensures each { (m : ℕ) → bit_and result m ≡ 0 → (k : ℕ) → k < length codes.now → bit_and (bit_xor (slice_index codes.now k) one) m ≡ 0 }
+    ensures all { (m : ℕ) → ((k : ℕ) → k < length codes.now → bit_and (bit_xor (slice_index codes.now k) one) m ≡ 0) → bit_and result m ≡ 0 }
 {
     let mut bits = 0;
     for code in codes {
@@ -35,7 +36,8 @@ fn differing(codes: &[u8], one: u8) -> u8
 
 // The bias of codes, by one of them and the bits in which any differs from it.
 fn bias_of(one: u8, bits: u8) -> u8
-    ensures { (result ≡ WIDE) ⊎ ((result ≡ NARROW) × (bit_and (bit_or bits one) FINE ≡ 0)) }
+    ensures bias { (result ≡ WIDE) ⊎ ((result ≡ NARROW) × (bit_and (bit_or bits one) FINE ≡ 0)) }
+    ensures narrow { bit_and (bit_or bits one) FINE ≡ 0 → result ≡ NARROW }
 {
     if (bits | one) & FINE == 0 {
         NARROW
@@ -46,7 +48,8 @@ fn bias_of(one: u8, bits: u8) -> u8
 
 // The direction of codes that all have a value along it, by the same.
 fn direction_of(one: u8, bits: u8) -> Option<usize>
-    ensures { IfSome result (λ d. (d ≡ one % 4) × (there_of one ≡ 1) × (bit_and bits KIND ≡ 0)) }
+    ensures direction { IfSome result (λ d. (d ≡ one % 4) × (there_of one ≡ 1) × (bit_and bits KIND ≡ 0)) }
+    ensures along { there_of one ≡ 1 → bit_and bits KIND ≡ 0 → result ≡ Some (one % 4) }
 {
     if one / 8 % 2 == 1 && bits & KIND == 0 {
         Some(usize::from(one % 4))
@@ -55,12 +58,21 @@ fn direction_of(one: u8, bits: u8) -> Option<usize>
     }
 }
 
-// The bias of codes, and the direction where all have a value along it.
+// The first code, 0 where there is none.
+fn first_of(codes: &[u8]) -> u8
+    ensures { result ≡ slice_index codes.now 0 }
+{
+    if codes.is_empty() { 0 } else { codes[0] }
+}
+
+// The bias of codes, 3 where all are narrow, and the direction where all have a value along it.
 pub(crate) fn kind_of(codes: &[u8]) -> (u8, Option<usize>)
     ensures bias { IsBiasOf result.0 codes.now }
     ensures direction { IfSome result.1 (λ d. (d < 4) × ((k : ℕ) → k < length codes.now → IsAlong d (slice_index codes.now k))) }
+    ensures narrow { ((k : ℕ) → k < length codes.now → IsNarrow (slice_index codes.now k)) → result.0 ≡ NARROW }
+    ensures along { (d : ℕ) → 0 < length codes.now → ((k : ℕ) → k < length codes.now → IsAlong d (slice_index codes.now k)) → result.1 ≡ Some d }
 {
-    let one = if codes.is_empty() { 0 } else { codes[0] };
+    let one = first_of(codes);
     let bits = differing(codes, one);
     (bias_of(one, bits), direction_of(one, bits))
 }

@@ -12,10 +12,12 @@ pub enum Packed<'a> {
 }
 
 impl<'a> Packed<'a> {
-    ghost use Rattle.std.specs.Prelude.{◌≡◌, ◌<◌, ◌≤◌, ◌+◌, ◌^◌, ℕ, pos, ◌+ℤ◌, length, take, unsigned_abs};
-    ghost use Rattle.byte_streams.specs.Rows.{row_len, row_value};
+    ghost use Rattle.std.specs.Prelude.{◌≡◌, ◌<◌, ◌≤◌, ◌+◌, ◌^◌, ℕ, pos, ◌+ℤ◌, true, length, take, unsigned_abs};
+    ghost use Rattle.byte_streams.specs.Rows.{bias_in, row_len, row_value};
     ghost use Rattle.packed_values.specs.From.{value_from};
+    ghost use Rattle.packed_values.specs.Kinds.{AllCodes, is_still};
     ghost use Rattle.packed_values.specs.Packed.{values_of};
+    ghost use Rattle.packed_values.specs.Tables.{IsAlong, IsNarrow};
 
     /// How many samples there are.
     pub fn len(&self) -> usize
@@ -41,7 +43,8 @@ impl<'a> Packed<'a> {
     }
 
     /// How many samples from place `start` on, of at most `most`, are of one kind: all there and of one direction or its opposite, or
-    /// all without a value. Of words it is `most`: it is not looked for. A stretch that is cut there makes a row of levels.
+    /// all without a value. Of words it is `most`: it is not looked for. A stretch that is cut there makes a row of levels. It is a
+    /// hint: that it is at most `most` is all that is promised. A wrong one costs time, and never a cell.
     pub fn alike_from(&self, start: i64, most: usize) -> usize
         requires start { unsigned_abs start ≤ 2 ^ 41 }
         requires size { length (values_of self.now) ≤ 2 ^ 41 }
@@ -69,6 +72,8 @@ impl<'a> Packed<'a> {
         requires im { length im.old ≡ length there.old }
         ensures len { row_len result ≡ length there.old }
         ensures values { (k : ℕ) → k < length there.old → row_value result k ≡ value_from (values_of self.now) (start +ℤ pos k) }
+        ensures still { (d : ℕ) → 0 < length there.old → AllCodes (IsAlong d) self.now start (length there.old) → is_still result ≡ true }
+        ensures narrow { AllCodes IsNarrow self.now start (length there.old) → bias_in result ≡ 3 }
     {
         match self {
             Packed::Codes(codes) => row_of(codes, start, re, im, there),

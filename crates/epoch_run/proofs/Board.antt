@@ -4,7 +4,7 @@ use Rattle.std.proofs.Math.Nat.{mul-le-mul_left}
 use Rattle.std.proofs.lemmas.Nat.{mul-le}
 use Rattle.piece_plan.specs.Pieces.{per_group}
 use Rattle.piece_plan.proofs.Quotients.{ceil_le}
-use Rattle.epoch_run.specs.Amounts.{WorkFields, cut_of}
+use Rattle.epoch_run.specs.Amounts.{WorkFields, cells_of, cut_of}
 use Rattle.epoch_run.specs.Levelled.{IsWork}
 
 -- an epoch has few groups
@@ -23,3 +23,7 @@ room w shares is few =
     omega (arith, is.summed.epoch.short, ceil_le (w.epoch.to - w.epoch.from) w.piece some) in
     let all = mul-le (w.epoch.products * w.epoch.baselines) (per_group (cut_of w)) 4194304 4194304 (groups-few w is) fewer in
     omega (arith, all, few)
+
+-- and so do the words
+pub words : (w : WorkFields) → IsWork w → w.epoch.products * w.epoch.baselines * (3 * cells_of w) < 2 ^ 32
+words w is = omega (arith, is.room)

@@ -1,7 +1,10 @@
 pub mod Within
-pub mod Parts
 pub mod Groups
 pub mod Rows
+pub mod BinnedCells
+pub mod Parts
+pub mod WorkCells
+pub mod BinRuns
 pub mod Pieces
 pub mod Totals
 pub mod Board

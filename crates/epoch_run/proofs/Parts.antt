@@ -2,15 +2,14 @@
 use Rattle.std.proofs.Common.{◌≡◌, ℕ, zero, suc, ◌+◌, ◌-◌, ◌*◌, ◌≤◌, ◌<◌, min, ℤ, pos, ◌+ℤ◌, ◌-ℤ◌, ◌≤ℤ◌, neg_ℤ, unsigned_abs, get_or, refl, sym, ap, ◌∙◌, arith}
 use Rattle.std.proofs.lemmas.Int.{ints}
 use Rattle.corr_model.specs.declared.cell.Cell.{Cell}
-use Rattle.corr_model.specs.declared.cell.Pair.{Pair}
-use Rattle.corr_model.specs.Cell.{Samples, no_cell, cell_plus, cell_in}
-use Rattle.corr_model.proofs.CellLemmas.{cell_in-none, cell_in-split, same_cell}
+use Rattle.corr_model.specs.Cell.{no_cell, cell_plus}
+use Rattle.corr_model.proofs.CellLemmas.{same_cell}
 use Rattle.piece_claim.specs.State.{sum_below}
 use Rattle.piece_plan.specs.Parts.{part_at, part_count}
 use Rattle.piece_plan.proofs.Quotients.{below_ceil, ceil_covers}
 use Rattle.epoch_run.specs.Amounts.{amounts_in, bias_of}
-use Rattle.epoch_run.specs.Levelled.{AllLevelled, IsWithin}
-use Rattle.epoch_run.proofs.Within.{IsWithin-cell_in}
+use Rattle.epoch_run.specs.Levelled.{IsWithin}
+use Rattle.epoch_run.proofs.BinnedCells.{AddsUp}
 
 -- number r of the amounts of a cell
 abbrev pub amount_in : ℕ → ℕ → Cell → ℕ
@@ -54,26 +53,25 @@ cell-amounts c n a b e h p q s =
     same_cell (pos a -ℤ pos (bias_of n)) c.re (pos b -ℤ pos (bias_of n)) c.im e c.count (unbiased-sum c.re a n h.re_low p)
     (unbiased-sum c.im b n h.im_low q) s
 
-module _ (z : Samples) (pair : Pair) (samples : ℕ) (lag : ℤ) (all : AllLevelled z) (r : ℕ) where
-  -- number r of the pair's cell over a range
+module _ (over : ℕ → ℕ → Cell) (adds : AddsUp over) (r : ℕ) where
+  -- number r of the cell over a range
   abbrev pub amount_over : ℕ → ℕ → ℕ
-  amount_over from to = amount_in r (bias_of (to - from)) (cell_in z pair samples lag from to)
+  amount_over from to = amount_in r (bias_of (to - from)) (over from to)
 
   amount_over-split : (from middle to : ℕ) → from ≤ middle → middle ≤ to
       → amount_over from middle + amount_over middle to ≡ amount_over from to
   amount_over-split from middle to h k =
-      let c = cell_in z pair samples lag from middle in
-      let d = cell_in z pair samples lag middle to in
+      let c = over from middle in
+      let d = over middle to in
       let count : (middle - from) + (to - middle) ≡ to - from = omega (arith, h, k) in
-      amount_in-plus r c d (middle - from) (to - middle) (IsWithin-cell_in z pair samples lag from middle all)
-      (IsWithin-cell_in z pair samples lag middle to all)
+      amount_in-plus r c d (middle - from) (to - middle) (adds.within from middle) (adds.within middle to)
       ∙ ap (λ (n : ℕ). amount_in r (bias_of n) (cell_plus c d)) count
-      ∙ ap (amount_in r (bias_of (to - from))) (sym (cell_in-split z pair samples lag from middle to h k))
+      ∙ ap (amount_in r (bias_of (to - from))) (sym (adds.split from middle to h k))
 
   amount_over-none : (from : ℕ) → amount_over from from ≡ 0
   amount_over-none from =
       let count : from - from ≡ 0 = omega arith in
-      ap (amount_in r (bias_of (from - from))) (cell_in-none z pair samples lag from)
+      ap (amount_in r (bias_of (from - from))) (adds.none from)
       ∙ ap (λ (n : ℕ). amount_in r (bias_of n) no_cell) count
       ∙ amount_in-none r
 

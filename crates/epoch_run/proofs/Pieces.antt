@@ -1,28 +1,24 @@
 -- The pieces of an epoch, and their amounts.
 use Rattle.std.specs.Prelude.{flat_map, slice_get}
 use Rattle.std.specs.Option.{option_map_or}
-use Rattle.std.specs.List.{range_with_len}
-use Rattle.std.proofs.Common.{◌≡◌, ℕ, ◌+◌, ◌-◌, ◌*◌, ◌/◌, ◌%◌, ◌≤◌, ◌<◌, min, List, [], length, get_or, map, pos, Option, Some, refl, sym, ap, ◌∙◌, arith, All}
+use Rattle.std.proofs.Common.{◌≡◌, ℕ, ◌+◌, ◌-◌, ◌*◌, ◌/◌, ◌%◌, ◌≤◌, ◌<◌, min, List, [], length, get_or, pos, Option, Some, refl, sym, ap, ◌∙◌, arith, All}
 use Rattle.std.proofs.Math.Nat.{mul-le-mul_right}
 use Rattle.std.proofs.lemmas.Nat.{div-add-mod'}
 use Rattle.std.proofs.lemmas.Option.{same_Some}
-use Rattle.std.proofs.lemmas.List.FromFn.{length-map-range_with_len, get_or-map-range_with_len}
 use Rattle.std.proofs.lemmas.List.Elements.{All-from_get_or}
 use Rattle.corr_model.specs.declared.cell.Cell.{Cell}
 use Rattle.corr_model.specs.declared.cell.Pair.{Pair}
-use Rattle.corr_model.specs.Cell.{cell_in}
-use Rattle.corr_model.specs.Lags.{lag_of}
 use Rattle.piece_plan.specs.declared.piece.Piece.{Piece}
 use Rattle.piece_plan.specs.Parts.{part_at}
 use Rattle.piece_plan.specs.Pieces.{IsCut, per_group, piece_of, pieces_of}
 use Rattle.piece_plan.proofs.Quotients.{quotient_is}
 use Rattle.piece_plan.proofs.PieceLemmas.{length-groups, piece-IsPiece, quotient-lt}
-use Rattle.epoch_run.specs.Planes.{planed}
-use Rattle.epoch_run.specs.Amounts.{WorkFields, amounts_in, amounts_of, bias_of, cut_of, pair_amounts, piece_amounts}
+use Rattle.epoch_run.specs.Amounts.{WorkFields, amounts_in, amounts_of, bias_of, cells_of, cells_over, cut_of, pair_amounts, piece_amounts}
 use Rattle.epoch_run.specs.Levelled.{IsWithin, IsWork}
 use Rattle.epoch_run.specs.Part.{IsPart}
 use Rattle.epoch_run.proofs.Parts.{amount_in, amount_in-most, part_amount}
 use Rattle.epoch_run.proofs.Rows.{get_or-rows, length-rows}
+use Rattle.epoch_run.proofs.WorkCells.{AddsUp-cell_over, cell_over, get_or-cells_over, length-cells_over}
 
 -- an epoch that is summed is cut
 pub IsCut-work : (w : WorkFields) → IsWork w → IsCut (cut_of w)
@@ -90,14 +86,14 @@ amounts-within w p cells part within =
         ∙ get_or-rows f 3 (three (bias_of n)) cells (i / 3) (i % 3) none 0 inside (omega arith) in
         omega (arith, is, amount_in-most (i % 3) (get_or cells (i / 3) none) n (within (i / 3) none inside), part.short)
 
--- number r of lag l in piece k of a group
-pub amounts_of-at : (w : WorkFields) (is : IsWork w) (g k l r : ℕ) (pair : Pair) → g < w.epoch.products * w.epoch.baselines
-    → k < per_group (cut_of w) → l < w.epoch.lags → r < 3
+-- number r of cell c in piece k of a group
+pub amounts_of-at : (w : WorkFields) (is : IsWork w) (g k c r : ℕ) (pair : Pair) → g < w.epoch.products * w.epoch.baselines
+    → k < per_group (cut_of w) → c < cells_of w → r < 3
     → slice_get w.pairs g ≡ Some pair
-    → get_or (amounts_of w (g * per_group (cut_of w) + k)) (l * 3 + r) 0
-    ≡ part_amount (planed w.planes) pair w.samples (lag_of w.epoch.lags l) is.levelled r w.epoch.from w.epoch.to w.piece
+    → get_or (amounts_of w (g * per_group (cut_of w) + k)) (c * 3 + r) 0
+    ≡ part_amount (cell_over w is pair c) (AddsUp-cell_over w is pair c) r w.epoch.from w.epoch.to w.piece
     (omega (arith, is.summed.epoch.some)) (omega (arith, is.summed.some)) k
-amounts_of-at w is g k l r pair low less inside third there =
+amounts_of-at w is g k c r pair low less inside third there =
     let per = per_group (cut_of w) in
     let n = g * per + k in
     let split = quotient_is n per g k refl less in
@@ -114,12 +110,9 @@ amounts_of-at w is g k l r pair low less inside third there =
     split.1 in
     let group : p.product * w.epoch.baselines + p.baseline ≡ g = div-add-mod' (n / per) w.epoch.baselines ∙ split.0 in
     let f : Cell → List ℕ = amounts_in (bias_of (part.to - part.from)) in
-    let cell : ℕ → Cell = λ i. cell_in (planed w.planes) pair w.samples (lag_of w.epoch.lags i) part.from part.to in
-    let cells : List Cell = map cell (range_with_len 0 w.epoch.lags) in
-    let here : get_or cells l (cell l) ≡ cell l =
-    get_or-map-range_with_len cell 0 w.epoch.lags l l (cell l) inside (omega arith) in
-    ap (λ (amounts : List ℕ). get_or amounts (l * 3 + r) 0)
+    let cell : Cell = cell_over w is pair c part.from part.to in
+    ap (λ (amounts : List ℕ). get_or amounts (c * 3 + r) 0)
     (amounts_of-piece w n p pair at (ap (slice_get w.pairs) group ∙ there))
-    ∙ get_or-rows f 3 (three (bias_of (part.to - part.from))) cells l r (cell l) 0
-    (omega (arith, inside, length-map-range_with_len cell 0 w.epoch.lags)) third
-    ∙ ap (amount_in r (bias_of (part.to - part.from))) here
+    ∙ get_or-rows f 3 (three (bias_of (part.to - part.from))) (cells_over w part.from part.to pair) c r cell 0
+    (omega (arith, inside, length-cells_over w is pair part.from part.to)) third
+    ∙ ap (amount_in r (bias_of (part.to - part.from))) (get_or-cells_over w is pair part.from part.to c cell inside)

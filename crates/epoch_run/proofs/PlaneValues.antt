@@ -1,27 +1,17 @@
 -- The values of planes and of streams.
 use Rattle.std.specs.Prelude.{int_le, int_lt, ◌&&◌, if◌then◌else◌, option_and_then, slice_get, IfSome}
-use Rattle.std.specs.List.{range_with_len}
-use Rattle.std.proofs.Common.{◌≡◌, ℕ, zero, suc, ◌+◌, ◌^◌, ◌≤◌, ◌<◌, min, Bool, true, false, ℤ, pos, ◌+ℤ◌, ◌-ℤ◌, unsigned_abs, List, [], ◌∷◌, ◌++◌, length, map, get_or, Option, Some, None, Vec, Global, inl, inr, refl, sym, ap, ap₂, subst, ◌∙◌, arith, All}
+use Rattle.std.proofs.Common.{◌≡◌, ℕ, zero, suc, ◌+◌, ◌^◌, ◌≤◌, ◌<◌, min, Bool, true, false, ℤ, pos, ◌-ℤ◌, unsigned_abs, List, [], ◌∷◌, ◌++◌, length, map, get_or, Option, Some, None, Vec, Global, inl, inr, refl, sym, ap, subst, ◌∙◌, arith}
 use Rattle.std.specs.Vec.{with_items}
 use Rattle.std.proofs.Math.Seq.{get_or-append_seam}
 use Rattle.std.proofs.lemmas.Bool.{cases_lt}
-use Rattle.std.proofs.lemmas.List.{same_lists, get_or_past, get_or_append_left, length-map}
+use Rattle.std.proofs.lemmas.List.{get_or_past, get_or_append_left, length-map}
 use Rattle.std.proofs.lemmas.Option.{slice_get-get_or, slice_get_past}
-use Rattle.std.proofs.lemmas.List.Elements.{All-head, All-tail}
-use Rattle.std.proofs.lemmas.List.FromFn.{length-map-range_with_len, get_or-map-range_with_len}
-use Rattle.corr_model.specs.declared.cell.Cell.{Cell}
-use Rattle.corr_model.specs.declared.cell.Pair.{Pair}
-use Rattle.corr_model.specs.Cell.{Value, Samples, cell_in}
-use Rattle.corr_model.specs.Lags.{lag_of}
-use Rattle.corr_model.proofs.CellLemmas.{cell_in-values}
+use Rattle.corr_model.specs.Cell.{Value}
 use Rattle.bit_planes.specs.Planes.{PlanesFields, plane_value}
-use Rattle.lag_kernel.specs.Planes.{plane_samples, plane_pair}
 use Rattle.station_stream.specs.Stream.{StreamFields, AreLevelled, stream_value, windowed}
-use Rattle.piece_plan.specs.declared.epoch.EpochPlan.{EpochPlan}
-use Rattle.epoch_run.specs.Sums.{pair_cells, cells_in_epoch}
 use Rattle.epoch_run.specs.Levelled.{AllLevelled, IsLevelled}
 use Rattle.epoch_run.specs.Streamed.{streamed}
-use Rattle.epoch_run.specs.Planes.{chans_value, planed, IsNumbered, HoldStreams, HoldChans, AreFilled}
+use Rattle.epoch_run.specs.Planes.{chans_value, planed, HoldStreams, HoldChans, AreFilled}
 use Rattle.station_stream.proofs.ChansLemmas.{take-kept}
 use Rattle.epoch_run.proofs.Streams.{streamed-there, streamed-past}
 
@@ -31,49 +21,6 @@ value_of n o = option_and_then (λ (p : PlanesFields). plane_value p n) o
 
 abbrev pub no_planes : PlanesFields
 no_planes = record { from = pos 0; to = pos 0; values = [] }
-
--- cells over equal values are equal
-pub pair_cells-values : (y z : Samples) (p q : Pair) (samples lags from to : ℕ)
-    → ((n : ℤ) → y p.a p.x n ≡ z q.a q.x n)
-    → ((n : ℤ) → y p.b p.y n ≡ z q.b q.y n)
-    → pair_cells y samples lags from to p ≡ pair_cells z samples lags from to q
-pair_cells-values y z p q samples lags from to first second = same_lists (map f (range_with_len 0 lags)) (map g (range_with_len 0 lags)) long each
-  where
-    f : ℕ → Cell
-    f i = cell_in y p samples (lag_of lags i) from to
-
-    g : ℕ → Cell
-    g i = cell_in z q samples (lag_of lags i) from to
-
-    long : length (map f (range_with_len 0 lags)) ≡ length (map g (range_with_len 0 lags))
-    long = length-map-range_with_len f 0 lags ∙ sym (length-map-range_with_len g 0 lags)
-
-    each : (i : ℕ) (d : Cell) → i < length (map f (range_with_len 0 lags)) → get_or (map f (range_with_len 0 lags)) i d ≡ get_or (map g (range_with_len 0 lags)) i d
-    each i d h =
-        let inside : i < lags = omega (arith, h, length-map-range_with_len f 0 lags) in
-        get_or-map-range_with_len f 0 lags i i d inside (omega arith)
-        ∙ cell_in-values y z p q samples (lag_of lags i) from to
-        (λ n _ _. first (pos n)) (λ n _ _ _. second (pos n +ℤ lag_of lags i))
-        ∙ sym (get_or-map-range_with_len g 0 lags i i d inside (omega arith))
-
--- so are those of two channels and of their planes
-pub pair_cells-planes : (a b : PlanesFields) (z : Samples) (pair : Pair) (samples lags from to : ℕ)
-    → ((n : ℤ) → plane_value a n ≡ z pair.a pair.x n)
-    → ((n : ℤ) → plane_value b n ≡ z pair.b pair.y n)
-    → pair_cells (plane_samples a b) samples lags from to plane_pair ≡ pair_cells z samples lags from to pair
-pair_cells-planes a b z pair samples lags from to first second = pair_cells-values (plane_samples a b) z plane_pair pair samples lags from to first second
-
--- the sums of an epoch over equal values are equal
-pub cells_in_epoch-values : (y z : Samples) (pairs : List Pair) (samples : ℕ) (e : EpochPlan)
-    → ((station chan : ℕ) (n : ℤ) → station < 2 ^ 32 → chan < 2 ^ 32 → y station chan n ≡ z station chan n)
-    → All IsNumbered pairs
-    → cells_in_epoch y pairs samples e ≡ cells_in_epoch z pairs samples e
-cells_in_epoch-values y z [] samples e same numbered = refl
-cells_in_epoch-values y z (pair ∷ pairs) samples e same numbered =
-    let own = All-head IsNumbered pair pairs numbered in
-    ap₂ (λ (xs ys : List Cell). xs ++ ys)
-    (pair_cells-values y z pair pair samples e.lags e.from e.to (λ n. same pair.a pair.x n own.a own.x) (λ n. same pair.b pair.y n own.b own.y))
-    (cells_in_epoch-values y z pairs samples e same (All-tail IsNumbered pair pairs numbered))
 
 -- a window of a stream holds nothing before it and past it
 pub windowed-before : (s : StreamFields) (chan : ℕ) (n : ℤ) → int_le s.from n ≡ false → windowed s chan n ≡ None

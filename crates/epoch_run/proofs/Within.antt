@@ -38,6 +38,16 @@ IsWithin-plus c d n m first second = record {
   count = omega (arith, first.count, second.count);
 }
 
+-- and what more pairs can
+pub IsWithin-weaker : (c : Cell) (n m : ℕ) → IsWithin c n → n ≤ m → IsWithin c m
+IsWithin-weaker c n m h le = record {
+  re_low = omega (arith, ints, h.re_low, le);
+  re_high = omega (arith, ints, h.re_high, le);
+  im_low = omega (arith, ints, h.im_low, le);
+  im_high = omega (arith, ints, h.im_high, le);
+  count = omega (arith, h.count, le);
+}
+
 IsWithin-product_of : (x y : Value) → IfSome x AreLevelled → IfSome y AreLevelled → IsWithin (product_of x y) 1
 IsWithin-product_of (Some a) (Some b) h k =
     let rr = product-small a.0 b.0 h.0 k.0 in
@@ -54,7 +64,7 @@ IsWithin-product_of (Some a) (Some b) h k =
 IsWithin-product_of (Some a) None h k = IsWithin-none 1
 IsWithin-product_of None y h k = IsWithin-none 1
 
-IsWithin-product_at : (z : Samples) (pair : Pair) (samples : ℕ) (lag : ℤ) (n : ℕ) → AllLevelled z
+pub IsWithin-product_at : (z : Samples) (pair : Pair) (samples : ℕ) (lag : ℤ) (n : ℕ) → AllLevelled z
     → IsWithin (product_at z pair samples lag n) 1
 IsWithin-product_at z pair samples lag n all = by (is_inside (pos n +ℤ lag) samples)
   where
@@ -65,7 +75,7 @@ IsWithin-product_at z pair samples lag n all = by (is_inside (pos n +ℤ lag) sa
         (all pair.b pair.y (pos n +ℤ lag))
     by false = IsWithin-none 1
 
-IsWithin-sum_from : (f : ℕ → Cell) (from n : ℕ) → ((k : ℕ) → IsWithin (f k) 1) → IsWithin (sum_from f from n) n
+pub IsWithin-sum_from : (f : ℕ → Cell) (from n : ℕ) → ((k : ℕ) → IsWithin (f k) 1) → IsWithin (sum_from f from n) n
 IsWithin-sum_from f from zero each = IsWithin-none 0
 IsWithin-sum_from f from (suc n) each =
     let count : n + 1 ≡ suc n = omega arith in

@@ -5,7 +5,8 @@ use Rattle.corr_model.specs.Cell.{Samples}
 use Rattle.station_stream.specs.Stream.{StreamFields, windowed, AreLevelled}
 use Rattle.epoch_run.specs.Planes.{planed}
 use Rattle.epoch_run.specs.Sums.{IsSummed}
-use Rattle.epoch_run.specs.Amounts.{WorkFields}
+use Rattle.epoch_run.specs.Binned.{IsPhase}
+use Rattle.epoch_run.specs.Amounts.{WorkFields, cells_of}
 
 -- each value of a stream is such
 abbrev pub IsLevelled : StreamFields → Type 0
@@ -27,3 +28,5 @@ pub record IsWithin (c : Cell) (pairs : ℕ) : Type 0 where
 pub record IsWork (w : WorkFields) : Type 0 where
   pub summed : IsSummed w.pairs w.samples w.epoch w.piece
   pub levelled : AllLevelled (planed w.planes)
+  pub phase : IfSome w.phase (IsPhase w.samples)
+  pub room : w.epoch.products * w.epoch.baselines * cells_of w ≤ 4194304

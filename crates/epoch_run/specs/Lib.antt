@@ -1,5 +1,6 @@
 pub mod Streamed
 pub mod Sums
+pub mod Binned
 pub mod Amounts
 pub mod Planes
 pub mod Levelled

@@ -9,7 +9,7 @@ use corr_model::Cell;
 /// Sets `amounts` to the three of each cell. At most `samples` pairs were added to a cell.
 pub(crate) fn write_amounts(cells: &[Cell], samples: u64, amounts: &mut [u64])
     requires room { length amounts.old ≡ 3 * length cells.now }
-    requires few { length cells.now ≤ 1024 }
+    requires few { length cells.now ≤ 65536 }
     requires most { samples ≤ 4194304 }
     requires within { All (λ c. IsWithin c samples) cells.now }
     ensures { amounts.new ≡ flat_map (amounts_in (bias_of samples)) cells.now }

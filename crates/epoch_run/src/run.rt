@@ -1,7 +1,11 @@
 //! The workers of an epoch.
-ghost use Rattle.std.specs.Prelude.{◌≡◌, ◌<◌, ◌≤◌, ◌^◌, List, IfOk, length};
+ghost use Rattle.std.specs.Prelude.{◌≡◌, ◌*◌, ◌<◌, ◌≤◌, ◌^◌, List, IfOk, length};
 ghost use Rattle.std.specs.List.{All};
 ghost use Rattle.station_stream.specs.Stream.{StreamFields};
+ghost use Rattle.delay_track.specs.Track.{model_of};
+ghost use Rattle.pulsar_bins.specs.Bin.{bin_at};
+ghost use Rattle.epoch_run.specs.Amounts.{work_cells};
+ghost use Rattle.epoch_run.specs.Binned.{bin_cells_in_epoch};
 ghost use Rattle.epoch_run.specs.Planes.{HoldStreams, IsNumbered, planed};
 ghost use Rattle.epoch_run.specs.Streamed.{streamed};
 ghost use Rattle.epoch_run.specs.Sums.{IsSummed, cells_in_epoch, pieces_in_epoch};
@@ -11,6 +15,7 @@ use crate::team::{join_team, make_team, run_team};
 use crate::work::Work;
 use atomic_sums::EpochSums;
 use corr_model::Pair;
+use delay_track::Track;
 use dev_traits::Gate;
 use piece_plan::EpochPlan;
 use station_stream::Stream;
@@ -68,11 +73,92 @@ pub fn sum_planes<R: Threads + Sync, G: Gate + Sync>(
 {
     are_numbered(pairs);
     let work = Work::new(planes, pairs, samples, plan, piece);
+    let sums = sum_work(rt, alloc, &work, workers, gate)?;
+    Ok(sums)
+}
+
+/// The sums of an epoch by the bins of a pulse, as those of `run_epoch`: by group, then by bin, and then by rising lag. `count` is
+/// the number of bins in a turn, 2 to 64, and there are at most 4,194,304 cells in all. The track gives the pulse's phase at each
+/// sample of the scan, in units of 2^-32 turn: it has the phase's entries in place of a station's polynomials, and no clock. A
+/// pair of samples is of the bin of its first one. All memory but that of the totals is taken before the first piece.
+pub fn run_bins<R: Threads + Sync, G: Gate + Sync>(
+    rt: &R,
+    alloc: Global,
+    streams: &[Stream],
+    pairs: &[Pair],
+    samples: u64,
+    plan: &EpochPlan,
+    track: &Track<'_>,
+    count: u32,
+    piece: u64,
+    workers: u32,
+    gate: &G,
+) -> Result<EpochSums, AllocError>
+    requires epoch { IsSummed pairs.now samples plan.now piece }
+    requires workers { (1 ≤ workers) × (workers ≤ 64) }
+    requires some { 2 ≤ count }
+    requires few { count ≤ 64 }
+    requires track { track.now.samples ≡ samples }
+    requires room { plan.now.products * plan.now.baselines * plan.now.lags * count ≤ 4194304 }
+    ensures cells { IfOk result (λ sums. sums.cells
+        ≡ bin_cells_in_epoch (streamed streams.now) pairs.now samples plan.now (bin_at count (model_of track.now)) count) }
+    ensures pieces { IfOk result (λ sums. sums.pieces ≡ pieces_in_epoch plan.now piece) }
+{
+    let planes = EpochPlanes::build(alloc, streams)?;
+    sum_bins(
+        rt, alloc, &planes, pairs, samples, plan, track, count, piece, workers, gate,
+    )
+}
+
+/// The sums of an epoch by the bins of a pulse as those of `run_bins`, from the planes of its streams, which stay as they are.
+pub fn sum_bins<R: Threads + Sync, G: Gate + Sync>(
+    rt: &R,
+    alloc: Global,
+    planes: &EpochPlanes,
+    pairs: &[Pair],
+    samples: u64,
+    plan: &EpochPlan,
+    track: &Track<'_>,
+    count: u32,
+    piece: u64,
+    workers: u32,
+    gate: &G,
+) -> Result<EpochSums, AllocError>
+    requires epoch { IsSummed pairs.now samples plan.now piece }
+    requires workers { (1 ≤ workers) × (workers ≤ 64) }
+    requires some { 2 ≤ count }
+    requires few { count ≤ 64 }
+    requires track { track.now.samples ≡ samples }
+    requires room { plan.now.products * plan.now.baselines * plan.now.lags * count ≤ 4194304 }
+    ensures cells { IfOk result (λ sums. sums.cells
+        ≡ bin_cells_in_epoch (planed planes.now) pairs.now samples plan.now (bin_at count (model_of track.now)) count) }
+    ensures streams { IfOk result (λ sums. (streams : List StreamFields) → HoldStreams planes.now streams
+        → sums.cells ≡ bin_cells_in_epoch (streamed streams) pairs.now samples plan.now (bin_at count (model_of track.now)) count) }
+    ensures pieces { IfOk result (λ sums. sums.pieces ≡ pieces_in_epoch plan.now piece) }
+{
+    are_numbered(pairs);
+    let work = Work::by_bins(planes, pairs, samples, plan, piece, track, count);
+    let sums = sum_work(rt, alloc, &work, workers, gate)?;
+    Ok(sums)
+}
+
+// The sums of what the workers are to read.
+fn sum_work<R: Threads + Sync, G: Gate + Sync>(
+    rt: &R,
+    alloc: Global,
+    work: &Work<'_>,
+    workers: u32,
+    gate: &G,
+) -> Result<EpochSums, AllocError>
+    requires workers { (1 ≤ workers) × (workers ≤ 64) }
+    ensures cells { IfOk result (λ sums. sums.cells ≡ work_cells work.now) }
+    ensures pieces { IfOk result (λ sums. sums.pieces ≡ pieces_in_epoch work.now.epoch work.now.piece) }
+{
     let shares = u64::from(workers);
     let (board, seat) = work.board(alloc, shares)?;
-    let mut team = make_team(alloc, &board, seat, shares, plan.lags)?;
-    run_team(rt, &work, &board, &mut team, gate);
-    let seat = join_team(&board, team, &work);
+    let mut team = make_team(alloc, &board, seat, shares, work)?;
+    run_team(rt, work, &board, &mut team, gate);
+    let seat = join_team(&board, team, work);
     let sums = work.sums(alloc, board, seat)?;
     Ok(sums)
 }

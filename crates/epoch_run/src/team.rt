@@ -4,7 +4,8 @@ ghost use Rattle.std.specs.List.{All};
 ghost use Rattle.std.specs.Thread.{IsSync};
 ghost use Rattle.piece_claim.specs.State.{new_seat};
 ghost use Rattle.atomic_sums.specs.Seats.{seat_of};
-ghost use Rattle.epoch_run.specs.Amounts.{IsBoardOf, HaveAmounts};
+ghost use Rattle.epoch_run.specs.Binned.{stretch_of};
+ghost use Rattle.epoch_run.specs.Amounts.{IsBoardOf, HaveAmounts, cells_of};
 ghost use Rattle.epoch_run.specs.Team.{IsReady, IsOver};
 
 use crate::work::{Work, work_pieces};
@@ -14,10 +15,11 @@ use dev_traits::Gate;
 use std::alloc::{AllocError, Global};
 use std::thread::{Threads, join_mut};
 
-/// A seat of the board, and room for the cells and the amounts of a piece.
+/// A seat of the board, and room for the cells and the amounts of a piece and for the cells of a run of one bin.
 #[derive(Drop)]
 pub(crate) struct Worker {
     seat: BoardSeat,
+    stretch: Vec<Cell>,
     cells: Vec<Cell>,
     amounts: Vec<u64>,
 }
@@ -28,36 +30,37 @@ pub(crate) fn make_team(
     board: &SumBoard,
     first: BoardSeat,
     shares: u64,
-    lags: u32,
+    work: &Work<'_>,
 ) -> Result<Vec<Worker>, AllocError>
     requires shares { (0 < shares) × (shares ≤ 64) }
     requires first { first ≡ seat_of board.now (new_seat shares) None }
-    requires lags { lags ≤ 1024 }
     ensures count { IfOk result (λ team. vec_len team ≡ shares) }
-    ensures ready { IfOk result (λ team. All (IsReady board.now lags) team.items) }
+    ensures ready { IfOk result (λ team. All (IsReady work.now board.now) team.items) }
 {
     let mut seat = first;
     let mut team = Vec::new(alloc);
     for _ in 1..shares {
         let (rest, one) = board.split(seat);
         seat = rest;
-        team.push(worker_at(alloc, one, lags)?)?;
+        team.push(worker_at(alloc, one, work)?)?;
     }
-    team.push(worker_at(alloc, seat, lags)?)?;
+    team.push(worker_at(alloc, seat, work)?)?;
     Ok(team)
 }
 
 // A worker at a seat.
-fn worker_at(alloc: Global, seat: BoardSeat, lags: u32) -> Result<Worker, AllocError>
-    requires { lags ≤ 1024 }
+fn worker_at(alloc: Global, seat: BoardSeat, work: &Work<'_>) -> Result<Worker, AllocError>
     ensures seat { IfOk result (λ w. w.seat ≡ seat) }
-    ensures cells { IfOk result (λ w. length w.cells.items ≡ lags) }
-    ensures amounts { IfOk result (λ w. length w.amounts.items ≡ 3 * lags) }
+    ensures stretch { IfOk result (λ w. length w.stretch.items ≡ stretch_of work.now.phase work.now.epoch.lags) }
+    ensures cells { IfOk result (λ w. length w.cells.items ≡ cells_of work.now) }
+    ensures amounts { IfOk result (λ w. length w.amounts.items ≡ 3 * cells_of work.now) }
 {
-    let cells = vec![in alloc; Cell::ZERO; lags as usize]?;
-    let amounts = vec![in alloc; 0; 3 * lags as usize]?;
+    let stretch = vec![in alloc; Cell::ZERO; work.stretch()]?;
+    let cells = vec![in alloc; Cell::ZERO; work.cells()]?;
+    let amounts = vec![in alloc; 0; 3 * work.cells()]?;
     Ok(Worker {
         seat,
+        stretch,
         cells,
         amounts,
     })
@@ -73,7 +76,7 @@ pub(crate) fn run_team<R: Threads + Sync, G: Gate + Sync>(
 )
     requires board { IsBoardOf work.now board.now.sizes }
     requires few { length team.old ≤ 64 }
-    requires ready { All (IsReady board.now work.now.epoch.lags) team.old }
+    requires ready { All (IsReady work.now board.now) team.old }
     ensures over { All (IsOver work.now board.now) team.new }
 {
     run_from(rt, work, board, team, 0, gate);
@@ -91,7 +94,7 @@ fn run_from<R: Threads + Sync, G: Gate + Sync>(
 )
     requires board { IsBoardOf work.now board.now.sizes }
     requires few { number + length team.old ≤ 64 }
-    requires ready { All (IsReady board.now work.now.epoch.lags) team.old }
+    requires ready { All (IsReady work.now board.now) team.old }
     ensures over { All (IsOver work.now board.now) team.new }
 {
     let Some((one, rest)) = team.split_first_mut() else {
@@ -105,14 +108,14 @@ fn run_from<R: Threads + Sync, G: Gate + Sync>(
         rt,
         &mut ||
             requires board { IsBoardOf work.now board.now.sizes }
-            requires ready { IsReady board.now work.now.epoch.lags one.now }
+            requires ready { IsReady work.now board.now one.now }
             ensures { IsOver work.entry.now board.entry.now one.exit.now }
         { run_one(work, board, one, number, gate) },
         &mut ||
             requires sync { IsSync R.row × IsSync G.row }
             requires board { IsBoardOf work.now board.now.sizes }
             requires few { number + 1 + length rest.now ≤ 64 }
-            requires ready { All (IsReady board.now work.now.epoch.lags) rest.now }
+            requires ready { All (IsReady work.now board.now) rest.now }
             ensures { All (IsOver work.entry.now board.entry.now) rest.exit.now }
         { run_from(rt, work, board, rest, number + 1, gate) },
     );
@@ -121,7 +124,7 @@ fn run_from<R: Threads + Sync, G: Gate + Sync>(
 // A worker works.
 fn run_one<G: Gate>(work: &Work<'_>, board: &SumBoard, worker: &mut Worker, number: u32, gate: &G)
     requires board { IsBoardOf work.now board.now.sizes }
-    requires ready { IsReady board.now work.now.epoch.lags worker.old }
+    requires ready { IsReady work.now board.now worker.old }
     ensures over { IsOver work.now board.now worker.new }
 {
     work_pieces(
@@ -129,6 +132,7 @@ fn run_one<G: Gate>(work: &Work<'_>, board: &SumBoard, worker: &mut Worker, numb
         board,
         &mut worker.seat,
         number,
+        &mut worker.stretch,
         &mut worker.cells,
         &mut worker.amounts,
         gate,

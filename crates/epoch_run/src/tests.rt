@@ -6,9 +6,9 @@ ghost use Rattle.dev_traits.specs.Told.{WhereTold};
 ghost use Rattle.num_time.specs.Times.{IsSecond};
 ghost use Rattle.frame_index.specs.Recording.{IsOnShelf};
 
-use crate::{EpochPlanes, run_epoch, sum_planes};
+use crate::{EpochPlanes, run_bins, run_epoch, sum_planes};
 use atomic_sums::EpochSums;
-use corr_model::Pair;
+use corr_model::{Cell, Pair};
 use delay_poly::{Poly, PolyEntry, PolyList};
 use delay_track::{StationModel, Track};
 use dev_traits::{Failed, Gate, Shelf};
@@ -50,6 +50,17 @@ const PLAN: EpochPlan = EpochPlan {
     m: 0,
     from: 0,
     to: 128,
+    products: 2,
+    baselines: 1,
+    lags: 2,
+};
+
+// Its first 100 samples as one epoch with two groups of two pieces each.
+const BIN_PLAN: EpochPlan = EpochPlan {
+    scan: 0,
+    m: 0,
+    from: 0,
+    to: 100,
     products: 2,
     baselines: 1,
     lags: 2,
@@ -264,6 +275,60 @@ fn has_cells(rt: &impl Abort, sums: &EpochSums)
         let (back, here) = (sums.cell(2 * group), sums.cell(2 * group + 1));
         assert_eq!(rt; (back.re, back.im, back.count), (1143, 0, 127));
         assert_eq!(rt; (here.re, here.im, here.count), (1152, 0, 128));
+    }
+}
+
+// The sums of the first 100 samples in three bins of a pulse that turns once in 64 samples and begins at a quarter of a turn.
+fn binned<R: Threads + Sync>(rt: &R, alloc: Global, stream: Stream) -> Result<EpochSums, Fail>
+    ensures { IfOk result (λ sums. length sums.cells ≡ 12) }
+{
+    let polys = polys_of(alloc, &[1 << 30, 1 << 54])?;
+    let clocks = ClockList::new(alloc);
+    let track = track_of(&polys, &clocks).ok_or("no phase")?;
+    let pairs = [PAIR, PAIR];
+    let gate = OpenGate::new();
+    let sums = run_bins(
+        rt,
+        alloc,
+        &[stream],
+        &pairs,
+        128,
+        &BIN_PLAN,
+        &track,
+        3,
+        64,
+        3,
+        &gate,
+    )?;
+    Ok(sums)
+}
+
+// Sample n is of the bin that 3 (n + 16) / 64 without its whole turns gives, rounded down: samples 0 to 5 and 48 to 69 are of bin 0,
+// 6 to 26 and 70 to 90 of bin 1, 27 to 47 and 91 to 99 of bin 2. A pair adds 9, and sample 0 has none at lag -1.
+#[test]
+fn bins_by_three_workers(rt: HostRuntime) -> Result<(), Fail> {
+    let alloc = rt.alloc();
+    let stream = stream_of(alloc, &mut shelf_of(alloc, HIGH)?, 128)?;
+    let sums = binned(&rt, alloc, stream)?;
+    assert_eq!(rt; sums.pieces(), 4);
+    for group in 0..2 {
+        for (bin, back, here) in [(0, 27, 28), (1, 42, 42), (2, 30, 30)] {
+            let first = 6 * group + 2 * bin;
+            assert_eq!(rt; sums.cell(first), of_pairs(back));
+            assert_eq!(rt; sums.cell(first + 1), of_pairs(here));
+        }
+    }
+    Ok(())
+}
+
+// The cell of so many pairs of 9 each.
+fn of_pairs(count: u64) -> Cell
+    requires { count ≤ 128 }
+{
+    Cell {
+        re: 9 * count as i64,
+        im: 0,
+        count,
     }
 }
 

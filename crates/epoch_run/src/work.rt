@@ -4,17 +4,22 @@ ghost use Rattle.std.specs.List.{All};
 ghost use Rattle.piece_claim.specs.State.{new_seat};
 ghost use Rattle.piece_claim.specs.Moves.{CanDraw};
 ghost use Rattle.atomic_sums.specs.Seats.{seat_of};
+ghost use Rattle.lag_kernel.specs.Planes.{plane_pair, plane_samples};
 ghost use Rattle.piece_plan.specs.Pieces.{per_group, pieces_of};
-ghost use Rattle.epoch_run.specs.Sums.{IsSummed, cells_in_epoch, pair_cells, pieces_in_epoch};
-ghost use Rattle.epoch_run.specs.Amounts.{IsBoardOf, HaveAmounts, amounts_of, cut_of};
-ghost use Rattle.epoch_run.specs.Planes.{planed};
-ghost use Rattle.epoch_run.specs.Levelled.{IsWithin};
+ghost use Rattle.delay_track.specs.Track.{model_of};
+ghost use Rattle.epoch_run.specs.Sums.{IsSummed, pieces_in_epoch};
+ghost use Rattle.epoch_run.specs.Binned.{bin_by, bin_cells, bins_of, stretch_of};
+ghost use Rattle.epoch_run.specs.Amounts.{IsBoardOf, HaveAmounts, amounts_of, cells_of, cells_over, cut_of, work_cells};
+ghost use Rattle.epoch_run.specs.Levelled.{AllLevelled, IsWithin};
 ghost use Rattle.epoch_run.specs.Part.{IsPart};
 
 use crate::amounts::write_amounts;
+use crate::phase::{Phase, bin_lags};
 use crate::planes::EpochPlanes;
 use atomic_sums::{BoardSeat, EpochSums, SumBoard};
+use bit_planes::Planes;
 use corr_model::{Cell, Pair};
+use delay_track::Track;
 use dev_traits::Gate;
 use lag_kernel::plane_lags;
 use piece_plan::{EpochPlan, Piece, PiecePlan};
@@ -22,7 +27,7 @@ use std::alloc::{AllocError, Global};
 use std::marker::Model;
 
 /// What the workers of an epoch read: the planes of its stations' channels, the pair of each group in the order of the groups'
-/// numbers, the scan's length in samples, the epoch, and the most samples in a piece.
+/// numbers, the scan's length in samples, the epoch, the most samples in a piece, and the phase by whose bins the sums are sorted.
 #[derive(Drop)]
 pub struct Work<'a> {
     planes: &'a EpochPlanes,
@@ -30,10 +35,12 @@ pub struct Work<'a> {
     samples: u64,
     epoch: &'a EpochPlan,
     piece: u64,
+    phase: Option<Phase<'a>>,
 }
 
 impl<'a> Model for Work<'a> {
     ghost use Rattle.epoch_run.specs.Amounts.{WorkFields};
+    ghost use Rattle.epoch_run.specs.Binned.{phase_of};
     ghost use Rattle.epoch_run.specs.Levelled.{IsWork};
 
     ghost Value = { WorkFields };
@@ -44,6 +51,7 @@ impl<'a> Model for Work<'a> {
       samples = w.samples;
       epoch = w.epoch.now;
       piece = w.piece;
+      phase = phase_of w.phase;
     } };
 
     ghost invariant = { λ w. IsWork (record {
@@ -52,6 +60,7 @@ impl<'a> Model for Work<'a> {
       samples = w.samples;
       epoch = w.epoch.now;
       piece = w.piece;
+      phase = phase_of w.phase;
     }) };
 }
 
@@ -72,6 +81,7 @@ impl<'a> Work<'a> {
           samples = samples;
           epoch = plan.now;
           piece = piece;
+          phase = None;
         } }
     {
         planes.is_levelled();
@@ -81,6 +91,79 @@ impl<'a> Work<'a> {
             samples,
             epoch: plan,
             piece,
+            phase: None,
+        }
+    }
+
+    /// The same, where the sums are sorted by the phase of a pulse into `count` bins, 2 to 64. The track has the phase's entries in
+    /// place of a station's polynomials, and no clock.
+    pub fn by_bins(
+        planes: &'a EpochPlanes,
+        pairs: &'a [Pair],
+        samples: u64,
+        plan: &'a EpochPlan,
+        piece: u64,
+        track: &Track<'a>,
+        count: u32,
+    ) -> Work<'a>
+        requires epoch { IsSummed pairs.now samples plan.now piece }
+        requires some { 2 ≤ count }
+        requires few { count ≤ 64 }
+        requires track { track.now.samples ≡ samples }
+        requires room { plan.now.products * plan.now.baselines * plan.now.lags * count ≤ 4194304 }
+        ensures { result ≡ record {
+          planes = planes.now;
+          pairs = pairs.now;
+          samples = samples;
+          epoch = plan.now;
+          piece = piece;
+          phase = Some (record { model = model_of track.now; samples = samples; count = count });
+        } }
+    {
+        planes.is_levelled();
+        let phase = Phase {
+            track: *track,
+            count,
+        };
+        Work {
+            planes,
+            pairs,
+            samples,
+            epoch: plan,
+            piece,
+            phase: Some(phase),
+        }
+    }
+
+    // How many bins there are.
+    fn bins(&self) -> u32
+        ensures value { result ≡ bins_of self.now.phase }
+        ensures some { 1 ≤ result }
+        ensures few { result ≤ 64 }
+    {
+        match &self.phase {
+            None => 1,
+            Some(phase) => phase.count,
+        }
+    }
+
+    /// How many cells a group has.
+    pub(crate) fn cells(&self) -> usize
+        ensures value { result ≡ cells_of self.now }
+        ensures some { 1 ≤ result }
+        ensures few { result ≤ 65536 }
+    {
+        self.bins() as usize * self.epoch.lags as usize
+    }
+
+    /// How many cells a run of one bin is summed in before they are added to those of its bin.
+    pub(crate) fn stretch(&self) -> usize
+        ensures value { result ≡ stretch_of self.now.phase self.now.epoch.lags }
+        ensures few { result ≤ 1024 }
+    {
+        match &self.phase {
+            None => 0,
+            Some(_) => self.epoch.lags as usize,
         }
     }
 
@@ -95,7 +178,7 @@ impl<'a> Work<'a> {
             alloc,
             u64::from(self.epoch.products) * u64::from(self.epoch.baselines),
             pieces.per_group(),
-            3 * u64::from(self.epoch.lags),
+            3 * self.cells() as u64,
             900 * self.piece,
             shares,
         )
@@ -120,30 +203,54 @@ impl<'a> Work<'a> {
         self.pairs[(first + u64::from(piece.baseline)) as usize]
     }
 
-    // Sets `cells` to those of a pair over the samples of a piece.
-    fn sum_piece(&self, piece: &Piece, pair: &Pair, cells: &mut [Cell])
+    // Sets `cells` to those of the planes of two channels over the samples of a piece.
+    fn sum_channels(
+        &self,
+        piece: &Piece,
+        a: &Planes,
+        b: &Planes,
+        stretch: &mut [Cell],
+        cells: &mut [Cell],
+    )
         requires part { IsPart self.now piece.now }
-        requires cells { length cells.old ≡ self.now.epoch.lags }
-        ensures cells { cells.new ≡ pair_cells (planed self.now.planes) self.now.samples self.now.epoch.lags piece.now.from piece.now.to pair.now }
-        ensures few { length cells.new ≤ 1024 }
+        requires levelled { AllLevelled (plane_samples a.now b.now) }
+        requires stretch { length stretch.old ≡ stretch_of self.now.phase self.now.epoch.lags }
+        requires cells { length cells.old ≡ cells_of self.now }
+        ensures { cells.new ≡ bin_cells (bin_by self.now.phase) (bins_of self.now.phase) (plane_samples a.now b.now)
+            self.now.samples self.now.epoch.lags piece.now.from piece.now.to plane_pair }
+    {
+        match &self.phase {
+            None => plane_lags(a, b, piece.from, piece.to, self.samples, cells),
+            Some(phase) => bin_lags(phase, a, b, piece.from, piece.to, stretch, cells),
+        }
+    }
+
+    // Sets `cells` to those of a pair over the samples of a piece.
+    fn sum_piece(&self, piece: &Piece, pair: &Pair, stretch: &mut [Cell], cells: &mut [Cell])
+        requires part { IsPart self.now piece.now }
+        requires stretch { length stretch.old ≡ stretch_of self.now.phase self.now.epoch.lags }
+        requires cells { length cells.old ≡ cells_of self.now }
+        ensures cells { cells.new ≡ cells_over self.now piece.now.from piece.now.to pair.now }
+        ensures few { length cells.new ≤ 65536 }
         ensures within { All (λ c. IsWithin c (piece.now.to - piece.now.from)) cells.new }
     {
         let first = self.planes.channel(pair.a, pair.x);
         let second = self.planes.channel(pair.b, pair.y);
-        plane_lags(first, second, piece.from, piece.to, self.samples, cells);
+        self.sum_channels(piece, first, second, stretch, cells);
     }
 
     // Sets `amounts` to those of piece `n`, from its cells, which are left in `cells`.
-    fn amounts(&self, n: u64, cells: &mut [Cell], amounts: &mut [u64])
+    fn amounts(&self, n: u64, stretch: &mut [Cell], cells: &mut [Cell], amounts: &mut [u64])
         requires piece { n < self.now.epoch.products * self.now.epoch.baselines * per_group (cut_of self.now) }
-        requires cells { length cells.old ≡ self.now.epoch.lags }
-        requires room { length amounts.old ≡ 3 * self.now.epoch.lags }
+        requires stretch { length stretch.old ≡ stretch_of self.now.phase self.now.epoch.lags }
+        requires cells { length cells.old ≡ cells_of self.now }
+        requires room { length amounts.old ≡ 3 * cells_of self.now }
         ensures amounts { amounts.new ≡ amounts_of self.now n }
         ensures within { All (λ a. a ≤ 900 * self.now.piece) amounts.new }
     {
         let piece = self.piece_at(n);
         let pair = self.pair_of(&piece);
-        self.sum_piece(&piece, &pair, cells);
+        self.sum_piece(&piece, &pair, stretch, cells);
         write_amounts(cells, piece.to - piece.from, amounts);
     }
 
@@ -159,8 +266,7 @@ impl<'a> Work<'a> {
         requires over { seat.state.done ≡ true }
         requires shares { seat.state.shares ≡ board.sizes.shares }
         requires amounts { HaveAmounts self.now seat.state.finished }
-        ensures cells { IfOk result
-            (λ sums. sums.cells ≡ cells_in_epoch (planed self.now.planes) self.now.pairs self.now.samples self.now.epoch) }
+        ensures cells { IfOk result (λ sums. sums.cells ≡ work_cells self.now) }
         ensures pieces { IfOk result (λ sums. sums.pieces ≡ pieces_in_epoch self.now.epoch self.now.piece) }
     {
         let bias = 450 * (self.epoch.to - self.epoch.from);
@@ -170,12 +276,14 @@ impl<'a> Work<'a> {
 }
 
 /// Draws pieces and posts their cells until no piece is left. Before each piece it passes the gate as worker `worker`. `cells`
-/// has a place for each lag, and `amounts` three. It takes no memory.
+/// has a place for each bin and lag, and `amounts` three; `stretch` has a place for each lag where the work has bins. It takes no
+/// memory.
 pub fn work_pieces<G: Gate>(
     work: &Work<'_>,
     board: &SumBoard,
     seat: &mut BoardSeat,
     worker: u32,
+    stretch: &mut [Cell],
     cells: &mut [Cell],
     amounts: &mut [u64],
     gate: &G,
@@ -184,8 +292,9 @@ pub fn work_pieces<G: Gate>(
     requires of { seat.old.board ≡ board.now }
     requires idle { CanDraw seat.old.state }
     requires fresh { seat.old.state.finished ≡ [] }
-    requires cells { length cells.old ≡ work.now.epoch.lags }
-    requires amounts { length amounts.old ≡ 3 * work.now.epoch.lags }
+    requires stretch { length stretch.old ≡ stretch_of work.now.phase work.now.epoch.lags }
+    requires cells { length cells.old ≡ cells_of work.now }
+    requires amounts { length amounts.old ≡ 3 * cells_of work.now }
     ensures of { seat.new.board ≡ board.now }
     ensures over { seat.new.state.done ≡ true }
     ensures shares { seat.new.state.shares ≡ seat.old.state.shares }
@@ -193,7 +302,7 @@ pub fn work_pieces<G: Gate>(
 {
     while let Some(n) = board.draw(seat) {
         gate.piece(worker, n);
-        work.amounts(n, cells, amounts);
+        work.amounts(n, stretch, cells, amounts);
         board.post(seat, amounts);
     }
 }

@@ -1,3 +1,4 @@
+pub mod KindName
 pub mod Bin
 pub mod Values
 pub mod Words

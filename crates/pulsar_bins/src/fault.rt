@@ -23,6 +23,24 @@ pub enum BinsKind {
     Memory = 6,
 }
 
+impl BinsKind {
+    ghost use Rattle.std.specs.Prelude.{◌≡◌};
+    ghost use Rattle.pulsar_bins.specs.KindName.{kind_name};
+
+    /// The kind's name, as it is written above.
+    pub fn name(self) -> &'static str
+        ensures { result.now ≡ kind_name self }
+    {
+        match self {
+            BinsKind::Line => "Line",
+            BinsKind::Double => "Double",
+            BinsKind::Missing => "Missing",
+            BinsKind::Range => "Range",
+            BinsKind::Memory => "Memory",
+        }
+    }
+}
+
 /// The first fault, and its line, counted from 1; a missing line and want of memory are at 0.
 #[derive(Clone, Copy, Debug, PartialEq, Eq, Error)]
 #[error("{kind} in line {line}")]

@@ -1,4 +1,5 @@
 -- Planes that are filled at the samples that the lags of an epoch reach are those from which it is summed.
+use Rattle.std.specs.Prelude.{IfOk, Result, Ok, Err}
 use Rattle.std.proofs.Common.{◌≡◌, ℕ, ℤ, List, length, Option, subst, ◌∙◌}
 use Rattle.std.proofs.lemmas.Option.{slice_get_within}
 use Rattle.dev_traits.specs.Told.{WhereTold}
@@ -8,13 +9,14 @@ use Rattle.bit_planes.specs.Planes.{PlanesFields}
 use Rattle.piece_plan.specs.declared.epoch.EpochPlan.{EpochPlan}
 use Rattle.job_plan.specs.declared.plan.ScanPlan.{ScanPlan}
 use Rattle.job_plan.specs.declared.plan.Plan.{Plan}
+use Rattle.station_stream.specs.declared.fault.StreamFault.{StreamFault}
 use Rattle.epoch_run.specs.Planes.{planed}
 use Rattle.ready_job.specs.declared.ready.Ready.{Ready}
 use Rattle.run_sums.specs.declared.values.EpochValues.{EpochValues}
 use Rattle.run_sums.specs.Found.{IsFound}
 use Rattle.run_sums.specs.Pairs.{pairs_in}
 use Rattle.run_sums.specs.Parts.{HoldParts}
-use Rattle.run_sums.specs.Reach.{reach_from, reach_to, AreReached, IsReached}
+use Rattle.run_sums.specs.Reach.{reach_from, reach_to, AreReached, HoldsEpoch, IsReached}
 
 -- the planes of all stations
 AreReached-filled : (plan : Plan) (scan : ScanPlan) (e : EpochPlan) (planes : List (List PlanesFields)) (files : Files)
@@ -22,11 +24,11 @@ AreReached-filled : (plan : Plan) (scan : ScanPlan) (e : EpochPlan) (planes : Li
 AreReached-filled plan scan e planes files hold place chan stay n is begun under =
     hold place (slice_get_within scan.stays place stay is) chan stay n is begun under
 
-pub IsReached-filled : (told : Option Files) (ready : Ready) (plan : Plan) (i : ℕ) (e : EpochPlan) (scan : ScanPlan) (from to : ℕ) (v : EpochValues)
-    → plan ≡ ready.plan → IsFound plan ready.epochs i e scan → from ≡ reach_from e → to ≡ reach_to e scan.samples
+pub HoldsEpoch-filled : (told : Option Files) (plan plan' : Plan) (e : EpochPlan) (scan : ScanPlan) (from to : ℕ) (v : EpochValues)
+    → plan ≡ plan' → from ≡ reach_from e → to ≡ reach_to e scan.samples
     → v.pairs.items ≡ pairs_in plan scan → length v.planes ≡ length scan.stays
-    → WhereTold told (HoldParts plan scan (length scan.stays) from to v.planes) → IsReached told ready i v
-IsReached-filled told ready plan i e scan from to v same found begin end pairs count hold =
+    → WhereTold told (HoldParts plan scan (length scan.stays) from to v.planes) → HoldsEpoch told plan' scan e v
+HoldsEpoch-filled told plan plan' e scan from to v same begin end pairs count hold =
     let reached : WhereTold told (AreReached plan scan e v.planes) =
     WhereTold-weaker told (HoldParts plan scan (length scan.stays) from to v.planes) (AreReached plan scan e v.planes)
     (λ files held. AreReached-filled plan scan e v.planes files
@@ -34,10 +36,25 @@ IsReached-filled told ready plan i e scan from to v same found begin end pairs c
     (subst (λ (last : ℕ). HoldParts plan scan (length scan.stays) from last v.planes files) end held)))
     hold in
     record {
-      epoch = e;
-      scan = scan;
-      found = subst (λ (p : Plan). IsFound p ready.epochs i e scan) same found;
       pairs = subst (λ (p : Plan). v.pairs.items ≡ pairs_in p scan) same pairs;
       count = count;
       values = subst (λ (p : Plan). WhereTold told (AreReached p scan e v.planes)) same reached;
     }
+
+-- values of the epoch with a number
+IsReached-held : (told : Option Files) (ready : Ready) (plan : Plan) (i : ℕ) (e : EpochPlan) (scan : ScanPlan) (v : EpochValues)
+    → plan ≡ ready.plan → IsFound plan ready.epochs i e scan → HoldsEpoch told ready.plan scan e v → IsReached told ready i v
+IsReached-held told ready plan i e scan v same found holds = record {
+  epoch = e;
+  scan = scan;
+  found = subst (λ (p : Plan). IsFound p ready.epochs i e scan) same found;
+  pairs = holds.pairs;
+  count = holds.count;
+  values = holds.values;
+}
+
+-- the same of what a read gives
+pub IsReached-result : (told : Option Files) (ready : Ready) (plan : Plan) (i : ℕ) (e : EpochPlan) (scan : ScanPlan) (r : Result EpochValues StreamFault)
+    → plan ≡ ready.plan → IsFound plan ready.epochs i e scan → IfOk r (λ v. HoldsEpoch told ready.plan scan e v) → IfOk r (λ v. IsReached told ready i v)
+IsReached-result told ready plan i e scan (Ok v) same found holds = IsReached-held told ready plan i e scan v same found holds
+IsReached-result told ready plan i e scan (Err fault) same found holds = tt

@@ -2,7 +2,7 @@
 use Rattle.std.specs.Prelude.{flat_map, option_map, slice_get, IfSome}
 use Rattle.std.specs.List.{range_with_len}
 use Rattle.std.specs.Option.{option_map_or}
-use Rattle.std.proofs.Common.{◌≡◌, ℕ, ◌*◌, ◌<◌, pos, ◌+ℤ◌, List, [], ◌∷◌, ◌++◌, length, map, Option, Some, None, refl, sym, ap, subst, ◌∙◌, arith}
+use Rattle.std.proofs.Common.{◌≡◌, ℕ, ◌*◌, ◌<◌, ◌≤◌, pos, ◌+ℤ◌, true, List, [], ◌∷◌, ◌++◌, length, map, Option, Some, None, refl, sym, ap, subst, ◌∙◌, arith}
 use Rattle.std.proofs.lemmas.List.{length-append, length-map}
 use Rattle.std.proofs.lemmas.List.Concat.{flat_map-append}
 use Rattle.std.proofs.lemmas.List.Folds.{flat_map-map}
@@ -13,7 +13,7 @@ use Rattle.bit_planes.specs.Planes.{PlanesFields}
 use Rattle.frame_index.proofs.ToldLemmas.{WhereTold-weaker}
 use Rattle.corr_model.specs.declared.cell.Cell.{Cell}
 use Rattle.corr_model.specs.declared.cell.Pair.{Pair}
-use Rattle.corr_model.specs.Cell.{Samples, no_cell, cell_in}
+use Rattle.corr_model.specs.Cell.{Samples, no_cell, cell_in, is_inside}
 use Rattle.corr_model.specs.Files.{Files}
 use Rattle.corr_model.specs.Lags.{lag_of}
 use Rattle.corr_model.proofs.CellLemmas.{cell_in-values}
@@ -33,28 +33,28 @@ use Rattle.run_sums.specs.Found.{IsEpochOf, IsFound}
 use Rattle.ready_job.specs.declared.ready.Ready.{Ready}
 use Rattle.run_sums.specs.declared.values.EpochValues.{EpochValues}
 use Rattle.run_sums.specs.Reach.{AreReached, HaveGroups, IsReached}
-use Rattle.run_sums.specs.Pairs.{placed_pair, pairs_in}
+use Rattle.run_sums.specs.Pairs.{place_in, placed_pair, pairs_in}
 use Rattle.run_sums.proofs.PlaceLemmas.{planed-place}
 use Rattle.run_sums.proofs.FoundLemmas.{same-epoch, same-scan}
 use Rattle.run_sums.proofs.ReachLemmas.{inside-epoch, inside-lagged}
 
 -- ---- lists of lists
 
-flat_map-flat_map : {X Y Z : Type 0} (f : Y → List Z) (g : X → List Y) (xs : List X) → flat_map f (flat_map g xs) ≡ flat_map (λ x. flat_map f (g x)) xs
+pub flat_map-flat_map : {X Y Z : Type 0} (f : Y → List Z) (g : X → List Y) (xs : List X) → flat_map f (flat_map g xs) ≡ flat_map (λ x. flat_map f (g x)) xs
 flat_map-flat_map f g [] = refl
 flat_map-flat_map f g (x ∷ xs) = flat_map-append f (g x) (flat_map g xs) ∙ ap (λ rest. flat_map f (g x) ++ rest) (flat_map-flat_map f g xs)
 
-flat_map-same : {X Y : Type 0} (f g : X → List Y) (xs : List X) → ((x : X) → f x ≡ g x) → flat_map f xs ≡ flat_map g xs
+pub flat_map-same : {X Y : Type 0} (f g : X → List Y) (xs : List X) → ((x : X) → f x ≡ g x) → flat_map f xs ≡ flat_map g xs
 flat_map-same f g xs same = ap (λ h. flat_map h xs) (λ i x. same x i)
 
-length-flat_map_each : {X Y : Type 0} (f : X → List Y) (per : ℕ) (xs : List X) → ((x : X) → length (f x) ≡ per) → length (flat_map f xs) ≡ length xs * per
+pub length-flat_map_each : {X Y : Type 0} (f : X → List Y) (per : ℕ) (xs : List X) → ((x : X) → length (f x) ≡ per) → length (flat_map f xs) ≡ length xs * per
 length-flat_map_each f per [] each = omega arith
 length-flat_map_each f per (x ∷ xs) each =
     omega (arith, length-append (f x) (flat_map f xs), each x, length-flat_map_each f per xs each)
 
 -- ---- the number of cells
 
-length-pairs_in : (plan : Plan) (scan : ScanPlan) → length (pairs_in plan scan) ≡ length plan.products * length scan.baselines
+pub length-pairs_in : (plan : Plan) (scan : ScanPlan) → length (pairs_in plan scan) ≡ length plan.products * length scan.baselines
 length-pairs_in plan scan =
     length-flat_map_each (λ (p : ProductPlan). map (placed_pair scan p) scan.baselines) (length scan.baselines) plan.products
     (λ p. length-map scan.baselines (placed_pair scan p))
@@ -73,10 +73,28 @@ length-cells_in_epoch z pairs samples e =
 -- ---- the cells
 
 -- equal cells at each lag
-map-range-same : (f g : ℕ → Cell) (n : ℕ) → ((i : ℕ) → i < n → f i ≡ g i) → map f (range_with_len 0 n) ≡ map g (range_with_len 0 n)
+pub map-range-same : (f g : ℕ → Cell) (n : ℕ) → ((i : ℕ) → i < n → f i ≡ g i) → map f (range_with_len 0 n) ≡ map g (range_with_len 0 n)
 map-range-same f g n same =
     fill_by_all g (map f (range_with_len 0 n)) n no_cell (length-map-range_with_len f 0 n)
     (λ i less. get_or-map-range_with_len f 0 n i i no_cell less (omega arith) ∙ same i less)
+
+-- the value of the first station's channel at one of the epoch's samples
+pub planed-here : (plan : Plan) (scan : ScanPlan) (e : EpochPlan) (planes : List (List PlanesFields)) (files : Files) (station chan n : ℕ)
+    → IsEpochOf plan scan e → length planes ≡ length scan.stays → AreReached plan scan e planes files → e.from ≤ n → n < e.to
+    → planed planes (place_in scan station) chan (pos n) ≡ rotated plan files scan station chan (pos n)
+planed-here plan scan e planes files station chan n is count are begun under =
+    let in_reach = inside-epoch e.from e.to e.lags scan.samples n is.of_plan.lags.some is.inside begun under in
+    planed-place plan files scan planes station chan (pos n) count (λ place stay at. are place chan stay (pos n) at in_reach.begun in_reach.under)
+
+-- and of the second's a lag away from it
+pub planed-lagged : (plan : Plan) (scan : ScanPlan) (e : EpochPlan) (planes : List (List PlanesFields)) (files : Files) (station chan n i : ℕ)
+    → IsEpochOf plan scan e → length planes ≡ length scan.stays → AreReached plan scan e planes files → e.from ≤ n → n < e.to
+    → i < e.lags → is_inside (pos n +ℤ lag_of e.lags i) scan.samples ≡ true
+    → planed planes (place_in scan station) chan (pos n +ℤ lag_of e.lags i) ≡ rotated plan files scan station chan (pos n +ℤ lag_of e.lags i)
+planed-lagged plan scan e planes files station chan n i is count are begun under lag inside =
+    let in_reach = inside-lagged e.from e.to e.lags scan.samples n i is.of_plan.lags.even begun under lag inside in
+    planed-place plan files scan planes station chan (pos n +ℤ lag_of e.lags i) count
+    (λ place stay at. are place chan stay (pos n +ℤ lag_of e.lags i) at in_reach.begun in_reach.under)
 
 cell-reached : (plan : Plan) (scan : ScanPlan) (e : EpochPlan) (planes : List (List PlanesFields)) (files : Files) (p : ProductPlan) (b : BaselinePlan) (i : ℕ)
     → IsEpochOf plan scan e → length planes ≡ length scan.stays → AreReached plan scan e planes files → i < e.lags
@@ -84,13 +102,8 @@ cell-reached : (plan : Plan) (scan : ScanPlan) (e : EpochPlan) (planes : List (L
     ≡ cell_in (rotated plan files scan) (pair_of p b) scan.samples (lag_of e.lags i) e.from e.to
 cell-reached plan scan e planes files p b i is count are lag =
     cell_in-values (planed planes) (rotated plan files scan) (placed_pair scan p b) (pair_of p b) scan.samples (lag_of e.lags i) e.from e.to
-    (λ n begun under.
-    let in_reach = inside-epoch e.from e.to e.lags scan.samples n is.of_plan.lags.some is.inside begun under in
-    planed-place plan files scan planes b.a p.x (pos n) count (λ place stay at. are place p.x stay (pos n) at in_reach.begun in_reach.under))
-    (λ n begun under inside.
-    let in_reach = inside-lagged e.from e.to e.lags scan.samples n i is.of_plan.lags.even begun under lag inside in
-    planed-place plan files scan planes b.b p.y (pos n +ℤ lag_of e.lags i) count
-    (λ place stay at. are place p.y stay (pos n +ℤ lag_of e.lags i) at in_reach.begun in_reach.under))
+    (λ n begun under. planed-here plan scan e planes files b.a p.x n is count are begun under)
+    (λ n begun under inside. planed-lagged plan scan e planes files b.b p.y n i is count are begun under lag inside)
 
 pair_cells-reached : (plan : Plan) (scan : ScanPlan) (e : EpochPlan) (planes : List (List PlanesFields)) (files : Files) (p : ProductPlan) (b : BaselinePlan)
     → IsEpochOf plan scan e → length planes ≡ length scan.stays → AreReached plan scan e planes files

@@ -33,6 +33,13 @@ AreReached plan scan e planes files =
 abbrev pub HaveGroups : Ready → ℕ → EpochValues → Type 0
 HaveGroups ready i v = (e : EpochPlan) → slice_get (epochs_of ready.epochs) i ≡ Some e → length v.pairs.items ≡ e.products * e.baselines
 
+-- Values from which an epoch of a scan is summed: the pairs of the scan, and planes for each of its stations. Where the files are
+-- told, these hold the values of the scan at the samples that the epoch's lags reach.
+pub record HoldsEpoch (told : Option Files) (plan : Plan) (scan : ScanPlan) (e : EpochPlan) (v : EpochValues) : Type 0 where
+  pub pairs : v.pairs.items ≡ pairs_in plan scan
+  pub count : length v.planes ≡ length scan.stays
+  pub values : WhereTold told (AreReached plan scan e v.planes)
+
 -- Values from which epoch i of the job is summed: the pairs of its scan, and planes for each of the scan's stations. Where the
 -- files are told, these hold the values of the scan at the samples that the epoch's lags reach.
 pub record IsReached (told : Option Files) (ready : Ready) (i : ℕ) (v : EpochValues) : Type 0 where

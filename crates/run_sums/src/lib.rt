@@ -17,7 +17,7 @@ mod values;
 mod window;
 
 pub use ahead::{Ahead, advance, behind};
-pub use reached::reach;
+pub use reached::{reach, reach_epoch};
 pub use spare::Spare;
 pub use summed::correlate;
 pub use sums::sum;

@@ -1,10 +1,12 @@
 //! The epoch that is read.
-ghost use Rattle.std.specs.Prelude.{◌≡◌, ◌<◌, ◌≤◌, IfOk, length};
+ghost use Rattle.std.specs.Prelude.{◌≡◌, ◌<◌, ◌≤◌, IfOk, Some, length, slice_get};
 ghost use Rattle.dev_traits.specs.Told.{WhereTold};
 ghost use Rattle.piece_plan.specs.Epochs.{epochs_of};
 ghost use Rattle.station_stream.specs.Faults.{CountsReads};
 ghost use Rattle.station_stream.specs.Recorded.{AreRecorded};
-ghost use Rattle.run_sums.specs.Reach.{IsReached};
+ghost use Rattle.job_plan.specs.Ranges.{IsScanPlan};
+ghost use Rattle.run_sums.specs.Found.{IsEpochOf};
+ghost use Rattle.run_sums.specs.Reach.{HoldsEpoch, IsReached};
 
 use crate::epochs::found;
 use crate::pairs::pairs_of;
@@ -13,6 +15,8 @@ use crate::spare::Spare;
 use crate::values::EpochValues;
 use crate::window::{reach_from, reach_to};
 use dev_traits::Shelf;
+use job_plan::ScanPlan;
+use piece_plan::EpochPlan;
 use ready_job::Ready;
 use station_stream::StreamFault;
 use std::alloc::Global;
@@ -35,7 +39,29 @@ pub fn reach<F: Shelf>(
 {
     let plan = ready.plan.plan();
     let (e, scan) = found(plan, &ready.epochs, i);
-    let (from, to) = (reach_from(&e), reach_to(&e, scan.samples));
+    reach_epoch(alloc, spare, ready, shelf, scan, &e)
+}
+
+/// Reads the values of the samples that the lags of an epoch of a scan reach, as `reach` does. The epoch may be any range of the
+/// scan's samples.
+pub fn reach_epoch<F: Shelf>(
+    alloc: Global,
+    spare: &mut Spare,
+    ready: &Ready,
+    shelf: &mut F,
+    scan: &ScanPlan,
+    e: &EpochPlan,
+) -> Result<EpochValues, StreamFault>
+    requires recorded { WhereTold (F.told shelf.old) (λ files. AreRecorded files ready.now.plan.stations ready.now.recordings.items) }
+    requires there { slice_get ready.now.plan.scans e.now.scan ≡ Some scan.now }
+    requires of_scan { IsEpochOf ready.now.plan scan.now e.now }
+    requires ranges { IsScanPlan ready.now.plan scan.now }
+    ensures same { F.told shelf.new ≡ F.told shelf.old }
+    ensures values { IfOk result (λ v. HoldsEpoch (F.told shelf.old) ready.now.plan scan.now e.now v) }
+    ensures counts { CountsReads (F.faults shelf.old) (F.faults shelf.new) result }
+{
+    let plan = ready.plan.plan();
+    let (from, to) = (reach_from(e), reach_to(e, scan.samples));
     let pairs = pairs_of(alloc, plan, scan)?;
     let mut planes = room_for(alloc, spare.planes.take(), plan, scan, from, to)?;
     let (codes, recordings) = (&mut spare.codes, &ready.recordings);

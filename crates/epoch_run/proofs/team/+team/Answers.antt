@@ -7,7 +7,7 @@ use Rattle.epoch_run.proofs.team.+team.Goals as goal
 
 pub join_mut-requires-after_bounds : goal.join_mut-requires-after_bounds
 join_mut-requires-after_bounds g t c κs within =
-    let P : Worker → Type 0 = IsReady c.args.board.now c.args.work.now.epoch.lags in
+    let P : Worker → Type 0 = IsReady c.args.work.now c.args.board.now in
     let cut = c.in-Some.ensures.cases in
     let ready : All P (c.in-Some.one.now ∷ c.in-Some.rest.now) = subst (All P) cut.0 c.requires.ready in
     let few : c.args.number + 1 + length c.in-Some.rest.now ≤ 64 = omega (arith, cut.1, c.requires.few) in (

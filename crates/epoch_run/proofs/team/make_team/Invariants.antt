@@ -8,5 +8,5 @@ abbrev pub invariant-loop : goal.invariant-loop
 invariant-loop l = record {
   seat : l.seat ≡ seat_of l.board (new_seat (l.shares + 1 - l.counter)) None;
   count : vec_len l.team + 1 ≡ l.counter;
-  ready : All (IsReady l.board l.lags) l.team.items;
+  ready : All (IsReady l.work l.board) l.team.items;
 }

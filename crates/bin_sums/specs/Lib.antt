@@ -1,0 +1,3 @@
+pub mod Binned
+pub mod Range
+pub mod Ahead

@@ -13,6 +13,8 @@ use Rattle.job_text.specs.declared.fault.JobFault.{JobFault}
 use Rattle.job_text.specs.KindName.{kind_name as job_fault_name}
 use Rattle.job_join.specs.declared.fault.JoinFault.{JoinFault}
 use Rattle.checkpoint_journal.specs.declared.fault.Differs.{Differs}
+use Rattle.pulsar_bins.specs.declared.fault.BinsFault.{BinsFault}
+use Rattle.pulsar_bins.specs.KindName.{kind_name as bins_fault_name}
 use Rattle.vis_records.specs.declared.fault.VisFault.{VisFault}
 use Rattle.vis_records.specs.KindName.{kind_name as records_fault_name}
 use Rattle.job_join.specs.KindName.{fault_name as join_fault_name}
@@ -94,3 +96,11 @@ other_answer d =
 -- a text that is no right certificate of a record file, and the byte at which it is wrong
 abbrev pub certificate_answer : ℕ → Answer
 certificate_answer at = answer 13 (codes "certificate at byte " ∷ decimal at ∷ [])
+
+-- a text of a pulse's phase that has no bins
+abbrev pub bins_answer : BinsFault → Answer
+bins_answer fault = answer 12 (codes "bins: " ∷ bins_fault_name fault.kind ∷ codes " in line " ∷ decimal fault.line ∷ [])
+
+-- a scan that has a sample at which the pulse has no phase
+abbrev pub no_phase_answer : List ℕ → Answer
+no_phase_answer scan = answer 12 (codes "bins: NoPhase for " ∷ scan ∷ [])

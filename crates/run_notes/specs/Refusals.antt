@@ -1,11 +1,11 @@
 -- Refusals: their answers, and what may cause them. There are three classes: want of memory; a verdict on the words, on the files or
 -- on the journal, which is due where it is the first that stands; and the fault of a device.
-use Rattle.std.specs.Prelude.{◌≡◌, ◌⊎◌, ◌==◌, if◌then◌else◌, ⊤, ℕ, List, [], Option, Some, None, Result, Ok, Err, MatchResult}
+use Rattle.std.specs.Prelude.{⊤, Result, Ok, Err}
 use Rattle.run_notes.specs.declared.refusal.Due.{Due}
-use Rattle.run_notes.specs.declared.refusal.Due.TheVariants.{Vex, Schedule, Job, Join, Limit, NoFile, Recording, Records, Certificate}
+use Rattle.run_notes.specs.declared.refusal.Due.TheVariants.{Vex, Schedule, Job, Join, Limit, NoFile, Recording, Records, Certificate, Bins, NoPhase}
 use Rattle.run_notes.specs.declared.refusal.Refusal.{Refusal}
 use Rattle.run_notes.specs.declared.refusal.Refusal.TheVariants.{Memory, Words, Due as DueRefusal, Other, Read, Journal, Write}
-use Rattle.run_notes.specs.Answers.{Answer, memory_answer, words_answer, vex_answer, schedule_answer, job_answer, join_answer, limit_answer, no_file_answer, recording_answer, records_answer, certificate_answer, other_answer, read_answer, journal_answer, write_answer}
+use Rattle.run_notes.specs.Answers.{Answer, memory_answer, words_answer, vex_answer, schedule_answer, job_answer, join_answer, limit_answer, no_file_answer, recording_answer, records_answer, certificate_answer, bins_answer, no_phase_answer, other_answer, read_answer, journal_answer, write_answer}
 
 -- the answer of what is wrong with the files of a call
 abbrev pub due_answer : Due → Answer
@@ -18,6 +18,8 @@ due_answer (NoFile name) = no_file_answer name
 due_answer (Recording key field) = recording_answer key field
 due_answer (Records fault) = records_answer fault
 due_answer (Certificate at) = certificate_answer at
+due_answer (Bins fault) = bins_answer fault
+due_answer (NoPhase scan) = no_phase_answer scan
 
 abbrev pub answer_of : Refusal → Answer
 answer_of Memory = memory_answer

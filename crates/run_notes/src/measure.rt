@@ -10,6 +10,10 @@ pub enum Measure {
     Certificate,
     /// The magnitudes of the real and imaginary parts of one lag in a record file, summed over the integrations of a scan.
     Amplitude,
+    /// The bytes of a text of a pulse's phase.
+    Phase,
+    /// The cells of an integration, once for each bin of a pulse.
+    BinCells,
 }
 
 impl Measure {
@@ -24,6 +28,8 @@ impl Measure {
             Measure::Job(quantity) => quantity.name(),
             Measure::Certificate => "certificate",
             Measure::Amplitude => "amplitude",
+            Measure::Phase => "phase",
+            Measure::BinCells => "bincells",
         }
     }
 }

@@ -39,6 +39,7 @@ fn due_status(due: &Due) -> u8
         Due::Limit(_, _) => 6,
         Due::NoFile(_) => 11,
         Due::Certificate(_) => 13,
+        Due::Bins(_) | Due::NoPhase(_) => 12,
     }
 }
 
@@ -148,6 +149,24 @@ fn write_due<N: Sink>(due: &Due, notes: &mut N) -> Result<(), Failed>
             &[
                 Piece::Text("vlbi: certificate at byte "),
                 Piece::Number(*at),
+                Piece::Text("\n"),
+            ],
+            notes,
+        ),
+        Due::Bins(fault) => append_pieces(
+            &[
+                Piece::Text("vlbi: bins: "),
+                Piece::Text(fault.kind.name()),
+                Piece::Text(" in line "),
+                Piece::Number(fault.line as u64),
+                Piece::Text("\n"),
+            ],
+            notes,
+        ),
+        Due::NoPhase(scan) => append_pieces(
+            &[
+                Piece::Text("vlbi: bins: NoPhase for "),
+                Piece::Bytes(scan.bytes()),
                 Piece::Text("\n"),
             ],
             notes,

@@ -6,6 +6,7 @@ use checkpoint_journal::Differs;
 use job_join::JoinFault;
 use job_text::JobFault;
 use num_time::Name;
+use pulsar_bins::BinsFault;
 use run_words::WordsFault;
 use std::alloc::AllocError;
 use vdif_frame::Field;
@@ -36,6 +37,10 @@ pub enum Due {
     /// The text is not a right certificate of the record file: the byte with which its first wrong line begins, or its length
     /// where a line is missing.
     Certificate(u64),
+    /// The text of a pulse's phase has no bins.
+    Bins(BinsFault),
+    /// A scan of this name has a sample at which the pulse has no phase.
+    NoPhase(Name),
 }
 
 /// Why a call did not do what it was asked for.

@@ -1,6 +1,6 @@
 -- The identity of a job: its length, and the lengths of the recordings in it.
 use Rattle.std.proofs.Common.{◌≡◌, ◌∙◌, ◌≤◌, ◌<◌, ◌+◌, ◌*◌, ◌^◌, ℕ, List, [], ◌∷◌, ◌++◌, length, get_or, take, map, Option, None, Some, refl, sym, ap, ap₂, arith}
-use Rattle.std.specs.Prelude.{codes, IsSome, IfSome}
+use Rattle.std.specs.Prelude.{codes}
 use Rattle.std.specs.List.{AllZip, flat_map}
 use Rattle.std.proofs.lemmas.List.{length-append, length-map, map-append, append-nil, take_more}
 use Rattle.std.proofs.lemmas.List.Concat.{flat_map-append}
@@ -11,7 +11,6 @@ use Rattle.corr_model.specs.Files.{Files, bytes_under}
 use Rattle.frame_index.specs.declared.recording.FileRef.{FileRef}
 use Rattle.frame_index.specs.Recording.{IsOnShelf, AreOnShelf}
 use Rattle.job_plan.specs.declared.plan.StationPlan.{StationPlan}
-use Rattle.job_plan.specs.declared.plan.Plan.{Plan}
 use Rattle.checkpoint_journal.specs.Identity.{identity_of}
 use Rattle.run_ready.specs.declared.recordings.StationFiles.{StationFiles}
 use Rattle.run_ready.specs.Identities.{lengths_of}

@@ -1,4 +1,4 @@
--- What a job comes to where its recordings may be wrong besides its files.
+-- What a job comes to where more may be wrong: its files besides its texts, and its recordings besides its files.
 use Rattle.std.proofs.Common.{◌≡◌, ℕ, true, false, List, Option, None, Some, Result, Ok, Err, refl, sym, ap, subst, inl, inr}
 use Rattle.corr_model.specs.Files.{Files}
 use Rattle.scan_list.specs.declared.scan.Scan.{Scan}
@@ -14,7 +14,7 @@ use Rattle.run_ready.specs.Due.{IsDue}
 use Rattle.run_ready.specs.Steps.{Is, Then, answered, unless, or_else}
 use Rattle.run_ready.specs.Stage.{IsOfFiles}
 use Rattle.run_ready.specs.Recordings.{files_answer, first_foreign, recordings_answer}
-use Rattle.run_ready.specs.Outcome.{cause_answer, Wrong, Joins, JobOf, ScheduleOf, PlanUnder, SurveyOf, PlanOf}
+use Rattle.run_ready.specs.Outcome.{cause_answer, Wrong, Joins, JobOf, ScheduleOf, PlanUnder, JoinOf, SurveyOf, PlanOf}
 
 -- another outcome, which is the same where it is an answer
 abbrev Stays : {A : Type 0} → Result A Answer → Result A Answer → Type 0
@@ -50,6 +50,44 @@ PlanUnder-turn files w v job (Some vex) x y stays turns p =
     (λ scans. Then (JobOf files job false) (λ fields. Joins w fields scans)) (λ scans. Then (JobOf files job false) (λ fields. Joins v fields scans)) x y stays
     (λ scans. Then-turn (JobOf files job false) (λ fields. Joins w fields scans) (λ fields. Joins v fields scans) x y stays
     (λ fields. Joins-turn w v fields scans x y stays turns)) p
+
+-- a plan that the texts give becomes what else is found
+turns-found : (w : Wrong) (plan : Plan) (o : Option Answer) → w plan.stations ≡ o → Turns (λ stations. None) w (Ok plan) (unless o plan)
+turns-found w plan o found other is =
+    let given : Ok plan ≡ Ok other = is in
+    let same : plan ≡ other = cc in
+    subst (λ (p : Plan). unless o plan ≡ unless (w p.stations) p) same (ap (λ v. unless v plan) (sym found))
+
+turns-none : (w : Wrong) (answer : Answer) → Turns (λ stations. None) w (Err answer) (Err answer)
+turns-none w answer other is = absurd (let given : Err answer ≡ Ok other = is in cc)
+
+pub PlanUnder-found : (files : Files) (w : Wrong) (job : List ℕ) (vex : Option (List ℕ)) (plan : Plan) (o : Option Answer) → w plan.stations ≡ o
+    → JoinOf files job vex (Ok plan) → PlanUnder files w job vex (unless o plan)
+PlanUnder-found files w job vex plan o found is =
+    PlanUnder-turn files (λ stations. None) w job vex (Ok plan) (unless o plan) (λ answer e. absurd (cc)) (turns-found w plan o found) is
+
+-- the cause that texts are refused for
+pub IsCause-texts : (files : Files) (w : Wrong) (job : List ℕ) (vex : Option (List ℕ)) (r : Refusal) → IsOfFiles r
+    → IsCause r (JoinOf files job vex) → IsCause r (PlanUnder files w job vex)
+IsCause-texts files w job vex Memory stage cause = tt
+IsCause-texts files w job vex (Words fault) stage cause = absurd stage
+IsCause-texts files w job vex (DueRefusal due) stage cause =
+    PlanUnder-turn files (λ stations. None) w job vex (Err (due_answer due)) (Err (due_answer due)) (λ answer e. e) (turns-none w (due_answer due)) cause
+IsCause-texts files w job vex (Other d) stage cause = absurd stage
+IsCause-texts files w job vex Read stage cause = tt
+IsCause-texts files w job vex (Journal kept) stage cause = absurd stage
+IsCause-texts files w job vex Write stage cause = absurd stage
+
+-- and the one that is found behind them
+pub IsCause-found : (files : Files) (w : Wrong) (job : List ℕ) (vex : Option (List ℕ)) (plan : Plan) (r : Refusal) → JoinOf files job vex (Ok plan)
+    → IsDue r (w plan.stations) → IsCause r (PlanUnder files w job vex)
+IsCause-found files w job vex plan Memory is due = tt
+IsCause-found files w job vex plan (Words fault) is due = PlanUnder-found files w job vex plan (Some (words_answer fault)) due is
+IsCause-found files w job vex plan (DueRefusal d) is due = PlanUnder-found files w job vex plan (Some (due_answer d)) due is
+IsCause-found files w job vex plan (Other x) is due = PlanUnder-found files w job vex plan (Some (other_answer x)) due is
+IsCause-found files w job vex plan Read is due = tt
+IsCause-found files w job vex plan (Journal kept) is due = absurd due
+IsCause-found files w job vex plan Write is due = absurd due
 
 -- a plan whose files stand becomes what its recordings come to
 turns-plan : (files : Files) (plan : Plan) (o : Option Answer) → first_foreign files plan.stations ≡ o

@@ -13,10 +13,10 @@ use Rattle.run_notes.specs.declared.refusal.Refusal.{Refusal}
 use Rattle.run_ready.specs.declared.recordings.StationFiles.{StationFiles}
 use Rattle.run_ready.specs.Steps.{or_else}
 use Rattle.run_ready.specs.Due.{IsDue}
-use Rattle.run_ready.specs.Recordings.{slot_total, too_many_slots, foreign_answer, first_foreign, files_answer}
+use Rattle.run_ready.specs.Recordings.{slot_total, too_many_slots, foreign_answer, first_foreign, files_answer, recordings_answer}
 use Rattle.run_ready.specs.Sizes.{no_file_for, IsSizedBy, AreShelved, slots_together}
 use Rattle.run_ready.proofs.FilesLemmas.{slot_total-sized}
-use Rattle.run_ready.proofs.FirstLemmas.{IsFirst, IsDue-or_else}
+use Rattle.run_ready.proofs.FirstLemmas.{IsFirst, IsDue-or_else, IsDue-later}
 
 pub IsFirst-first_foreign : (files : Files) → IsFirst (foreign_answer files) (first_foreign files)
 IsFirst-first_foreign files = record { none = refl; more = λ s stations. refl }
@@ -65,3 +65,20 @@ unfolding files_answer
 files_answer-none files stations sized n all are is none few =
     ap (λ o. or_else o (too_many_slots files stations)) none
     ∙ no_slots n (slot_total files stations) (is ∙ slot_total-sized files stations sized all are) few
+
+-- what is wrong with the files is wrong with the recordings
+pub IsDue-files : (files : Files) (stations : List StationPlan) (r : Refusal) → IsDue r (files_answer files stations) → IsDue r (recordings_answer files stations)
+unfolding recordings_answer
+IsDue-files files stations r due = IsDue-or_else r (files_answer files stations) (first_foreign files stations) due
+
+-- then what they hold
+pub IsDue-recordings : (files : Files) (stations : List StationPlan) (r : Refusal) → files_answer files stations ≡ None → IsDue r (first_foreign files stations)
+    → IsDue r (recordings_answer files stations)
+unfolding recordings_answer
+IsDue-recordings files stations r fit due = IsDue-later r (files_answer files stations) (first_foreign files stations) fit due
+
+-- and else nothing
+pub recordings_answer-none : (files : Files) (stations : List StationPlan) → files_answer files stations ≡ None → first_foreign files stations ≡ None
+    → recordings_answer files stations ≡ None
+unfolding recordings_answer
+recordings_answer-none files stations fit none = ap (λ o. or_else o (first_foreign files stations)) fit ∙ none

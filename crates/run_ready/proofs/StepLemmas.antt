@@ -1,10 +1,12 @@
 -- Steps one behind the other, on what a shelf tells.
-use Rattle.std.proofs.Common.{◌≡◌, Option, Some, None, Result, Ok, Err, sym, ap, subst}
+use Rattle.std.proofs.Common.{◌≡◌, ℕ, Option, Some, None, Result, Ok, Err, sym, ap, subst}
 use Rattle.std.proofs.Common.{inl, inr}
 use Rattle.std.specs.Prelude.{IfOk, IfErr}
+use Rattle.dev_traits.specs.Fault.{HasRisen}
 use Rattle.dev_traits.specs.Told.{WhereTold}
 use Rattle.run_notes.specs.Answers.{Answer, words_answer, other_answer}
 use Rattle.run_notes.specs.Refusals.{Outcomes, IsCause, MatchRead, due_answer}
+use Rattle.run_notes.specs.Counted.{CountsReads}
 use Rattle.run_notes.specs.declared.refusal.Refusal.{Refusal}
 use Rattle.run_notes.specs.declared.refusal.Refusal.TheVariants.{Memory, Words, Due as DueRefusal, Other, Read, Journal, Write}
 use Rattle.run_ready.specs.Steps.{Is, Then, unless}
@@ -59,6 +61,10 @@ MatchRead-texts (Other d) P Q stage q = q
 MatchRead-texts Read P Q stage q = absurd stage
 MatchRead-texts (Journal kept) P Q stage q = absurd stage
 MatchRead-texts Write P Q stage q = absurd stage
+
+pub CountsReads-texts : {T : Type 0} (result : Result T Refusal) (before now : ℕ) → IfErr result IsOfTexts → now ≡ before → CountsReads before now result
+CountsReads-texts (Ok x) before now stage same = same
+CountsReads-texts (Err r) before now stage same = MatchRead-texts r (HasRisen before now) (now ≡ before) stage same
 
 -- a cause among some outcomes is one among more
 pub IsCause-among : {A : Type 0} (r : Refusal) (some more : Outcomes A) → ((x : Result A Answer) → some x → more x) → IsCause r some → IsCause r more

@@ -99,6 +99,10 @@ PlanUnder files wrong job None = Then (JobOf files job true) (λ fields. Joins w
 PlanUnder files wrong job (Some vex) =
     Then (ScheduleOf files vex) (λ scans. Then (JobOf files job false) (λ fields. Joins wrong fields scans))
 
+-- the plan of a job, as far as its texts show: nothing is wrong with the files of its stations
+abbrev pub JoinOf : Files → List ℕ → Option (List ℕ) → Outcomes Plan
+JoinOf files job vex = PlanUnder files (λ stations. None) job vex
+
 -- the plan of a job, as far as the lengths of its files show
 abbrev pub SurveyOf : Files → List ℕ → Option (List ℕ) → Outcomes Plan
 SurveyOf files job vex = PlanUnder files (files_answer files) job vex

@@ -2,27 +2,54 @@
 ghost use Rattle.std.specs.Prelude.{◌≡◌, IfOk, IfErr, IfSome, OnOk, Ok, None, option_copied};
 ghost use Rattle.std.specs.Str.{IsUtf8};
 ghost use Rattle.dev_traits.specs.Told.{WhereTold};
+ghost use Rattle.checkpoint_journal.specs.Identity.{identity_of};
 ghost use Rattle.run_notes.specs.Refusals.{IsCause};
 ghost use Rattle.run_notes.specs.Counted.{CountsReads};
-ghost use Rattle.run_ready.specs.Outcome.{PlanOf};
+ghost use Rattle.run_ready.specs.Outcome.{SurveyOf, PlanOf};
 ghost use Rattle.run_ready.specs.Due.{IsDue};
-ghost use Rattle.run_ready.specs.Recordings.{first_foreign};
+ghost use Rattle.run_ready.specs.Recordings.{first_foreign, recordings_answer};
 ghost use Rattle.run_ready.specs.Sizes.{AreShelved};
-ghost use Rattle.run_ready.specs.Identities.{identity_under};
+ghost use Rattle.run_ready.specs.Identities.{identity_under, lengths_of};
 ghost use Rattle.run_ready.specs.Stage.{IsOfFiles};
 ghost use Rattle.station_stream.specs.Recorded.{AreRecorded};
 
 use crate::indexes::index_all;
-use crate::job::survey;
-use crate::surveys::Survey;
+use crate::job::{Joined, join};
+use crate::surveys::{Survey, survey_joined};
 use dev_traits::Shelf;
 use num_time::Name;
 use ready_job::Ready;
 use run_notes::Refusal;
 use std::alloc::Global;
 
-// What was surveyed, with each station's recording.
-fn indexed<F: Shelf>(alloc: Global, shelf: &mut F, survey: Survey) -> Result<Ready, Refusal>
+/// Reads a job beside its schedule or, where there is none, by itself, and joins them: the schedule comes first, then the job, then
+/// both together, then the sizes of all recordings, station by station and file by file, and the number of their slots.
+pub fn survey<F: Shelf>(
+    alloc: Global,
+    job: &Name,
+    vex: Option<&Name>,
+    shelf: &mut F,
+) -> Result<Survey, Refusal>
+    requires job_text { IsUtf8 job.now }
+    requires vex_text { IfSome vex (λ name. IsUtf8 name.now) }
+    ensures same { F.told shelf.new ≡ F.told shelf.old }
+    ensures plan { IfOk result (λ s. WhereTold (F.told shelf.old) (λ files. SurveyOf files job.now (option_copied vex.entry) (Ok s.plan))) }
+    ensures shelved { IfOk result (λ s. WhereTold (F.told shelf.old) (AreShelved s.files.items)) }
+    ensures identity { IfOk result (λ s. WhereTold (F.told shelf.old) (λ files. s.identity ≡ identity_under files job.now (option_copied vex.entry) s.plan)) }
+    ensures cause { IfErr result (λ r. WhereTold (F.told shelf.old) (λ files. IsCause r (SurveyOf files job.now (option_copied vex.entry)))) }
+    ensures stage { IfErr result IsOfFiles }
+    ensures counts { CountsReads (F.faults shelf.old) (F.faults shelf.new) result }
+{
+    let joined = join(alloc, job, vex, shelf)?;
+    survey_joined(alloc, joined, shelf)
+}
+
+/// Indexes each station's recording, in the stations' order, of a job that was surveyed.
+pub fn index_survey<F: Shelf>(
+    alloc: Global,
+    survey: Survey,
+    shelf: &mut F,
+) -> Result<Ready, Refusal>
     requires { WhereTold (F.told shelf.old) (AreShelved survey.files.items) }
     ensures same { F.told shelf.new ≡ F.told shelf.old }
     ensures plan { IfOk result (λ ready. ready.plan ≡ survey.plan) }
@@ -48,6 +75,25 @@ fn indexed<F: Shelf>(alloc: Global, shelf: &mut F, survey: Survey) -> Result<Rea
     })
 }
 
+/// Takes the recordings of a job that is joined: their sizes and the number of their slots, and then each station's index.
+pub fn load_recordings<F: Shelf>(
+    alloc: Global,
+    joined: Joined,
+    shelf: &mut F,
+) -> Result<Ready, Refusal>
+    ensures same { F.told shelf.new ≡ F.told shelf.old }
+    ensures plan { IfOk result (λ ready. ready.plan ≡ joined.plan) }
+    ensures recorded { IfOk result (λ ready. WhereTold (F.told shelf.old) (λ files. AreRecorded files ready.plan.stations ready.recordings.items)) }
+    ensures identity { IfOk result (λ ready. WhereTold (F.told shelf.old) (λ files. ready.identity ≡ identity_of joined.schedule.items joined.text.items (lengths_of files ready.plan.stations))) }
+    ensures fit { OnOk result (WhereTold (F.told shelf.old) (λ files. recordings_answer files joined.plan.stations ≡ None)) }
+    ensures due { IfErr result (λ r. WhereTold (F.told shelf.old) (λ files. IsDue r (recordings_answer files joined.plan.stations))) }
+    ensures stage { IfErr result IsOfFiles }
+    ensures counts { CountsReads (F.faults shelf.old) (F.faults shelf.new) result }
+{
+    let survey = survey_joined(alloc, joined, shelf)?;
+    index_survey(alloc, survey, shelf)
+}
+
 /// Reads a job, joins and indexes it: what `survey` does, and then each station's index.
 pub fn prepare<F: Shelf>(
     alloc: Global,
@@ -66,5 +112,5 @@ pub fn prepare<F: Shelf>(
     ensures counts { CountsReads (F.faults shelf.old) (F.faults shelf.new) result }
 {
     let survey = survey(alloc, job, vex, shelf)?;
-    indexed(alloc, shelf, survey)
+    index_survey(alloc, survey, shelf)
 }

@@ -1,5 +1,5 @@
 //! What a command knows of its job before the recordings are looked into.
-ghost use Rattle.std.specs.Prelude.{◌≡◌, ◌≤◌, ◌<◌, ◌^◌, IfOk, IfErr, Ok, length};
+ghost use Rattle.std.specs.Prelude.{◌≡◌, ◌≤◌, ◌<◌, ◌^◌, IfOk, IfErr, OnOk, None, length};
 ghost use Rattle.std.specs.List.{All, AllZip};
 ghost use Rattle.dev_traits.specs.Told.{WhereTold};
 ghost use Rattle.piece_plan.specs.Epochs.{epochs_of};
@@ -8,6 +8,7 @@ ghost use Rattle.checkpoint_journal.specs.Identity.{identity_of};
 ghost use Rattle.run_notes.specs.Refusals.{IsCause};
 ghost use Rattle.run_notes.specs.Counted.{CountsReads};
 ghost use Rattle.run_ready.specs.Steps.{Is, unless};
+ghost use Rattle.run_ready.specs.Due.{IsDue};
 ghost use Rattle.run_ready.specs.Recordings.{files_answer};
 ghost use Rattle.run_ready.specs.Identities.{lengths_of};
 ghost use Rattle.run_ready.specs.Sizes.{IsSizedBy, AreShelved, sizes_in};
@@ -15,6 +16,7 @@ ghost use Rattle.run_ready.specs.Props.{AreSized-prop};
 ghost use Rattle.run_ready.specs.Stage.{IsOfFiles};
 
 use crate::identity::identity_of;
+use crate::job::Joined;
 use crate::recordings::{StationFiles, files_of};
 use checkpoint_journal::Identity;
 use dev_traits::Shelf;
@@ -68,27 +70,28 @@ fn survey_of(
     })
 }
 
-/// The survey of a plan, of a job with these texts: its stations' files are looked at.
-pub fn surveyed<F: Shelf>(
+/// Looks at the files of a job that is joined: the sizes of all recordings, station by station and file by file, and then the
+/// number of their slots.
+pub fn survey_joined<F: Shelf>(
     alloc: Global,
+    joined: Joined,
     shelf: &mut F,
-    schedule: &[u8],
-    job: &[u8],
-    plan: Plan0,
 ) -> Result<Survey, Refusal>
-    requires short_schedule { length schedule.now ≤ 8388608 }
-    requires short_job { length job.now ≤ 4194304 }
-    requires few { All (λ s. length s.files < 2 ^ 32) plan.stations }
-    requires few_scans { length plan.scans ≤ 8388608 }
-    requires few_epochs { length (epochs_of (sizes_of plan)) ≤ 4294967296 }
     ensures same { F.told shelf.new ≡ F.told shelf.old }
-    ensures plan { IfOk result (λ s. WhereTold (F.told shelf.old) (λ files. Is (unless (files_answer files plan.stations) plan) (Ok s.plan))) }
+    ensures plan { IfOk result (λ s. s.plan ≡ joined.plan) }
     ensures shelved { IfOk result (λ s. WhereTold (F.told shelf.old) (AreShelved s.files.items)) }
-    ensures identity { IfOk result (λ s. WhereTold (F.told shelf.old) (λ files. s.identity ≡ identity_of schedule.now job.now (lengths_of files s.plan.stations))) }
-    ensures cause { IfErr result (λ r. WhereTold (F.told shelf.old) (λ files. IsCause r (Is (unless (files_answer files plan.stations) plan)))) }
+    ensures identity { IfOk result (λ s. WhereTold (F.told shelf.old) (λ files. s.identity ≡ identity_of joined.schedule.items joined.text.items (lengths_of files s.plan.stations))) }
+    ensures fit { OnOk result (WhereTold (F.told shelf.old) (λ files. files_answer files joined.plan.stations ≡ None)) }
+    ensures due { IfErr result (λ r. WhereTold (F.told shelf.old) (λ files. IsDue r (files_answer files joined.plan.stations))) }
+    ensures cause { IfErr result (λ r. WhereTold (F.told shelf.old) (λ files. IsCause r (Is (unless (files_answer files joined.plan.stations) joined.plan)))) }
     ensures stage { IfErr result IsOfFiles }
     ensures counts { CountsReads (F.faults shelf.old) (F.faults shelf.new) result }
 {
+    let Joined {
+        plan,
+        schedule,
+        text,
+    } = joined;
     let files = files_of(alloc, shelf, plan.plan().stations.items())?;
-    Ok(survey_of(alloc, schedule, job, plan, files)?)
+    Ok(survey_of(alloc, &schedule, &text, plan, files)?)
 }

@@ -6,7 +6,7 @@ use Rattle.clap.specs.Words.{App, Row, Text, with_rule, first_of}
 use Rattle.run_words.specs.declared.fault.WordsFault.{WordsFault}
 use Rattle.run_words.specs.declared.fault.WordsFault.TheVariants.{NoCommand, UnknownCommand, Memory}
 use Rattle.run_words.specs.declared.order.Order.{Order}
-use Rattle.run_words.specs.declared.order.Order.TheVariants.{Run, Plain, Check, Status, Dump, Gen, Fringe, Verify}
+use Rattle.run_words.specs.declared.order.Order.TheVariants.{Run, Plain, Check, Status, Dump, Gen, Fringe, Verify, Bins}
 use Rattle.run_words.specs.Numbers.{number_in, workers_in, piece_in}
 use Rattle.run_words.specs.Options.{◌>>=◌, option_rule, needed_option, needed_word, bare_app, work_app, needed, taken_by}
 
@@ -88,6 +88,21 @@ verify_of rows =
     needed (codes "certificate") rows >>= λ certificate.
     Ok (Verify file certificate)
 
+-- ---- `bins`: a job as of `run`, and the file of a pulse's phase
+
+abbrev pub bins_app : App
+bins_app = work_app (with_rule (job_app (codes "bins")) (needed_option (codes "phase")))
+
+unfoldable pub bins_of : List Row → Result Order WordsFault
+bins_of rows =
+    needed (codes "job") rows >>= λ job.
+    needed (codes "phase") rows >>= λ phase.
+    needed (codes "workers") rows >>= λ workers_text.
+    needed (codes "piece") rows >>= λ piece_text.
+    workers_in workers_text >>= λ workers.
+    piece_in piece_text >>= λ piece.
+    Ok (Bins job (first_of (codes "vex") rows) phase workers piece)
+
 -- ---- the order of words
 
 -- the order of a command and the words behind it
@@ -101,6 +116,7 @@ order_after command words =
     else if bytes_eq command (codes "gen") then taken_by gen_app gen_of words
     else if bytes_eq command (codes "fringe") then taken_by fringe_app fringe_of words
     else if bytes_eq command (codes "verify") then taken_by verify_app verify_of words
+    else if bytes_eq command (codes "bins") then taken_by bins_app bins_of words
     else Err UnknownCommand
 
 abbrev pub order_of : List Text → Result Order WordsFault
@@ -145,3 +161,4 @@ IsOrder (Dump file) = IsUtf8 file
 IsOrder (Gen seed seconds workers piece) = IsSample seconds × IsWork workers piece
 IsOrder (Fringe file rates divide) = IsUtf8 file × IsGrid rates divide
 IsOrder (Verify file certificate) = IsUtf8 file × IsUtf8 certificate
+IsOrder (Bins job vex phase workers piece) = AreNames job vex × (IsUtf8 phase × IsWork workers piece)

@@ -2,7 +2,7 @@
 ghost use Rattle.std.specs.Prelude.{◌≡◌, IfOk, map, string_bytes};
 ghost use Rattle.clap.specs.Words.{app_of, rows_of, found_of};
 ghost use Rattle.run_words.specs.Options.{taken_by};
-ghost use Rattle.run_words.specs.Orders.{job_app, job_names_of, run_app, run_of, dump_app, dump_of, gen_app, gen_of, fringe_app, fringe_of, verify_app, verify_of, order_after, Gives, AreNames, IsOrder};
+ghost use Rattle.run_words.specs.Orders.{job_app, job_names_of, run_app, run_of, dump_app, dump_of, gen_app, gen_of, fringe_app, fringe_of, verify_app, verify_of, bins_app, bins_of, order_after, Gives, AreNames, IsOrder};
 
 use crate::fault::WordsFault;
 use crate::given::{name_given, name_of, needed};
@@ -15,7 +15,7 @@ use std::alloc::{AllocError, Global};
 /// What a call asks for, by its command: the name of the job's file and that of the schedule's, where there is one; how many
 /// workers share the work, and the samples of a piece of it; the name of a record file; of a generated job the seed and the
 /// length in seconds; of a search for fringes how many rates lie on either side of 0, and what divides a rate to steps of a
-/// sixteenth of a turn in an integration; and the name of a certificate's file.
+/// sixteenth of a turn in an integration; the name of a certificate's file; and that of the file of a pulse's phase.
 #[derive(Debug, Drop)]
 pub enum Order {
     Run {
@@ -54,6 +54,13 @@ pub enum Order {
         file: Name,
         certificate: Name,
     },
+    Bins {
+        job: Name,
+        vex: Option<Name>,
+        phase: Name,
+        workers: u32,
+        piece: u64,
+    },
 }
 
 /// The order of a command and the words behind it.
@@ -85,6 +92,8 @@ pub(crate) fn order_after(
         fringe_order(alloc, words)
     } else if command == "verify" {
         verify_order(alloc, words)
+    } else if command == "bins" {
+        bins_order(alloc, words)
     } else {
         Err(WordsFault::UnknownCommand)
     }
@@ -308,4 +317,46 @@ fn verify_order(alloc: Global, words: &[String]) -> Result<Order, WordsFault>
 {
     let matches = parsed(verify_command(alloc)?, words)?;
     verify_of(alloc, &matches)
+}
+
+// ---- `bins`: a job, the phase of a pulse, the workers that share its work, and the samples of a piece
+
+// The command.
+fn bins_command<'a>(alloc: Global) -> Result<Command<'a>, AllocError>
+    ensures { IfOk result (λ command. app_of command ≡ bins_app) }
+{
+    let command = job_command(alloc, "bins")?;
+    let command = with(command, needed_option(alloc, "phase"))?;
+    with_work(alloc, command)
+}
+
+// Its order.
+#[tactic(auto, unfolding(crate::specs::Orders::bins_of))]
+fn bins_of(alloc: Global, matches: &ArgMatches) -> Result<Order, WordsFault>
+    ensures order { Gives result (bins_of (rows_of (found_of matches.now))) }
+    ensures is_order { IfOk result IsOrder }
+{
+    let job = needed(matches, "job")?;
+    let phase = needed(matches, "phase")?;
+    let workers = needed(matches, "workers")?;
+    let piece = needed(matches, "piece")?;
+    let workers = workers_in(workers)?;
+    let piece = piece_in(piece)?;
+    Ok(Order::Bins {
+        job: name_of(alloc, job)?,
+        vex: name_given(alloc, matches, "vex")?,
+        phase: name_of(alloc, phase)?,
+        workers,
+        piece,
+    })
+}
+
+// The order of the words behind `bins`.
+#[tactic(auto, unfolding(crate::specs::Options::taken_by))]
+fn bins_order(alloc: Global, words: &[String]) -> Result<Order, WordsFault>
+    ensures order { Gives result (taken_by bins_app bins_of (map string_bytes words.now)) }
+    ensures is_order { IfOk result IsOrder }
+{
+    let matches = parsed(bins_command(alloc)?, words)?;
+    bins_of(alloc, &matches)
 }

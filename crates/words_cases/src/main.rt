@@ -104,6 +104,17 @@ fn order_of(alloc: Global, order: &Order) -> Result<String> {
             );
             Ok(format!(in alloc; "verify file \"{file}\" certificate \"{certificate}\"")?)
         }
+        Order::Bins {
+            job,
+            vex,
+            phase,
+            workers,
+            piece,
+        } => {
+            let names = names_of(alloc, "bins", job, vex)?;
+            let phase = text_of(phase)?.escape_debug();
+            Ok(format!(in alloc; "{names} phase \"{phase}\" workers {workers} piece {piece}")?)
+        }
     }
 }
 

@@ -23,3 +23,9 @@ returns-in-Recording g c = rw (c.in-Recording.is, ← c.bytes-in-Recording.ensur
 
 pub returns-in-Records : goal.returns-in-Records
 returns-in-Records g c = rw (c.in-Records.is, ← c.name-in-Records.ensures) c.append_pieces-in-Records.ensures
+
+pub returns-in-Bins : goal.returns-in-Bins
+returns-in-Bins g c = rw (c.in-Bins.is, ← c.name-in-Bins.ensures) c.append_pieces-in-Bins.ensures
+
+pub returns-in-NoPhase : goal.returns-in-NoPhase
+returns-in-NoPhase g c = rw (c.in-NoPhase.is, ← c.bytes-in-NoPhase.ensures) c.append_pieces-in-NoPhase.ensures

@@ -12,8 +12,8 @@ use Rattle.run_ready.proofs.StepLemmas.{IfOk-both}
 use Rattle.run_ready.proofs.LaterLemmas.{PlanOf-plan, IsCause-surveyed, IsCause-foreign}
 use Rattle.run_ready.proofs.ready.prepare.Goals as goal
 
-pub indexed-requires : goal.indexed-requires
-indexed-requires g c =
+pub index_survey-requires : goal.index_survey-requires
+index_survey-requires g c =
     let told = g.F.Shelf.told in
     WhereTold-moved (told c.survey.new.shelf) (told c.args.shelf.now) _ (sym c.survey.ensures.same) c.in_ok-survey.ensures.shelved
 
@@ -28,31 +28,31 @@ pub returns-clause-plan : goal.returns-clause-plan
 returns-clause-plan g c =
     let told = g.F.Shelf.told in
     let plan = c.in_ok-survey.survey.plan in
-    IfOk-both c.indexed.result _ (λ _. WhereTold (told c.survey.new.shelf) (λ files. first_foreign files plan.stations ≡ None)) _
+    IfOk-both c.index_survey.result _ (λ _. WhereTold (told c.survey.new.shelf) (λ files. first_foreign files plan.stations ≡ None)) _
     (λ ready same held. WhereTold-then (told c.args.shelf.now) (told c.survey.new.shelf) _ _ _
     (λ files is none. subst (λ (p : Plan). PlanOf files c.args.job.now (option_copied c.args.vex) (Ok p)) (sym same) (PlanOf-plan files c.args.job.now (option_copied c.args.vex) plan None none is))
     c.survey.ensures.same c.in_ok-survey.ensures.plan held)
-    c.indexed.ensures.plan c.indexed.ensures.agrees
+    c.index_survey.ensures.plan c.index_survey.ensures.agrees
 
 pub returns-clause-recorded : goal.returns-clause-recorded
 returns-clause-recorded g c =
     let told = g.F.Shelf.told in
-    IfOk-weaker c.indexed.result _ _
+    IfOk-weaker c.index_survey.result _ _
     (λ ready are. WhereTold-moved (told c.args.shelf.now) (told c.survey.new.shelf) _ c.survey.ensures.same are)
-    c.indexed.ensures.recorded
+    c.index_survey.ensures.recorded
 
 pub returns-clause-identity : goal.returns-clause-identity
 returns-clause-identity g c =
-    IfOk-both c.indexed.result _ _ _
+    IfOk-both c.index_survey.result _ _ _
     (λ ready same alike. WhereTold-weaker (g.F.Shelf.told c.args.shelf.now) _ _
     (λ files is. alike ∙ is ∙ ap (λ (p : Plan). identity_under files c.args.job.now (option_copied c.args.vex) p) (sym same)) c.in_ok-survey.ensures.identity)
-    c.indexed.ensures.plan c.indexed.ensures.identity
+    c.index_survey.ensures.plan c.index_survey.ensures.identity
 
 pub returns-clause-cause : goal.returns-clause-cause
 returns-clause-cause g c =
     let told = g.F.Shelf.told in
-    IfErr-weaker c.indexed.result _ _
+    IfErr-weaker c.index_survey.result _ _
     (λ r due. WhereTold-then (told c.args.shelf.now) (told c.survey.new.shelf) _ _ _
     (λ files is late. IsCause-foreign files c.args.job.now (option_copied c.args.vex) c.in_ok-survey.survey.plan r is late)
     c.survey.ensures.same c.in_ok-survey.ensures.plan due)
-    c.indexed.ensures.due
+    c.index_survey.ensures.due

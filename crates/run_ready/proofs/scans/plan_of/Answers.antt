@@ -1,8 +1,6 @@
-use Rattle.std.proofs.Common.{◌≡◌, ◌∙◌, ℕ, List, arith}
-use Rattle.run_ready.specs.Outcome.{cause_name}
+use Rattle.std.proofs.Common.{arith}
 use Rattle.run_ready.proofs.EpochLemmas.{few_epochs-joined}
 use Rattle.run_ready.proofs.JoinLemmas.{few-joined, length-joined}
-use Rattle.run_ready.proofs.RefusedLemmas.{IsCause-joined, IsOfTexts-joined}
 use Rattle.run_ready.proofs.scans.plan_of.Goals as goal
 
 pub returns-in-Ok-clause-few : goal.returns-in-Ok-clause-few

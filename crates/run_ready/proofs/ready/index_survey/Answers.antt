@@ -6,7 +6,7 @@ use Rattle.job_plan.specs.declared.plan.Plan.{Plan}
 use Rattle.station_stream.specs.Recorded.{AreNamed, AreRecorded}
 use Rattle.run_ready.specs.Sizes.{IsSizedBy}
 use Rattle.run_ready.proofs.FilesLemmas.{AreNamed-zip, AreRecorded-zip}
-use Rattle.run_ready.proofs.ready.indexed.Goals as goal
+use Rattle.run_ready.proofs.ready.index_survey.Goals as goal
 
 pub index_all-requires-clause-sized : goal.index_all-requires-clause-sized
 index_all-requires-clause-sized g c =

@@ -133,25 +133,49 @@ def samples(station: Station, channel: str, scan: Scan, rate: int, files: Files)
     return found
 
 
-def delays(job: Job, station: Station, scan: Scan) -> list[int]:
-    """The delay at each number of a scan, in 2^-32 sample."""
+def track(job: Job, polys: list[tuple[int, list[int]]], clocks: list[tuple[int, list[int]]], scan: Scan) -> list[int]:
+    """What entries come to at each number of a scan, with clocks added, in 2^-32 of a unit."""
     rate, knot = job.numbers["rate"], job.numbers["knot"]
-    polys = sorted(station.polys) or [(scan.start, [0])]
 
     @functools.cache
     def at_knot(when: int, j: int) -> int:
         total = 0
         for coefficient in reversed(dict(polys)[when]):
             total = coefficient + total * j // 2**24
-        since, (offset, drift) = max([one for one in station.clocks if one[0] <= when] or [(when, [0, 0])])
+        since, (offset, drift) = max([one for one in clocks if one[0] <= when] or [(when, [0, 0])])
         return total + offset + drift * ((when - since) * rate + j * knot) // rate
 
-    def delay(n: int) -> int:
+    def at(n: int) -> int:
         when = max(second for second, _ in polys if second <= scan.start + n // rate)
         j, r = divmod((scan.start - when) * rate + n, knot)
         return at_knot(when, j) + (at_knot(when, j + 1) - at_knot(when, j)) * r // knot
 
-    return [delay(n) for n in range(scan.samples)]
+    return [at(n) for n in range(scan.samples)]
+
+
+def delays(job: Job, station: Station, scan: Scan) -> list[int]:
+    """The delay at each number of a scan, in 2^-32 sample."""
+    return track(job, station.polys or [(scan.start, [0])], station.clocks, scan)
+
+
+@dataclass
+class Pulse:
+    """The bins of a turn of a pulse, and the entries of its phase, in 2^-32 turn."""
+
+    bins: int
+    phases: list[tuple[int, list[int]]]
+
+
+def pulse(text: str) -> Pulse:
+    """What a text of phases says that the program accepts."""
+    rows = [line.split("#")[0].split() for line in text.splitlines()]
+    bins = next(int(row[1]) for row in rows if row[:1] == ["bins"])
+    return Pulse(bins, [(second_of(row[1]), [int(one) for one in row[2:]]) for row in rows if row[:1] == ["phase"]])
+
+
+def bins_of(job: Job, pulsed: Pulse, scan: Scan) -> list[int]:
+    """The bin of each number of a scan: which part of a turn the phase is in, of so many."""
+    return [phase % 2**32 * pulsed.bins // 2**32 for phase in track(job, pulsed.phases, [], scan)]
 
 
 def values(job: Job, station: Station, channel: str, scan: Scan, files: Files) -> list[Value | None]:
@@ -191,7 +215,12 @@ def baselines(job: Job) -> list[tuple[int, int]]:
 
 
 def head(job: Job) -> bytes:
-    parts = [b"VLBIVIS1", struct.pack("<IQQ", job.numbers["lags"], job.numbers["integration"], job.numbers["rate"])]
+    return b"VLBIVIS1" + fields(job)
+
+
+def fields(job: Job) -> bytes:
+    """A head behind its mark."""
+    parts = [struct.pack("<IQQ", job.numbers["lags"], job.numbers["integration"], job.numbers["rate"])]
     parts += [struct.pack("<I", len(job.stations)), *map(name, job.stations)]
     parts += [struct.pack("<I", len(job.products)), *(name(x) + name(y) for x, y in job.products), struct.pack("<I", len(job.scans))]
     for scan in job.scans:
@@ -214,4 +243,25 @@ def records(job: Job, files: Files) -> tuple[bytes, list[Cell]]:
                     parts += [struct.pack("<BIQII", 1, number, m, p, q), *(struct.pack("<qqQ", *one) for one in made)]
                     cells += made
                     count += 1
+    return b"".join([*parts, struct.pack("<BQ", 255, count)]), cells
+
+
+def bin_records(job: Job, files: Files, pulsed: Pulse) -> tuple[bytes, list[list[Cell]]]:
+    """The text of the cells of a pulse's bins, of a job that has a baseline, and for each cell of its record file those of its bins."""
+    lags, integration, stations = job.numbers["lags"], job.numbers["integration"], list(job.stations.values())
+    parts, cells, count = [b"VLBIBIN1", struct.pack("<I", pulsed.bins), fields(job)], [], 0
+    for number, scan in enumerate(job.scans):
+        known = [{x: values(job, station, x, scan, files) for pair in job.products for x in pair} for station in stations]
+        bins = bins_of(job, pulsed, scan)
+        for m, begin in enumerate(range(0, scan.samples, integration)):
+            end = min(begin + integration, scan.samples)
+            for p, (x, y) in enumerate(job.products):
+                for q, (a, b) in enumerate(baselines(job)):
+                    made = []
+                    for own in range(pulsed.bins):
+                        first = [value if bins[n] == own else None for n, value in enumerate(known[a][x])]
+                        made.append([cell(first, known[b][y], begin, end, lag) for lag in range(-lags // 2, lags // 2)])
+                        parts += [struct.pack("<BIQIII", 2, number, m, p, q, own), *(struct.pack("<qqQ", *one) for one in made[-1])]
+                        count += 1
+                    cells += [list(one) for one in zip(*made)]
     return b"".join([*parts, struct.pack("<BQ", 255, count)]), cells

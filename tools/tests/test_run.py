@@ -217,7 +217,7 @@ WORDS = [
     (("plain", "--job", "a", "--job", "b"), ["--job is given 2 times"]),
     (("plain", "--jbo", "a"), [
         "--job is missing", "`--jbo` is no option of `plain`: --job, --vex; is `--job` meant?", "`a` is no option of `plain`: --job, --vex"]),
-    (("rnu", "--job", "a"), ["`rnu` is no command: run, plain, check, status, dump, gen, fringe, verify; is `run` meant?"]),
+    (("rnu", "--job", "a"), ["`rnu` is no command: run, plain, check, status, dump, gen, fringe, verify, bins; is `run` meant?"]),
     (("gen", "--seed=7", "--seconds", "61", "--workers", "1", "--piece", "64"), ["--seconds 61: it is a whole number, 1 to 60"]),
     (("dump",), ["`dump` takes the name of one record file"]),
     (("fringe", "a", "--rates", "4097"), ["--rates 4097: it is a whole number, 0 to 4096", "--divide is missing"]),
@@ -236,6 +236,27 @@ def test_a_line_of_a_certificate(folder: Path) -> None:
     assert told(13, "vlbi: certificate at byte 9", "verify", "r.vis", "c") == [
         "c:2: `peak 0 0 0 0 0 9 0` is not the line that is due here, or not true", due]
     assert told(13, "vlbi: certificate at byte 28", "verify", "r.vis", "c") == ["c:3: a line is missing here", due]
+
+
+PHASES = [
+    ("bins: Range in line 2", b"# of two\nbins 65\n", ["p:2: bins 65", "write: bins B, 2 to 64"]),
+    ("bins: Double in line 2", b"bins 2\nbins 65\n", ["p:2: bins 65", "this is said in an earlier line already"]),
+    ("bins: Line in line 1", b"bin 2\n", ["p:1: bin 2", "`bin` is no word of a text of phases; is `bins` meant?"]),
+    ("bins: Line in line 1", b"phase 0 0\n", [
+        "p:1: phase 0 0", "write: phase TIME C0 .. C5, one to six numbers: the sum of their magnitudes below 2^58",
+        "a time is written 2010y113d20h29m00s, of a day that its year has"]),
+    ("bins: Missing in line 0", b"bins 2\n", [
+        "p: the text lacks a line `phase`: phase TIME C0 .. C5, one to six numbers: the sum of their magnitudes below 2^58"]),
+    ("bins: NoPhase for S", b"", [
+        "p: a sample of the scan S has no phase",
+        "a `phase` line has to begin before the scan, and the scan to end before the line is 2^24 knots of the job old"]),
+]
+
+
+@pytest.mark.parametrize("note, text, said", PHASES, ids=[row[0] for row in PHASES])
+def test_a_text_of_phases(folder: Path, note: str, text: bytes, said: list[str]) -> None:
+    (folder / "p").write_bytes(text)
+    assert told(12, f"vlbi: {note}", "bins", "--job", "job.txt", "--phase", "p", "--workers", "1", "--piece", "64") == said
 
 
 def test_a_byte_of_a_schedule(folder: Path) -> None:

@@ -16,7 +16,7 @@ import by_definition
 import whole_calls
 
 FIRST = "# Random jobs whose fringes turn: tools/tests/turning_jobs.py writes these lines, and what is printed for them by the definitions."
-MOST = 6_000_000  # samples times lags, products and baselines of all cases
+MOST = 6_500_000  # samples times lags, products and baselines of all cases
 YEAR = by_definition.second_of("2010y001d00h00m00s")
 KINDS = ("missing", "invalid", "invalid and good", "doubled", "foreign", "late")  # of a frame that is not as it should be
 KNOTS = (1, 2, 7, 10, 33, 100, 333, 1000, 4096)  # samples
@@ -59,9 +59,20 @@ ROWS: list[tuple[int, int, tuple[float, ...]]] = [
     (64, 700, (0, 0, 7)),
     (130, 700, (33, 0)),
     (512, 500, (12, 1000)),
+    (2, 700, (1, 0)),
+    (2, 3100, (0, 64)),
+    (4, 1500, (5, 0.4)),
+    (6, 4700, (100, 0)),
+    (10, 900, (0, 2, 33)),
+    (10, 2300, (16, 700)),
+    (64, 400, (3, 0)),
+    (130, 600, (0, 128)),
+    (6, 1300, (0, 7, 1)),
+    (256, 420, (40, 1)),
 ]
 ROUND = 24  # from this row on all numbers are powers of two, so that delays come to whole sectors and to halves of a sample exactly
 WIDE = 28  # from this row on the first station has samples of four bits, and the others of one, two or four
+PULSED = 35  # from this row on samples have one or two bits again, and their sums are sorted by the bins of a pulse
 
 
 def time(second: int) -> str:
@@ -124,7 +135,7 @@ def row(number: int) -> Row:
     lags, samples, turns = ROWS[number]
     draw = random.Random(f"turning {number}")
     channels = ["X", "Y"][: draw.choice((1, 2)) if samples * lags * len(turns) < 120_000 else 1]
-    recorded = shapes(draw, samples, channels, len(turns), number >= WIDE)
+    recorded = shapes(draw, samples, channels, len(turns), WIDE <= number < PULSED)
     is_round, is_sky = ROUND <= number < WIDE, not ROUND <= number < WIDE and number % 5 in (1, 3)
     if is_round:
         recorded = [dataclasses.replace(one, words=2 ** (one.words.bit_length() - 1)) for one in recorded]
@@ -195,6 +206,24 @@ def job_lines(of: Row) -> Iterator[str]:
     yield from (f"band {x} {hertz} {s}" for x, (hertz, s) in zip(of.channels, ((of.hertz, side), other)))
 
 
+def phase_lines(of: Row) -> Iterator[str]:
+    """A text of phases: 2 to 7 bins, and entries whose phase rises and falls by turns, or from one knot to the next, in any order."""
+    draw = of.draw
+    bins = f"bins {draw.randint(2, 7)}"
+    begun, past = draw.choice((0, -1)), (of.samples - 1) // of.rate + 1
+    rises = draw.choice((-1, 1))
+    rows = []
+    for second in [begun, *range(1, past)]:
+        turn = max(draw.choice((5, 64, 300, of.samples)) + draw.random(), of.knot / 2)  # samples a turn
+        first = round(rises * 2**56 * of.knot / turn)
+        most = min(abs(first) * 2**24 * of.knot // of.samples, 2**56)
+        further = [draw.randint(-most, most) for _ in range(draw.choice((0, 0, 1)))]
+        rows.append(" ".join(["phase", time(of.start + second), *map(str, [draw.randint(-(2**34), 2**34), first, *further])]))
+        rises = -rises
+    draw.shuffle(rows)
+    yield from [bins, *rows] if draw.random() < 0.5 else [*rows, bins]
+
+
 def files(recorded: Shape, key: str) -> list[str]:
     """The names of a station's files, one for each thread."""
     return [f"{key.lower()}{thread}.vdif" for thread in sorted(recorded.seeds)]
@@ -252,13 +281,32 @@ def case_lines(number: int) -> Iterator[str]:
     yield "file j"
     for station, recorded in enumerate(of.shapes):
         yield from recording_lines(of, recorded, station)
+    if number >= PULSED:
+        yield from (f"| {line}" for line in phase_lines(of))
+        yield "file p"
     yield "call |plain|--job|j"
-    yield f"call |run|--job|j|--workers|{of.draw.choice((1, 2, 3, 64))}|--piece|{of.draw.choice((64, 100, 127, 1000, 4096, 4194304))}"
+    if number < PULSED:
+        yield f"call |run|--job|j|{threads(of)}"
+    else:
+        yield from (f"call |bins|--job|j|--phase|p|{threads(of)}" for _ in range(2))
+
+
+def threads(of: Row) -> str:
+    """How the sums of a call are shared out."""
+    return f"--workers|{of.draw.choice((1, 2, 3, 64))}|--piece|{of.draw.choice((64, 100, 127, 1000, 4096, 4194304))}"
 
 
 def lines() -> list[str]:
     """The lines of all cases."""
     return [FIRST, *(line for number in range(len(ROWS)) for line in case_lines(number))]
+
+
+def binned(job: by_definition.Job, texts: by_definition.Files, cells: list[by_definition.Cell]) -> str:
+    """What is printed of the bins of a pulse, whose cells add up to those of the job."""
+    text, sorted_cells = by_definition.bin_records(job, texts, by_definition.pulse(texts["p"].decode()))
+    assert [tuple(map(sum, zip(*bins))) for bins in sorted_cells] == cells
+    assert any(sum(1 for bin_cell in bins if bin_cell[2]) > 1 for bins in sorted_cells)
+    return whole_calls.told_bins(text)
 
 
 def answers(asked: list[str]) -> list[str]:
@@ -269,8 +317,10 @@ def answers(asked: list[str]) -> list[str]:
         if words[0] == "plain":
             job = by_definition.Job(texts["j"].decode())
             work += sum(scan.samples for scan in job.scans) * job.numbers["lags"] * len(job.products) * len(by_definition.baselines(job))
-            told = whole_calls.told(*by_definition.records(job, texts))
-        found.append(f"{name}: {told}")
+            records, cells = by_definition.records(job, texts)
+            told = whole_calls.told(records, cells)
+            told_bins = binned(job, texts, cells) if "p" in texts else ""
+        found.append(f"{name}: {told_bins if words[0] == 'bins' else told}")
     assert work < MOST, work
     return found
 

@@ -108,5 +108,13 @@ class Table:
 def told(records: bytes, cells: list[Cell]) -> str:
     """What is printed of a call that gives this record file: its cells where they are few, its bytes or their digest."""
     listed = "".join(f" {re},{im},{count}" for re, im, count in cells)
-    shown = f"hex {records.hex()}" if len(records) <= 200 else f"md5 {hashlib.md5(records).hexdigest()}"
-    return f"0 {len(records)} bytes{f' cells{listed}' if len(cells) <= 64 else ''} {shown}"
+    return f"0 {len(records)} bytes{f' cells{listed}' if len(cells) <= 64 else ''} {shown(records)}"
+
+
+def told_bins(text: bytes) -> str:
+    """The same of the text of the cells of bins: its bytes or their digest."""
+    return f"0 {len(text)} bytes {shown(text)}"
+
+
+def shown(text: bytes) -> str:
+    return f"hex {text.hex()}" if len(text) <= 200 else f"md5 {hashlib.md5(text).hexdigest()}"

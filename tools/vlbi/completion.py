@@ -18,7 +18,7 @@ from vlbi import commands
 from vlbi.words import COMMANDS
 
 # options and words that are files
-FILES = ("job", "vex", "program", "output", "im", "uvw", "records", "picture", "journal", "folder", "schedule", "certificate")
+FILES = ("job", "vex", "phase", "program", "output", "im", "uvw", "records", "picture", "journal", "folder", "schedule", "certificate")
 
 
 @dataclasses.dataclass(frozen=True)

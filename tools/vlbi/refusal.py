@@ -19,7 +19,7 @@ from collections.abc import Callable, Iterable, Iterator, Sequence
 from vlbi import job as jobs
 from vlbi import joined, recording, records, vex
 from vlbi.faults import Fault
-from vlbi.words import COMMANDS, FORMS, GREATEST, NAMED, RANGES, RECORD_RULES, SCHEDULE_FAULTS, WANTED, WANTED_INLINE
+from vlbi.words import COMMANDS, FORMS, GREATEST, NAMED, PHASE_FORMS, RANGES, RECORD_RULES, SCHEDULE_FAULTS, WANTED, WANTED_INLINE
 
 SHOWN = 100  # characters of a line that is shown
 TIME_WORDS = "a time is written 2010y113d20h29m00s, of a day that its year has"
@@ -66,12 +66,16 @@ class Call:
     def schedule(self) -> str | None:
         return next(iter(self.values("--vex")), None)
 
+    @property
+    def phases(self) -> str | None:
+        return next(iter(self.values("--phase")), None)
+
 
 def advice(call: Call, status: int, note: str) -> list[str]:
     """What to do after a status of a call, and its line on standard error: lines, none for the status 0."""
     handlers: dict[int, Callable[[Call, str], Iterable[str]]] = {
         1: memory, 2: of_words, 3: of_schedule, 4: of_job, 5: of_content, 6: of_limit, 7: of_read, 8: of_journal, 9: of_output, 10: of_other, 11: of_name,
-        13: of_certificate,
+        12: of_phases, 13: of_certificate,
     }
     if status not in handlers:
         return []
@@ -327,6 +331,33 @@ def of_limit(call: Call, note: str) -> Iterator[str]:
         yield words
 
 
+def of_phases(call: Call, note: str) -> Iterator[str]:
+    """Which line of a text of phases is wrong, or which scan lacks a phase."""
+    if call.phases is None:
+        return
+    of_line = re.search(r"bins: (\w+) in line (\d+)", note)
+    if of_line is None:
+        yield f"{call.phases}: a sample of the scan {note.rsplit(' for ', 1)[-1]} has no phase"
+        yield "a `phase` line has to begin before the scan, and the scan to end before the line is 2^24 knots of the job old"
+        return
+    with open(call.phases, "rb") as file:
+        lines = file.read().decode("utf-8", "replace").split("\n")
+    kind, number = of_line.group(1), int(of_line.group(2))
+    if number == 0:
+        words = {line.split("#")[0].split()[0] for line in lines if line.split("#")[0].split()}
+        yield from (f"{call.phases}: the text lacks a line `{word}`: {form}" for word, form in PHASE_FORMS.items() if word not in words)
+        return
+    line = lines[number - 1].rstrip("\r") if number <= len(lines) else ""
+    word = (line.split("#")[0].split() or [""])[0]
+    yield f"{call.phases}:{number}: {line[:SHOWN]}"
+    if word not in PHASE_FORMS:
+        yield f"`{word}` is no word of a text of phases{likely(word, PHASE_FORMS)}"
+        return
+    yield "this is said in an earlier line already" if kind == "Double" else f"write: {PHASE_FORMS[word]}"
+    if kind in ("Line", "Range") and word == "phase":
+        yield TIME_WORDS
+
+
 def of_certificate(call: Call, note: str) -> Iterator[str]:
     """Which line of a certificate is wrong."""
     at = int(note.rsplit(" ", 1)[1])
@@ -351,8 +382,8 @@ def of_name(call: Call, note: str) -> Iterator[str]:
 
 
 def named_files(call: Call) -> list[str]:
-    """The files that a call reads: schedule, job, and the recordings that the job names."""
-    given = [path for path in (call.schedule, call.job) if path is not None]
+    """The files that a call reads: schedule, job, text of phases, and the recordings that the job names."""
+    given = [path for path in (call.schedule, call.job, call.phases) if path is not None]
     if call.command in NAMED:
         given += call.names
     if call.job is not None and os.path.isfile(call.job) and os.access(call.job, os.R_OK):

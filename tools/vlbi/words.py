@@ -14,6 +14,7 @@ COMMANDS: dict[str, dict[str, bool]] = {  # the options of each, and whether it 
     "gen": {"--seed": True, "--seconds": True, **WORK_OPTIONS},
     "fringe": {"--rates": True, "--divide": True},
     "verify": {},
+    "bins": {**JOB_OPTIONS, "--phase": True, **WORK_OPTIONS},
 }
 NAMED = {"dump": ("one record file",), "fringe": ("one record file",), "verify": ("one record file", "one certificate")}  # without an option
 RANGES = {"--workers": (1, 64), "--piece": (64, 4194304), "--seed": (0, 2 ** 64 - 1), "--seconds": (1, 60), "--rates": (0, 4096),
@@ -38,6 +39,7 @@ FORMS = {
     "scan": "scan NAME TIME SAMPLES, 0 to 2^40 samples, without a schedule only",
     "band": "band CHANNEL HERTZ U or L: HERTZ 0 to 2^40 - 1, without a schedule only",
 }
+PHASE_FORMS = {"bins": "bins B, 2 to 64", "phase": "phase TIME C0 .. C5, one to six numbers: the sum of their magnitudes below 2^58"}
 WANTED = ("lags", "integration", "epoch", "station", "product")
 WANTED_INLINE = ("rate", "scan")
 
@@ -85,5 +87,7 @@ GREATEST = {
     "records": (1073741824, "read it with the Python module vlbi.records"),
     "certificate": (1073741824, "look at the name: a certificate has a line for each lag of each scan, product and baseline"),
     "amplitude": (2 ** 49 - 1, "the magnitudes of a lag add up to more than is searched: cut the scan, or take fewer samples an integration"),
+    "phase": (65536, "look at the name: a text of phases has a line for the bins, and one for each entry"),
+    "bincells": (4194304, "take fewer bins, lags, products or stations"),
     "slots": (MOST_SLOTS, "cut the job by `take` lines, and name in each the files that its scans need: `vlbi-lint JOB` says which"),
 }

@@ -24,6 +24,7 @@ use Rattle.station_stream.specs.declared.recording.Recording.{Recording as Stati
 use Rattle.station_stream.specs.Recorded.{AreRecorded}
 use Rattle.run_summary.specs.Summaries.{check_text}
 use Rattle.vis_writer.proofs.WritesLemmas.{where_then}
+use Rattle.run_bins.specs.Outcome.{WhereVerdict}
 use Rattle.vlbi_core.specs.Calls.{Call, call_of, Task, OfJob, OfText, JobFor, TextFor, TaskFor, is_run}
 use Rattle.vlbi_core.specs.Texts.{IsPart}
 use Rattle.vlbi_core.specs.Faults.{written_with}
@@ -158,6 +159,18 @@ due-same old (Other d) = refl
 due-same old Read = tt
 due-same old (Journal kept) = tt
 due-same old Write = tt
+
+-- a verdict on files is all that a command which leaves the journal alone may be refused for of what is due
+pub verdict-due : (old new : Option (List ℕ)) (result : Result (Unit {0}) Refusal) → IfErr result IsOfFilesOrOutput
+    → IfErr result (λ r. WhereVerdict r (new ≡ old)) → IfErr result (λ r. MatchDue r (new ≡ old))
+verdict-due old new (Ok x) stage nothing = tt
+verdict-due old new (Err Memory) stage nothing = tt
+verdict-due old new (Err (Words fault)) stage nothing = absurd stage
+verdict-due old new (Err (DueRefusal due)) stage nothing = nothing
+verdict-due old new (Err (Other d)) stage nothing = absurd stage
+verdict-due old new (Err Read) stage nothing = tt
+verdict-due old new (Err (Journal kept)) stage nothing = tt
+verdict-due old new (Err Write) stage nothing = tt
 
 pub early-same : (old : Option (List ℕ)) (r : Refusal) → MatchEarly r (old ≡ old)
 early-same old Memory = refl

@@ -16,9 +16,9 @@ use Rattle.checkpoint_journal.specs.Runs.{Looks, Changes}
 use Rattle.checkpoint_journal.proofs.RunLemmas.{changes_looks, told_value}
 use Rattle.run_words.specs.declared.fault.WordsFault.{WordsFault}
 use Rattle.run_words.specs.declared.order.Order.{Order}
-use Rattle.run_words.specs.declared.order.Order.TheVariants.{Run, Plain, Check, Status, Dump, Gen, Fringe, Verify}
+use Rattle.run_words.specs.declared.order.Order.TheVariants.{Run, Plain, Check, Status, Dump, Gen, Fringe, Verify, Bins}
 use Rattle.run_notes.specs.declared.refusal.Due.{Due}
-use Rattle.run_notes.specs.declared.refusal.Due.TheVariants.{Vex, Schedule, Job, Join, Limit, NoFile, Recording, Records, Certificate}
+use Rattle.run_notes.specs.declared.refusal.Due.TheVariants.{Vex, Schedule, Job, Join, Limit, NoFile, Recording, Records, Certificate, Bins as BinsDue, NoPhase}
 use Rattle.run_notes.specs.declared.refusal.Refusal.{Refusal}
 use Rattle.run_notes.specs.declared.refusal.Refusal.TheVariants.{Memory, Words, Due as DueRefusal, Other, Read, Journal, Write}
 use Rattle.run_notes.specs.Answers.{Answer, words_answer, journal_answer}
@@ -33,6 +33,8 @@ use Rattle.run_summary.specs.Summaries.{check_text}
 use Rattle.run_dump.specs.Shown.{RecordsOf}
 use Rattle.fringe_search.specs.Certificates.{Line, lines_text}
 use Rattle.run_fringe.specs.Searched.{FringeOf, VerifyOf, right_text}
+use Rattle.run_bins.specs.Texts.{BinPlan, bin_output}
+use Rattle.run_bins.specs.Outcome.{BinsOf}
 use Rattle.sample_job.specs.Sample.{SampleOf, sample_shelf}
 use Rattle.vlbi_core.specs.Sample.{sample_text}
 use Rattle.vlbi_core.specs.Calls.{Call, call_of, Task, OfJob, OfText, JobFor, TextFor, TaskFor, identity_for, sizes_for, bodies_for, kept_for}
@@ -130,12 +132,17 @@ OneSearch = (files : Files) (name : List ℕ) (rates divide : ℕ) (a b : Result
 abbrev pub OneVerdict : Type 0
 OneVerdict = (files : Files) (name certificate : List ℕ) (a b : Result Content Answer) → VerifyOf files name certificate a → VerifyOf files name certificate b → a ≡ b
 
+-- the law of plans with bins
+abbrev pub OneBinned : Type 0
+OneBinned = (files : Files) (job : List ℕ) (vex : Option (List ℕ)) (phase : List ℕ) (a b : Result BinPlan Answer) → BinsOf files job vex phase a → BinsOf files job vex phase b → a ≡ b
+
 -- of what each command comes to there is one
 pub record AreLaws : Type 0 where
   pub outcome : OneOutcome
   pub shown : OneShown
   pub search_is : OneSearch
   pub verdict : OneVerdict
+  pub binned : OneBinned
 
 task-one : AreLaws → (files : Files) (order : Order) → AreOne (TaskFor files order)
 task-one laws files (Run job vex workers piece) = job-one true job vex (PlanOf files job vex) (laws.outcome files (recordings_answer files) job vex)
@@ -148,6 +155,7 @@ task-one laws files (Gen seed seconds workers piece) =
     (laws.outcome (sample_shelf seed seconds) (recordings_answer (sample_shelf seed seconds)) (codes "job") None)
 task-one laws files (Fringe file rates divide) = text-one (FringeOf files file rates divide) lines_text (laws.search_is files file rates divide)
 task-one laws files (Verify file certificate) = text-one (VerifyOf files file certificate) right_text (laws.verdict files file certificate)
+task-one laws files (Bins job vex phase workers piece) = text-one (BinsOf files job vex phase) (λ x. bin_output x files) (laws.binned files job vex phase)
 
 -- the plan of a call of `run`
 pub plan-at : (files : Files) (order : Order) (call : Call) → TaskFor files order (Ok (OfJob call)) → call.sums ≡ true → PlanOf files call.job call.vex (Ok call.plan)
@@ -159,6 +167,7 @@ plan-at files (Dump file) call there run = absurd there
 plan-at files (Gen seed seconds workers piece) call there run = absurd there
 plan-at files (Fringe file rates divide) call there run = absurd there
 plan-at files (Verify file certificate) call there run = absurd there
+plan-at files (Bins job vex phase workers piece) call there run = absurd there
 
 pub outcome-one : AreLaws → (wanted : Result Order WordsFault) (files : Files) → AreOne (OutcomeFrom wanted files)
 outcome-one laws wanted files =
@@ -168,7 +177,7 @@ outcome-one laws wanted files =
 
 -- the statuses of what is wrong with the files
 abbrev IsFilesStatus : ℕ → Type 0
-IsFilesStatus status = (status ≡ 3) ⊎ ((status ≡ 4) ⊎ ((status ≡ 5) ⊎ ((status ≡ 6) ⊎ ((status ≡ 11) ⊎ (status ≡ 13)))))
+IsFilesStatus status = (status ≡ 3) ⊎ ((status ≡ 4) ⊎ ((status ≡ 5) ⊎ ((status ≡ 6) ⊎ ((status ≡ 11) ⊎ ((status ≡ 12) ⊎ (status ≡ 13))))))
 
 due-files : (due : Due) → IsFilesStatus (due_answer due).status
 due-files (Vex fault) = inl refl
@@ -179,7 +188,9 @@ due-files (Recording key field) = inr (inr (inl refl))
 due-files (Records fault) = inr (inr (inl refl))
 due-files (Limit quantity value) = inr (inr (inr (inl refl)))
 due-files (NoFile name) = inr (inr (inr (inr (inl refl))))
-due-files (Certificate at) = inr (inr (inr (inr (inr refl))))
+due-files (BinsDue fault) = inr (inr (inr (inr (inr (inl refl)))))
+due-files (NoPhase scan) = inr (inr (inr (inr (inr (inl refl)))))
+due-files (Certificate at) = inr (inr (inr (inr (inr (inr refl)))))
 
 due-verdict : (due : Due) → IsVerdictStatus (due_answer due).status
 due-verdict due = inr (due-files due)

@@ -10,7 +10,7 @@ use Rattle.vis_records.specs.Dumped.{dump_text}
 use Rattle.checkpoint_journal.specs.Image.{body_sizes, reading, kept_in}
 use Rattle.run_words.specs.declared.fault.WordsFault.{WordsFault}
 use Rattle.run_words.specs.declared.order.Order.{Order}
-use Rattle.run_words.specs.declared.order.Order.TheVariants.{Run, Plain, Check, Status, Dump, Gen, Fringe, Verify}
+use Rattle.run_words.specs.declared.order.Order.TheVariants.{Run, Plain, Check, Status, Dump, Gen, Fringe, Verify, Bins}
 use Rattle.run_words.specs.Orders.{order_of}
 use Rattle.run_notes.specs.Answers.{words_answer}
 use Rattle.run_notes.specs.Refusals.{Outcomes}
@@ -21,6 +21,8 @@ use Rattle.run_summary.specs.Summaries.{check_text}
 use Rattle.run_dump.specs.Shown.{RecordsOf}
 use Rattle.fringe_search.specs.Certificates.{lines_text}
 use Rattle.run_fringe.specs.Searched.{FringeOf, VerifyOf, right_text}
+use Rattle.run_bins.specs.Texts.{bin_output}
+use Rattle.run_bins.specs.Outcome.{BinsOf}
 use Rattle.sample_job.specs.Sample.{SampleOf}
 use Rattle.vlbi_core.specs.Sample.{sample_text}
 
@@ -74,6 +76,7 @@ TaskFor files (Dump file) = TextFor (RecordsOf files file) dump_text
 TaskFor files (Gen seed seconds workers piece) = TextFor (SampleOf seed seconds) (sample_text seed seconds)
 TaskFor files (Fringe file rates divide) = TextFor (FringeOf files file rates divide) lines_text
 TaskFor files (Verify file certificate) = TextFor (VerifyOf files file certificate) right_text
+TaskFor files (Bins job vex phase workers piece) = TextFor (BinsOf files job vex phase) (λ x. bin_output x files)
 
 -- what words and files come to
 abbrev pub OutcomeOf : List (List ℕ) → Files → Outcomes Task

@@ -7,6 +7,7 @@ ghost use Rattle.vlbi_core.specs.Calls.{Task, OutcomeOf};
 ghost use Rattle.vlbi_core.specs.Histories.{HoldsOver, AlikeByJob};
 
 use dev_traits::Disk;
+use run_bins::laws::one_plan;
 use run_dump::laws::one_shown;
 use run_fringe::laws::{one_search, one_verdict};
 use run_ready::laws::one_outcome;
@@ -20,6 +21,7 @@ pub fn one_task()
     one_shown();
     one_search();
     one_verdict();
+    one_plan();
 }
 
 /// Calls of `run` for one job, on a disk that tells its content, as often as one likes, each of which ends in its answer or in a crash at

@@ -18,6 +18,7 @@ use crate::plain::plain_job;
 use crate::sample::total_sample;
 use crate::status::journal_status;
 use dev_traits::{Disk, Gate, Shelf, Sink};
+use run_bins::write_bins;
 use run_dump::show_records;
 use run_fringe::{verify_peaks, write_peaks};
 use run_notes::{Refusal, status, write_note};
@@ -28,7 +29,7 @@ use std::thread::Threads;
 /// Does what the words ask for, and answers the status. `words` are the command and what follows it; the files are read from
 /// `shelf`, records and summaries go to `out`, and a refusal's line to `notes`. `journal` is the file in which a call of `run`
 /// keeps each epoch once it is summed, so that a later call goes on from there; `status` reads it, and no other command uses it.
-/// `gate` is told each piece before a worker of `run` or `gen` sums it; no clause speaks of it.
+/// `gate` is told each piece before a worker of `run`, `gen` or `bins` sums it; no clause speaks of it.
 ///
 /// | status | |
 /// |---|---|
@@ -44,6 +45,7 @@ use std::thread::Threads;
 /// | 9 | the output failed |
 /// | 10 | the journal is another job's |
 /// | 11 | a named file is not there |
+/// | 12 | the text of phases is not accepted, or a scan has a sample without a phase |
 /// | 13 | a text is no right certificate of the record file |
 pub fn run<R: Threads + Sync, F: Shelf + Send, D: Disk + Send, S: Sink, N: Sink, G: Gate + Sync>(
     rt: &R,
@@ -217,5 +219,23 @@ fn command<R: Threads + Sync, F: Shelf + Send, D: Disk + Send, S: Sink, G: Gate 
             divide,
         } => write_peaks(alloc, file, *rates, *divide, shelf, out),
         Order::Verify { file, certificate } => verify_peaks(alloc, file, certificate, shelf, out),
+        Order::Bins {
+            job,
+            vex,
+            phase,
+            workers,
+            piece,
+        } => write_bins(
+            rt,
+            alloc,
+            job,
+            vex.as_ref(),
+            phase,
+            *workers,
+            *piece,
+            shelf,
+            out,
+            gate,
+        ),
     }
 }

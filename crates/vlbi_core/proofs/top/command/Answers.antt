@@ -8,17 +8,19 @@ use Rattle.vis_records.specs.Dumped.{dump_text}
 use Rattle.run_summary.specs.Summaries.{check_text}
 use Rattle.run_dump.specs.Shown.{RecordsOf}
 use Rattle.run_words.specs.declared.order.Order.{Order}
-use Rattle.run_words.specs.declared.order.Order.TheVariants.{Run, Plain, Check, Status, Dump, Gen, Fringe, Verify}
+use Rattle.run_words.specs.declared.order.Order.TheVariants.{Run, Plain, Check, Status, Dump, Gen, Fringe, Verify, Bins}
 use Rattle.run_ready.specs.Outcome.{PlanOf}
 use Rattle.sample_job.specs.Sample.{SampleOf}
 use Rattle.vis_writer.proofs.WritesLemmas.{where_always}
 use Rattle.fringe_search.specs.Certificates.{lines_text}
 use Rattle.run_fringe.specs.Searched.{FringeOf, VerifyOf, right_text}
+use Rattle.run_bins.specs.Texts.{BinPlan, bin_output}
+use Rattle.run_bins.specs.Outcome.{BinsOf}
 use Rattle.vlbi_core.specs.Calls.{is_run}
 use Rattle.vlbi_core.specs.Restart.{IsGenOf}
 use Rattle.vlbi_core.specs.Sample.{sample_text}
 use Rattle.vlbi_core.specs.Steps.{Does, Leaves}
-use Rattle.vlbi_core.proofs.CommandLemmas.{reads-beside, not_both, files-unnumbered, does-text, does-shown}
+use Rattle.vlbi_core.proofs.CommandLemmas.{reads-beside, not_both, files-unnumbered, verdict-due, does-text, does-shown, leaves-tells}
 use Rattle.vlbi_core.proofs.SampleLemmas.{of-files, reads-same}
 use Rattle.vlbi_core.proofs.top.command.Goals as goal
 
@@ -153,3 +155,25 @@ returns-in-Verify-clause-unnumbered g c = λ alone. files-unnumbered c.verify_pe
 
 pub returns-in-Verify-clause-generated : goal.returns-in-Verify-clause-generated
 returns-in-Verify-clause-generated g c = λ is. absurd (subst (λ (o : Order). IsGenOf (Ok o)) c.in-Verify.is is)
+
+pub returns-in-Bins-clause-does : goal.returns-in-Bins-clause-does
+returns-in-Bins-clause-does g c =
+    let same : c.args.order.now ≡ Bins c.in-Bins.job (option_copied c.as_ref-in-Bins.result) c.in-Bins.phase c.in-Bins.workers c.in-Bins.piece = cc in
+    does-text g.D.Disk.seen g.D.Disk.moment g.D.Disk.may_leave (g.F.Shelf.told c.args.shelf.now) c.args.order.now _
+    (λ (files : Files). BinsOf files c.in-Bins.job (option_copied c.as_ref-in-Bins.result) c.in-Bins.phase) (λ (files : Files) (x : BinPlan). bin_output x files) same (λ files o p. p)
+    c.args.journal.now (g.S.Sink.told c.args.out.now) (g.S.Sink.told c.write_bins.new.out) c.write_bins.result c.write_bins.ensures.stage c.write_bins.ensures.tells
+
+pub returns-in-Bins-clause-leaves : goal.returns-in-Bins-clause-leaves
+returns-in-Bins-clause-leaves g c =
+    leaves-tells g.D.Disk.seen g.D.Disk.moment g.D.Disk.may_leave c.args.order.now c.args.journal.now (g.S.Sink.told c.args.out.now) (g.S.Sink.told c.write_bins.new.out) c.write_bins.result
+    (subst (λ (o : Order). is_run o ≡ false) (sym c.in-Bins.is) refl)
+    (verdict-due (g.S.Sink.told c.args.out.now) (g.S.Sink.told c.write_bins.new.out) c.write_bins.result c.write_bins.ensures.stage c.write_bins.ensures.nothing)
+
+pub returns-in-Bins-clause-reads : goal.returns-in-Bins-clause-reads
+returns-in-Bins-clause-reads g c = reads-beside _ _ c.write_bins.result c.write_bins.ensures.reads
+
+pub returns-in-Bins-clause-unnumbered : goal.returns-in-Bins-clause-unnumbered
+returns-in-Bins-clause-unnumbered g c = λ alone. files-unnumbered c.write_bins.result c.write_bins.ensures.stage
+
+pub returns-in-Bins-clause-generated : goal.returns-in-Bins-clause-generated
+returns-in-Bins-clause-generated g c = λ is. absurd (subst (λ (o : Order). IsGenOf (Ok o)) c.in-Bins.is is)

@@ -1,0 +1,9 @@
+pub mod RowLemmas
+pub mod SumsText
+pub mod WriteLemmas
+pub mod EndLemmas
+pub mod FileLemmas
+pub mod PhaseLemmas
+pub mod LimitLemmas
+pub mod OutcomeLemmas
+pub mod LawLemmas

@@ -1,0 +1,211 @@
+-- What the files of a job and a pulse come to, step by step, and what the command tells of it.
+use Rattle.std.specs.Prelude.{option_map, IfErr}
+use Rattle.std.proofs.Common.{◌≡◌, ℕ, List, Option, Some, None, Result, Ok, Err, refl, sym, ap, inl, inr}
+use Rattle.corr_model.specs.Files.{Files}
+use Rattle.dev_traits.specs.Told.{WhereTold}
+use Rattle.job_plan.specs.declared.plan.Plan.{Plan}
+use Rattle.pulsar_bins.specs.Bins.{BinsFields}
+use Rattle.pulsar_bins.specs.Answer.{bins_in}
+use Rattle.pulsar_bins.specs.Scans.{no_phase}
+use Rattle.vis_writer.specs.Writes.{Appended}
+use Rattle.run_notes.specs.declared.measure.Measure.TheVariants.{Phase}
+use Rattle.run_notes.specs.declared.refusal.Refusal.{Refusal}
+use Rattle.run_notes.specs.declared.refusal.Refusal.TheVariants.{Memory, Words, Due as DueRefusal, Other, Read, Journal, Write}
+use Rattle.run_notes.specs.Answers.{Answer, bins_answer, no_phase_answer}
+use Rattle.run_notes.specs.Refusals.{Outcomes, IsCause}
+use Rattle.run_notes.specs.Commands.{Tells, IsPartlyOf, IsOfFilesOrOutput}
+use Rattle.run_ready.specs.Steps.{Is, Then, answered, unless}
+use Rattle.run_ready.specs.Due.{IsDue}
+use Rattle.run_ready.specs.Stage.{IsOfFiles}
+use Rattle.run_ready.specs.Outcome.{JoinOf, text_under}
+use Rattle.run_ready.specs.Recordings.{recordings_answer}
+use Rattle.run_ready.proofs.StepLemmas.{IsCause-first, IsCause-next, IsCause-unless}
+use Rattle.run_bins.specs.Texts.{BinPlan, bin_output}
+use Rattle.run_bins.specs.Outcome.{scan_name, uncovered, too_many_cells, BinsUnder, BinsOf, WhereVerdict}
+use Rattle.run_bins.specs.Writes.{IsOfOutput}
+
+-- ---- the text of phases
+
+module _ (phase : List ℕ) (plan : Plan) (r : Refusal) (stage : IsOfFiles r) where
+  -- what is behind the text, and behind its bins
+  abbrev bins_behind : List ℕ → Outcomes BinsFields
+  bins_behind text = Then (Is (answered bins_answer (bins_in text))) (λ bins. Is (unless (uncovered plan bins) bins))
+
+  pub text-cause : (told : Option Files) → WhereTold told (λ files. IsCause r (Is (text_under files phase Phase 65536)))
+      → WhereTold told (λ files. IsCause r (BinsUnder files phase plan))
+  text-cause None cause = tt
+  text-cause (Some files) cause = IsCause-first r (Is (text_under files phase Phase 65536)) bins_behind stage cause
+
+  pub fault-cause : (told : Option Files) (text : List ℕ) → WhereTold told (λ files. Is (text_under files phase Phase 65536) (Ok text))
+      → IsCause r (Is (answered bins_answer (bins_in text)))
+      → WhereTold told (λ files. IsCause r (BinsUnder files phase plan))
+  fault-cause None text is cause = tt
+  fault-cause (Some files) text is cause =
+      IsCause-next r (Is (text_under files phase Phase 65536)) bins_behind text stage is
+      (IsCause-first r (Is (answered bins_answer (bins_in text))) (λ bins. Is (unless (uncovered plan bins) bins)) stage cause)
+
+  pub phase-cause : (told : Option Files) (text : List ℕ) (bins : BinsFields) → WhereTold told (λ files. Is (text_under files phase Phase 65536) (Ok text))
+      → Is (answered bins_answer (bins_in text)) (Ok bins)
+      → IsDue r (uncovered plan bins)
+      → WhereTold told (λ files. IsCause r (BinsUnder files phase plan))
+  phase-cause None text bins is there due = tt
+  phase-cause (Some files) text bins is there due =
+      IsCause-next r (Is (text_under files phase Phase 65536)) bins_behind text stage is
+      (IsCause-next r (Is (answered bins_answer (bins_in text))) (λ bins. Is (unless (uncovered plan bins) bins)) bins stage there
+      (IsCause-unless r (uncovered plan bins) bins due))
+
+pub bins-done : (phase : List ℕ) (plan : Plan) (told : Option Files) (text : List ℕ) (bins : BinsFields)
+    → WhereTold told (λ files. Is (text_under files phase Phase 65536) (Ok text))
+    → Is (answered bins_answer (bins_in text)) (Ok bins)
+    → no_phase bins plan ≡ None
+    → WhereTold told (λ files. BinsUnder files phase plan (Ok bins))
+bins-done phase plan None text bins is there covered = tt
+bins-done phase plan (Some files) text bins is there covered = (text, is, (bins, there, within))
+  where
+    within : Is (unless (uncovered plan bins) bins) (Ok bins)
+    within = sym (ap (λ (o : Option ℕ). unless (option_map (λ number. no_phase_answer (scan_name plan number)) o) bins) covered)
+
+-- ---- the job, the text of phases, the limit and the recordings
+
+-- the outcomes behind a plan, and behind its bins
+abbrev recordings_behind : Files → Plan → BinsFields → Outcomes BinPlan
+recordings_behind files plan within = Is (unless (recordings_answer files plan.stations) (record { plan = plan; bins = within }))
+
+abbrev limit_behind : Files → Plan → BinsFields → Outcomes BinPlan
+limit_behind files plan bins = Then (Is (unless (too_many_cells plan bins) bins)) (recordings_behind files plan)
+
+abbrev phase_behind : Files → List ℕ → Plan → Outcomes BinPlan
+phase_behind files phase plan = Then (BinsUnder files phase plan) (limit_behind files plan)
+
+module _ (job : List ℕ) (vex : Option (List ℕ)) (phase : List ℕ) (r : Refusal) (stage : IsOfFiles r) where
+  pub job-refused : (told : Option Files) → WhereTold told (λ files. IsCause r (JoinOf files job vex))
+      → WhereTold told (λ files. IsCause r (BinsOf files job vex phase))
+  job-refused None cause = tt
+  job-refused (Some files) cause = IsCause-first r (JoinOf files job vex) (phase_behind files phase) stage cause
+
+  pub phase-refused : (told : Option Files) (plan : Plan) → WhereTold told (λ files. JoinOf files job vex (Ok plan))
+      → WhereTold told (λ files. IsCause r (BinsUnder files phase plan))
+      → WhereTold told (λ files. IsCause r (BinsOf files job vex phase))
+  phase-refused None plan is cause = tt
+  phase-refused (Some files) plan is cause =
+      IsCause-next r (JoinOf files job vex) (phase_behind files phase) plan stage is
+      (IsCause-first r (BinsUnder files phase plan) (limit_behind files plan) stage cause)
+
+  pub limit-refused : (told : Option Files) (plan : Plan) (bins : BinsFields) → WhereTold told (λ files. JoinOf files job vex (Ok plan))
+      → WhereTold told (λ files. BinsUnder files phase plan (Ok bins))
+      → IsDue r (too_many_cells plan bins)
+      → WhereTold told (λ files. IsCause r (BinsOf files job vex phase))
+  limit-refused None plan bins is there due = tt
+  limit-refused (Some files) plan bins is there due =
+      IsCause-next r (JoinOf files job vex) (phase_behind files phase) plan stage is
+      (IsCause-next r (BinsUnder files phase plan) (limit_behind files plan) bins stage there
+      (IsCause-first r (Is (unless (too_many_cells plan bins) bins)) (recordings_behind files plan) stage
+      (IsCause-unless r (too_many_cells plan bins) bins due)))
+
+  pub recordings-refused : (told : Option Files) (plan : Plan) (bins : BinsFields) → WhereTold told (λ files. JoinOf files job vex (Ok plan))
+      → WhereTold told (λ files. BinsUnder files phase plan (Ok bins))
+      → too_many_cells plan bins ≡ None
+      → WhereTold told (λ files. IsDue r (recordings_answer files plan.stations))
+      → WhereTold told (λ files. IsCause r (BinsOf files job vex phase))
+  recordings-refused None plan bins is there few due = tt
+  recordings-refused (Some files) plan bins is there few due =
+      IsCause-next r (JoinOf files job vex) (phase_behind files phase) plan stage is
+      (IsCause-next r (BinsUnder files phase plan) (limit_behind files plan) bins stage there
+      (IsCause-next r (Is (unless (too_many_cells plan bins) bins)) (recordings_behind files plan) bins stage
+      (sym (ap (λ (o : Option Answer). unless o bins) few))
+      (IsCause-unless r (recordings_answer files plan.stations) (record { plan = plan; bins = bins }) due)))
+
+pub job-done : (job : List ℕ) (vex : Option (List ℕ)) (phase : List ℕ) (told : Option Files) (plan : Plan) (bins : BinsFields)
+    → WhereTold told (λ files. JoinOf files job vex (Ok plan))
+    → WhereTold told (λ files. BinsUnder files phase plan (Ok bins))
+    → too_many_cells plan bins ≡ None
+    → WhereTold told (λ files. recordings_answer files plan.stations ≡ None)
+    → WhereTold told (λ files. BinsOf files job vex phase (Ok (record { plan = plan; bins = bins })))
+job-done job vex phase None plan bins is there few fit = tt
+job-done job vex phase (Some files) plan bins is there few fit = (
+  plan,
+  is,
+  (
+    bins,
+    there,
+    (
+      bins,
+      sym (ap (λ (o : Option Answer). unless o bins) few),
+      sym (ap (λ (o : Option Answer). unless o both) fit),
+    ),
+  ),
+)
+  where
+    both : BinPlan
+    both = record { plan = plan; bins = bins }
+
+-- ---- what the command tells
+
+pub tells-refused : {A : Type 0} (told : Option Files) (outcomes : Files → Outcomes A) (text : Files → A → List ℕ) (old : Option (List ℕ)) (r : Refusal)
+    → IsOfFiles r → WhereTold told (λ files. IsCause r (outcomes files))
+    → WhereTold told (λ files. Tells (outcomes files) (text files) old old (Err r))
+tells-refused None outcomes text old r stage cause = tt
+tells-refused (Some files) outcomes text old r stage cause = record { done = tt; cause = cause; part = part r stage }
+  where
+    part : (q : Refusal) → IsOfFiles q → IsPartlyOf q (outcomes files) (text files) old old
+    part Memory stage = inl refl
+    part (Words fault) stage = refl
+    part (DueRefusal due) stage = refl
+    part (Other d) stage = refl
+    part Read stage = inl refl
+    part (Journal kept) stage = absurd stage
+    part Write stage = absurd stage
+
+pub tells-written : (told : Option Files) (outcomes : Files → Outcomes BinPlan) (x : BinPlan) (old new : Option (List ℕ)) (result : Result (Unit {0}) Refusal)
+    → WhereTold told (λ files. outcomes files (Ok x))
+    → WhereTold told (λ files. Appended old (bin_output x files) new result)
+    → IfErr result IsOfOutput
+    → WhereTold told (λ files. Tells (outcomes files) (λ x. bin_output x files) old new result)
+tells-written None outcomes x old new result is written stage = tt
+tells-written (Some files) outcomes x old new result is written stage = by result written stage
+  where
+    by : (q : Result (Unit {0}) Refusal) → Appended old (bin_output x files) new q → IfErr q IsOfOutput → Tells (outcomes files) (λ x. bin_output x files) old new q
+    by (Ok y) written stage = record { done = (x, is, written.all); cause = tt; part = tt }
+    by (Err Memory) written stage = record { done = tt; cause = tt; part = inr (x, is, written.part) }
+    by (Err Read) written stage = record { done = tt; cause = tt; part = inr (x, is, written.part) }
+    by (Err Write) written stage = record { done = tt; cause = (x, is); part = (x, is, written.part) }
+    by (Err (Words fault)) written stage = absurd stage
+    by (Err (DueRefusal due)) written stage = absurd stage
+    by (Err (Other d)) written stage = absurd stage
+    by (Err (Journal kept)) written stage = absurd stage
+
+pub verdict-refused : (r : Refusal) (P : Type 0) → P → WhereVerdict r P
+verdict-refused Memory P p = tt
+verdict-refused (Words fault) P p = tt
+verdict-refused (DueRefusal due) P p = p
+verdict-refused (Other d) P p = tt
+verdict-refused Read P p = tt
+verdict-refused (Journal kept) P p = tt
+verdict-refused Write P p = tt
+
+pub verdict-written : (r : Refusal) (P : Type 0) → IsOfOutput r → WhereVerdict r P
+verdict-written Memory P stage = tt
+verdict-written (Words fault) P stage = tt
+verdict-written (DueRefusal due) P stage = absurd stage
+verdict-written (Other d) P stage = tt
+verdict-written Read P stage = tt
+verdict-written (Journal kept) P stage = tt
+verdict-written Write P stage = tt
+
+pub stage-files : (r : Refusal) → IsOfFiles r → IsOfFilesOrOutput r
+stage-files Memory stage = tt
+stage-files (Words fault) stage = absurd stage
+stage-files (DueRefusal due) stage = tt
+stage-files (Other d) stage = absurd stage
+stage-files Read stage = tt
+stage-files (Journal kept) stage = absurd stage
+stage-files Write stage = tt
+
+pub stage-output : (r : Refusal) → IsOfOutput r → IsOfFilesOrOutput r
+stage-output Memory stage = tt
+stage-output (Words fault) stage = absurd stage
+stage-output (DueRefusal due) stage = tt
+stage-output (Other d) stage = absurd stage
+stage-output Read stage = tt
+stage-output (Journal kept) stage = absurd stage
+stage-output Write stage = tt

@@ -1,0 +1,113 @@
+//! What a file is, read from its front. Nothing is written.
+ghost use Rattle.std.specs.Prelude.{◌≡◌, ◌+◌, ◌≤◌, ◌<◌, ◌^◌, ℕ, length, take, slice_index, EachIndex, IfOk, OnOk};
+ghost use Rattle.dev_traits.specs.Fault.{Counts};
+ghost use Rattle.dev_traits.specs.Told.{WhereTold};
+ghost use Rattle.checkpoint_journal.specs.Runs.{Looks};
+ghost use Rattle.piece_plan.specs.Epochs.{IsJob};
+ghost use Rattle.journal_image.specs.Image.{IsIdentity};
+ghost use Rattle.ranged_journal.specs.Front.{OursUpTo};
+ghost use Rattle.ranged_journal.specs.Finding.{Finds, FindsPlace, IsOther};
+
+use crate::finding::Finding;
+use crate::front::{difference, first_difference};
+use crate::walk::walk;
+use dev_traits::{Disk, Failed};
+use piece_plan::JobPlan;
+
+// Reads the bytes from a place on. Those past the file's end are zero.
+pub(crate) fn load<D: Disk>(disk: &mut D, at: u64, buf: &mut [u8]) -> Result<(), Failed>
+    ensures looks { Looks D.seen D.moment D.may_leave disk.old disk.new }
+    ensures bytes { OnOk result
+        (WhereTold (D.seen disk.old)
+        (λ image. (k : ℕ) → k < length buf.new → slice_index buf.new k ≡ slice_index image (at + k))) }
+    ensures counts { Counts (D.faults disk.old) (D.faults disk.new) result }
+{
+    clear(buf);
+    disk.read_at(at, buf)?;
+    Ok(())
+}
+
+// Sets each byte to zero.
+fn clear(buf: &mut [u8])
+    ensures { EachIndex buf.new (λ k. slice_index buf.new k ≡ 0) }
+{
+    for byte in buf.iter_mut() {
+        *byte = 0;
+    }
+}
+
+// The byte at a place, zero past the file's end.
+pub(crate) fn byte_at<D: Disk>(disk: &mut D, at: u64) -> Result<u8, Failed>
+    ensures looks { Looks D.seen D.moment D.may_leave disk.old disk.new }
+    ensures byte { IfOk result
+        (λ byte. WhereTold (D.seen disk.old) (λ image. byte ≡ slice_index image at)) }
+    ensures counts { Counts (D.faults disk.old) (D.faults disk.new) result }
+{
+    let mut buf = [0; 1];
+    load(disk, at, &mut buf)?;
+    Ok(buf[0])
+}
+
+/// What the file on a disk is, as a journal of the job with this identity and plan: blank, of the job, or another with
+/// the first byte that differs. An identity has fewer than 2^62 bytes and is compared in parts of the buffer's length.
+/// It fails where a call of the disk does.
+pub fn find<D: Disk>(
+    disk: &mut D,
+    id: &[u8],
+    plan: &JobPlan,
+    buffer: &mut [u8],
+) -> Result<Finding, Failed>
+    requires identity { IsIdentity id.now }
+    requires short { length id.now < 2 ^ 62 }
+    requires buffer { 0 < length buffer.old }
+    ensures finds { IfOk result
+        (λ found. WhereTold (D.seen disk.old) (λ image. Finds id.now plan.now image found)) }
+    ensures place { IfOk result (FindsPlace plan.now) }
+    ensures job { IsJob plan.now }
+    ensures looks { Looks D.seen D.moment D.may_leave disk.old disk.new }
+    ensures counts { Counts (D.faults disk.old) (D.faults disk.new) result }
+{
+    let _epochs = plan.epochs();
+    let len = disk.len()?;
+    if len <= 1 {
+        return Ok(Finding::Blank);
+    }
+    let head = byte_at(disk, 0)?;
+    if head != 1 {
+        return Ok(Finding::Blank);
+    }
+    find_begun(disk, id, plan, len, buffer)
+}
+
+// What a file of this length is whose head gate is open.
+fn find_begun<D: Disk>(
+    disk: &mut D,
+    id: &[u8],
+    plan: &JobPlan,
+    len: u64,
+    buffer: &mut [u8],
+) -> Result<Finding, Failed>
+    requires identity { IsIdentity id.now }
+    requires short { length id.now < 2 ^ 62 }
+    requires job { IsJob plan.now }
+    requires buffer { 0 < length buffer.old }
+    requires len { (1 < len) × (len < 2 ^ 63) }
+    requires length { WhereTold (D.seen disk.old) (λ image. len ≡ length image) }
+    requires begun { WhereTold (D.seen disk.old) (λ image. slice_index image 0 ≡ 1) }
+    ensures finds { IfOk result
+        (λ found. WhereTold (D.seen disk.old) (λ image. Finds id.now plan.now image found)) }
+    ensures place { IfOk result (FindsPlace plan.now) }
+    ensures looks { Looks D.seen D.moment D.may_leave disk.old disk.new }
+    ensures counts { Counts (D.faults disk.old) (D.faults disk.new) result }
+{
+    match first_difference(disk, id, len, buffer)? {
+        Some(at) => {
+            let d = difference(disk, id, len, at)?;
+            Ok(Finding::Other(d))
+        }
+        None => {
+            let version = byte_at(disk, 8)?;
+            walk(disk, id, plan, version == 49, len)
+        }
+    }
+}

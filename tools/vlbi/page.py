@@ -148,7 +148,8 @@ def phases(means: NDArray[numpy.complex128]) -> bytes:
 
 def picture(shades: NDArray[numpy.uint8]) -> str:
     """A map as a picture inside the page, the highest rate above."""
-    made = Image.frombytes("P", shades.shape[::-1], numpy.ascontiguousarray(shades[::-1]).tobytes())
+    high, wide = shades.shape
+    made = Image.frombytes("P", (wide, high), numpy.ascontiguousarray(shades[::-1]).tobytes())
     made.putpalette(palette())
     out = io.BytesIO()
     made.save(out, "PNG", bits=4)

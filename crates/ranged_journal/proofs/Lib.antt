@@ -1,3 +1,12 @@
 pub mod ToldLemmas
 pub mod FrontLemmas
 pub mod StepLemmas
+pub mod KeepLemmas
+pub mod RecordLemmas
+pub mod GateLemmas
+pub mod AppendLemmas
+pub mod BeginLemmas
+pub mod OpenLemmas
+pub mod AnswerLemmas
+pub mod NextLemmas
+pub mod CursorLemmas

@@ -55,6 +55,12 @@ FindsPlace job Blank = Unit {0}
 FindsPlace job (Ours f) = HasPlace job f
 FindsPlace job (Other d) = Unit {0}
 
+-- the last gate of a journal that is found stands behind the identity
+abbrev pub FindsBehind : List ℕ → Finding → Type 0
+FindsBehind id Blank = Unit {0}
+FindsBehind id (Ours f) = 1 + length id ≤ f.gate
+FindsBehind id (Other d) = Unit {0}
+
 -- the bytes of a record of an epoch
 abbrev pub record_size : Bool → EpochPlan → ℕ
 record_size ranged e = if ranged then 28 + 24 * cell_count e else 24 * cell_count e

@@ -1,2 +1,10 @@
+pub mod Identity
 pub mod Front
 pub mod Finding
+pub mod Standing
+pub mod Runs
+pub mod Kept
+pub mod Faults
+pub mod Staged
+pub mod Opening
+pub mod Next

@@ -6,7 +6,7 @@ ghost use Rattle.checkpoint_journal.specs.Runs.{Looks};
 ghost use Rattle.piece_plan.specs.Epochs.{IsJob};
 ghost use Rattle.journal_image.specs.Image.{IsIdentity};
 ghost use Rattle.ranged_journal.specs.Front.{OursUpTo};
-ghost use Rattle.ranged_journal.specs.Finding.{Finds, FindsPlace, IsOther};
+ghost use Rattle.ranged_journal.specs.Finding.{Finds, FindsPlace, FindsBehind, IsOther};
 
 use crate::finding::Finding;
 use crate::front::{difference, first_difference};
@@ -63,6 +63,7 @@ pub fn find<D: Disk>(
     ensures finds { IfOk result
         (λ found. WhereTold (D.seen disk.old) (λ image. Finds id.now plan.now image found)) }
     ensures place { IfOk result (FindsPlace plan.now) }
+    ensures behind { IfOk result (FindsBehind id.now) }
     ensures job { IsJob plan.now }
     ensures looks { Looks D.seen D.moment D.may_leave disk.old disk.new }
     ensures counts { Counts (D.faults disk.old) (D.faults disk.new) result }
@@ -97,6 +98,7 @@ fn find_begun<D: Disk>(
     ensures finds { IfOk result
         (λ found. WhereTold (D.seen disk.old) (λ image. Finds id.now plan.now image found)) }
     ensures place { IfOk result (FindsPlace plan.now) }
+    ensures behind { IfOk result (FindsBehind id.now) }
     ensures looks { Looks D.seen D.moment D.may_leave disk.old disk.new }
     ensures counts { Counts (D.faults disk.old) (D.faults disk.new) result }
 {

@@ -8,7 +8,7 @@ ghost use Rattle.piece_plan.specs.Order.{place_after};
 ghost use Rattle.plan_places.specs.Places.{place_at, IsPlace};
 ghost use Rattle.journal_image.specs.Image.{IsIdentity, begin, start};
 ghost use Rattle.journal_image.specs.Finding.{IsBehind, HasEpoch};
-ghost use Rattle.ranged_journal.specs.Finding.{Finds, FindsPlace, HasPlace, due_of, record_size};
+ghost use Rattle.ranged_journal.specs.Finding.{Finds, FindsPlace, FindsBehind, HasPlace, due_of, record_size};
 
 use crate::finding::{Finding, Found};
 use crate::reader::{byte_at, load};
@@ -34,6 +34,7 @@ pub(crate) fn walk<D: Disk>(
     ensures finds { IfOk result
         (λ found. WhereTold (D.seen disk.old) (λ image. Finds id.now plan.now image found)) }
     ensures place { IfOk result (FindsPlace plan.now) }
+    ensures behind { IfOk result (FindsBehind id.now) }
     ensures looks { Looks D.seen D.moment D.may_leave disk.old disk.new }
     ensures counts { Counts (D.faults disk.old) (D.faults disk.new) result }
 {

@@ -29,6 +29,7 @@ loop-here-init g c =
           c.requires.begun;
       place = c.first_gate-here.ensures.place.next;
       many = c.first_gate-here.ensures.place.many;
+      behind = omega (arith, c.first_gate-here.ensures.gate);
     }
 
 pub returns-in_default-clause-finds : goal.returns-in_default-clause-finds
@@ -96,6 +97,7 @@ loop-here-preserved-in-Record g c =
           c.loop-here.invariant.at;
       place = c.past_record-here.ensures.place;
       many = omega (arith, c.past_record-here.ensures.kept, c.past_record-here.ensures.gate, c.loop-here.invariant.many);
+      behind = omega (arith, c.past_record-here.ensures.gate, c.loop-here.invariant.behind);
     }
 
 pub loop-here-preserved : goal.loop-here-preserved
@@ -123,6 +125,7 @@ loop-here-preserved g c =
           c.loop-here.invariant.at;
       place = subst (λ (f : Found). IfSome f.next (λ q. IsPlace job (place_at q))) (sym later) c.loop-here.invariant.place;
       many = subst (λ (f : Found). f.kept ≤ f.gate) (sym later) (omega (arith, c.loop-here.invariant.many));
+      behind = subst (λ (f : Found). 1 + length id ≤ f.gate) (sym later) (omega (arith, c.loop-here.invariant.behind));
     }
 
 pub returns-in-Fault-clause-finds : goal.returns-in-Fault-clause-finds

@@ -1,4 +1,4 @@
-use Rattle.std.proofs.Common.{◌≡◌, ◌-◌, ◌≤◌, IfSome}
+use Rattle.std.proofs.Common.{◌≡◌, ◌+◌, ◌-◌, ◌≤◌, length, IfSome}
 use Rattle.dev_traits.specs.Told.{WhereTold}
 use Rattle.plan_places.specs.Places.{place_at, IsPlace}
 use Rattle.checkpoint_journal.specs.Runs.{Looks}
@@ -13,6 +13,7 @@ invariant-loop-here g l = record {
   at : WhereTold (g.D.Disk.seen l.initial.disk) (λ image. IsAt l.id l.plan image l.here);
   place : IfSome l.here.next (λ p. IsPlace l.plan (place_at p));
   many : l.here.kept ≤ l.here.gate;
+  behind : 1 + length l.id ≤ l.here.gate;
 }
 
 abbrev pub decreases-loop-here : goal.decreases-loop-here

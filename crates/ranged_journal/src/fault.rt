@@ -1,0 +1,45 @@
+//! Why a journal is not opened, written or read.
+ghost use Rattle.std.specs.Prelude.{◌≡◌};
+ghost use Rattle.ranged_journal.specs.declared.fault.OpenFault.TheVariants.{Memory};
+
+use journal_image::Differs;
+use std::alloc::AllocError;
+use thiserror::Error;
+
+/// Why a journal is not opened.
+#[derive(Clone, Copy, Debug, PartialEq, Eq, Error)]
+pub enum OpenFault {
+    /// A call of the disk failed, or the mark of an old journal has no room below byte 2^63 - 1.
+    #[error("the disk failed")]
+    Disk,
+    /// The file is neither blank nor a journal of this job.
+    #[error("a journal of another job")]
+    Other(Differs),
+    /// There was no memory for the buffer.
+    #[error("out of memory")]
+    Memory,
+}
+
+impl From<AllocError> for OpenFault {
+    ghost from_gives = { λ _ fault. fault ≡ Memory };
+
+    fn from(_fault: AllocError) -> OpenFault {
+        OpenFault::Memory
+    }
+}
+
+/// Why an epoch is not appended.
+#[derive(Clone, Copy, Debug, PartialEq, Eq, Error)]
+pub enum AppendFault {
+    /// A call of the disk failed, or the record has no room below byte 2^63 - 1.
+    #[error("the disk failed")]
+    Disk,
+}
+
+/// Why an epoch is not read.
+#[derive(Clone, Copy, Debug, PartialEq, Eq, Error)]
+pub enum ReadFault {
+    /// A call of the disk failed.
+    #[error("the disk failed")]
+    Disk,
+}

@@ -1,0 +1,13 @@
+pub mod BodyCells
+pub mod EpochCells
+pub mod OrderSteps
+pub mod AddedEpochs
+pub mod KeptLemmas
+pub mod OrderLemmas
+pub mod PlaceLemmas
+pub mod AddedLemmas
+pub mod ReadingLemmas
+pub mod GrowsLemmas
+pub mod StoreLemmas
+pub mod SumLemmas
+pub mod FileRecords

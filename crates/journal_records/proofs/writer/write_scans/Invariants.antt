@@ -1,0 +1,18 @@
+use Rattle.std.proofs.Common.{Ok}
+use Rattle.std.specs.List.{flat_map, range_with_len}
+use Rattle.ranged_journal.specs.Standing.{StandsOn}
+use Rattle.vis_writer.specs.Texts.{text_at}
+use Rattle.journal_records.specs.Places.{place_of_scan}
+use Rattle.journal_records.specs.Store.{store, Reaches, WritesCells}
+use Rattle.journal_records.proofs.writer.write_scans.Given as goal
+
+abbrev pub invariant-loop-number : goal.invariant-loop-number
+invariant-loop-number g l = record {
+  stands : StandsOn l.epochs l.journal (g.D.Disk.seen l.disk) (g.D.Disk.may_leave l.disk (g.D.Disk.moment l.disk));
+  reaches : Reaches g.D.Disk.seen g.D.Disk.moment g.D.Disk.may_leave l.epochs (place_of_scan l.epochs 0) (place_of_scan l.epochs l.number)
+      (store l.initial.journal l.initial.disk) (store l.journal l.disk);
+  written : WritesCells {T = Unit {0}} g.D.Disk.seen g.D.Disk.moment g.D.Disk.may_leave g.D.Disk.faults l.plan l.epochs (place_of_scan l.epochs 0)
+      (λ of. flat_map (text_at l.head of) (range_with_len 0 l.number))
+      (store l.initial.journal l.initial.disk) (store l.journal l.disk)
+      (g.S.Sink.told l.initial.out) (g.S.Sink.told l.out) (g.S.Sink.faults l.initial.out) (g.S.Sink.faults l.out) (Ok tt);
+}

@@ -1,0 +1,155 @@
+-- What is summed and read ahead, one round after another.
+use Rattle.std.specs.Prelude.{is_some, IfSome}
+use Rattle.std.proofs.Common.{◌≡◌, ◌∙◌, ℕ, ◌+◌, ◌-◌, ◌*◌, ◌<◌, ◌≤◌, true, false, List, length, Option, None, Some, option_map, sym, ap, subst, arith}
+use Rattle.dev_traits.specs.Told.{WhereTold}
+use Rattle.corr_model.specs.declared.cell.Pair.{Pair}
+use Rattle.corr_model.specs.Files.{Files}
+use Rattle.piece_plan.specs.declared.epoch.EpochPlan.{EpochPlan}
+use Rattle.piece_plan.specs.Epochs.{JobSizes, IsEpoch, IsOfPlan, cell_count}
+use Rattle.piece_plan.specs.Order.{Place, place_of}
+use Rattle.plan_places.specs.declared.place.Place.{Place as Spot}
+use Rattle.plan_places.specs.Places.{place_at, IsPlace}
+use Rattle.plan_places.specs.Walk.{AreLeft, next_epoch}
+use Rattle.job_plan.specs.declared.plan.ScanPlan.{ScanPlan}
+use Rattle.job_plan.specs.declared.plan.Plan.{Plan}
+use Rattle.job_epochs.specs.Sums.{epoch_sums}
+use Rattle.epoch_run.specs.Planes.{planed}
+use Rattle.epoch_run.specs.Sums.{IsSummed, cells_in_epoch}
+use Rattle.ready_job.specs.declared.ready.Ready.{Ready}
+use Rattle.journal_rounds.specs.declared.values.Held.{Held}
+use Rattle.journal_rounds.specs.declared.sums.Summed.{Summed}
+use Rattle.journal_rounds.specs.declared.ahead.Ahead.{Ahead}
+use Rattle.journal_rounds.specs.Epochs.{IsOfScan, IsNext, behind}
+use Rattle.journal_rounds.specs.Ahead.{IsHeld, AreSumsOf, IsCut, IsAhead, epoch_read, epoch_summed, steps_done, steps_kept, kept_with}
+use Rattle.journal_rounds.proofs.EpochLemmas.{scan-one, groups-held, count-summed, cells-summed}
+use Rattle.journal_rounds.proofs.WalkLemmas.{left-behind}
+
+-- values of an epoch, whether the files are told or not
+pub held-untold : (told : Option Files) (ready : Ready) (held : Option Held) → IfSome held (IsHeld told ready) → IfSome held (IsHeld None ready)
+held-untold told ready None are = tt
+held-untold told ready (Some h) are = record {
+  fits = are.fits;
+  scan = are.scan;
+  of_scan = are.of_scan;
+  values = record { pairs = are.values.pairs; count = are.values.count; values = tt };
+}
+
+-- and sums
+pub sums-untold : (told : Option Files) (ready : Ready) (summed : Option Summed) → IfSome summed (AreSumsOf told ready) → IfSome summed (AreSumsOf None ready)
+sums-untold told ready None are = tt
+sums-untold told ready (Some s) are = record { fits = are.fits; of_plan = are.of_plan; count = are.count; cells = tt }
+
+-- the epoch that is summed begins at the place that is due
+pub begins-due : (told : Option Files) (ready : Ready) (epoch : ℕ) (due : Option Place) (summed : Option Summed) → IsNext ready.epochs epoch due (epoch_summed summed)
+    → IfSome summed (λ s. due ≡ Some (place_of s.epoch))
+begins-due told ready epoch due None is = tt
+begins-due told ready epoch due (Some s) is = is.begins
+
+-- and it is the one of this length from there on
+pub cut-due : (job : JobSizes) (epoch : ℕ) (due : Option Place) (summed : Option Summed) → IsNext job epoch due (epoch_summed summed) → IfSome summed (IsCut job epoch)
+cut-due job epoch due None is = tt
+cut-due job epoch due (Some s) is = ap (next_epoch job epoch) (sym is.begins) ∙ is.cut
+
+-- what a round makes of what was there
+pub ahead-next : (told : Option Files) (ready : Ready) (epoch : ℕ) (due : Option Place) (ahead next : Ahead) → IsAhead told ready epoch due ahead
+    → IfSome next.summed (AreSumsOf told ready) → epoch_summed next.summed ≡ epoch_read ahead.held
+    → IfSome next.held (IsHeld told ready) → IsNext ready.epochs epoch (option_map place_at ahead.next) (epoch_read next.held)
+    → option_map place_at next.next ≡ behind ready.epochs (epoch_read next.held) (option_map place_at ahead.next)
+    → IfSome next.next (λ p. IsPlace ready.epochs (place_at p))
+    → IsAhead told ready epoch (behind ready.epochs (epoch_summed ahead.summed) due) next
+ahead-next told ready epoch due ahead next before sums summed values held on place =
+    let job = ready.epochs in
+    let mid : Option Place = behind job (epoch_summed ahead.summed) due in
+    let far : option_map place_at ahead.next ≡ behind job (epoch_summed next.summed) mid = before.next ∙ ap (λ (o : Option EpochPlan). behind job o mid) (sym summed) in
+    record {
+      sums = sums;
+      values = values;
+      first = subst (λ (o : Option EpochPlan). IsNext job epoch mid o) (sym summed) before.second;
+      second = subst (λ (d : Option Place). IsNext job epoch d (epoch_read next.held)) far held;
+      next = on ∙ ap (λ (d : Option Place). behind job (epoch_read next.held) d) far;
+      place = place;
+    }
+
+-- a round takes a step
+pub steps-on : (job : JobSizes) (summed more : Option Summed) (held other : Option Held) (at : Option Spot) (due : Option Place) → is_some due ≡ true
+    → option_map place_at at ≡ behind job (epoch_read held) (behind job (epoch_summed summed) due) → epoch_summed more ≡ epoch_read held → is_some other ≡ is_some at
+    → steps_done summed held < steps_done more other + steps_kept summed
+steps-on job (Some s) more held other at due some next sums read = omega arith
+steps-on job None None (Some h) other at due some next sums read = absurd (cc (sums))
+steps-on job None (Some t) (Some h) other at due some next sums read = omega arith
+steps-on job None (Some t) None other at due some next sums read = absurd (cc (sums))
+steps-on job None None None (Some o) at due some next sums read = omega arith
+steps-on job None None None None (Some p) due some next sums read = absurd (cc (read))
+steps-on job None None None None None due some next sums read =
+    let never : false ≡ true = ap is_some next ∙ some in absurd (cc (never))
+
+-- how many epochs are left behind a round
+pub left-round : (job : JobSizes) (epoch left less : ℕ) (due : Option Place) (summed : Option Summed) → AreLeft job epoch due left → IsNext job epoch due (epoch_summed summed)
+    → kept_with summed less ≡ left → AreLeft job epoch (behind job (epoch_summed summed) due) less
+left-round job epoch left less due None are is count = subst (AreLeft job epoch due) (sym count) are
+left-round job epoch left less due (Some s) are is count = left-behind job epoch less due s.epoch (subst (AreLeft job epoch due) (sym count) are) is.cut
+
+-- and how many are kept and left in all
+pub all-round : (summed : Option Summed) (kept kept' left less : ℕ) → kept' ≡ kept_with summed kept → kept_with summed less ≡ left → kept' + less ≡ kept + left
+all-round None kept kept' left less more count = omega arith
+all-round (Some s) kept kept' left less more count = omega arith
+
+-- the measure falls
+pub steps-fall : (summed more : Option Summed) (held other : Option Held) (left less : ℕ) → 0 < left → kept_with summed less ≡ left
+    → steps_done summed held < steps_done more other + steps_kept summed → 3 * less - steps_done more other < 3 * left - steps_done summed held
+steps-fall None more None other left less some count on = omega (arith, done-most more other)
+  where
+    done-most : (a : Option Summed) (b : Option Held) → steps_done a b ≤ 2
+    done-most None None = omega arith
+    done-most None (Some b) = omega arith
+    done-most (Some a) b = omega arith
+steps-fall None more (Some h) other left less some count on = omega arith
+steps-fall (Some s) more held other left less some count on = omega arith
+
+-- ---- the sums of the epoch that is read
+
+-- its values are those from which it can be summed
+pub held-summed : (told : Option Files) (ready : Ready) (held : Held) (plan : Plan) (scan : ScanPlan) (pairs : List Pair) (piece : ℕ) → IsHeld told ready held → plan ≡ ready.plan
+    → IsOfScan plan scan held.epoch → pairs ≡ held.values.pairs.items → 64 ≤ piece → piece ≤ 4194304 → IsSummed pairs scan.samples held.epoch piece
+held-summed told ready held plan scan pairs piece is same of_scan pairs_are some most = record {
+  epoch = of_scan.of_scan.of_plan;
+  inside = of_scan.of_scan.inside;
+  scan = of_scan.ranges.samples;
+  groups = ap length pairs_are ∙ groups-held told ready.plan is.scan held.epoch held.values is.of_scan is.values;
+  some = some;
+  most = most;
+}
+
+-- and the sums are those of the definition
+pub summed-held : (told : Option Files) (ready : Ready) (held : Held) (plan : Plan) (scan : ScanPlan) (pairs : List Pair) (s : Summed) → plan ≡ ready.plan → IsOfScan plan scan held.epoch
+    → pairs ≡ held.values.pairs.items → s.epoch ≡ held.epoch → s.sums.cells ≡ cells_in_epoch (planed held.values.planes) pairs scan.samples held.epoch
+    → IsHeld told ready held → AreSumsOf told ready s
+summed-held told ready held plan scan pairs s same of_scan pairs_are epoch cells is =
+    let e = held.epoch in
+    let v = held.values in
+    let here : IsOfScan ready.plan scan e = subst (λ (p : Plan). IsOfScan p scan e) same of_scan in
+    let one : scan ≡ is.scan = scan-one ready.plan scan is.scan e here is.of_scan in
+    let are : s.sums.cells ≡ cells_in_epoch (planed v.planes) v.pairs.items is.scan.samples e =
+    cells ∙ ap (λ (l : List Pair). cells_in_epoch (planed v.planes) l scan.samples e) pairs_are
+    ∙ ap (λ (x : ScanPlan). cells_in_epoch (planed v.planes) v.pairs.items x.samples e) one in
+    record {
+      fits = subst (IsEpoch ready.epochs) (sym epoch) is.fits;
+      of_plan = subst IsOfPlan (sym epoch) here.of_scan.of_plan;
+      count = count-summed told ready.plan is.scan e v s.sums.cells is.of_scan is.values are ∙ ap cell_count (sym epoch);
+      cells = subst (λ (x : EpochPlan). WhereTold told (λ (files : Files). s.sums.cells ≡ epoch_sums ready.plan files x)) (sym epoch)
+          (cells-summed told ready.plan is.scan e v s.sums.cells is.of_scan is.values are);
+    }
+
+-- ---- the first round
+
+-- nothing is read yet
+pub ahead-none : (told : Option Files) (ready : Ready) (epoch : ℕ) (at here : Option Spot) → here ≡ at → IfSome at (λ p. IsPlace ready.epochs (place_at p))
+    → IsAhead told ready epoch (option_map place_at at) (record { summed = None; held = None; next = here })
+ahead-none told ready epoch at here same place = record {
+  sums = tt;
+  values = tt;
+  first = tt;
+  second = tt;
+  next = ap (option_map place_at) same;
+  place = subst (λ (o : Option Spot). IfSome o (λ p. IsPlace ready.epochs (place_at p))) (sym same) place;
+}

@@ -1,0 +1,76 @@
+-- What is summed and read ahead of the epochs that are kept.
+use Rattle.std.specs.Prelude.{◌≡◌, ℕ, ◌+◌, ◌*◌, ◌-◌, length, option_map, Option, None, Some, IfSome}
+use Rattle.dev_traits.specs.Told.{WhereTold}
+use Rattle.corr_model.specs.Files.{Files}
+use Rattle.piece_plan.specs.declared.epoch.EpochPlan.{EpochPlan}
+use Rattle.piece_plan.specs.Epochs.{JobSizes, IsEpoch, IsOfPlan, cell_count}
+use Rattle.piece_plan.specs.Order.{Place, place_of}
+use Rattle.plan_places.specs.Places.{place_at, IsPlace}
+use Rattle.plan_places.specs.Walk.{cut_at}
+use Rattle.job_plan.specs.declared.plan.ScanPlan.{ScanPlan}
+use Rattle.job_epochs.specs.Sums.{epoch_sums}
+use Rattle.ready_job.specs.declared.ready.Ready.{Ready}
+use Rattle.run_sums.specs.Reach.{HoldsEpoch}
+use Rattle.journal_rounds.specs.declared.values.Held.{Held}
+use Rattle.journal_rounds.specs.declared.sums.Summed.{Summed}
+use Rattle.journal_rounds.specs.declared.ahead.Ahead.{Ahead}
+use Rattle.journal_rounds.specs.Epochs.{IsOfScan, IsNext, behind}
+
+-- values of an epoch of the job, at the samples that its lags reach where the files are told
+pub record IsHeld (told : Option Files) (ready : Ready) (held : Held) : Type 0 where
+  pub fits : IsEpoch ready.epochs held.epoch
+  pub scan : ScanPlan
+  pub of_scan : IsOfScan ready.plan scan held.epoch
+  pub values : HoldsEpoch told ready.plan scan held.epoch held.values
+
+-- sums of an epoch of the job: a cell for each of its cells, and where the files are told, the cells of the definition
+pub record AreSumsOf (told : Option Files) (ready : Ready) (s : Summed) : Type 0 where
+  pub fits : IsEpoch ready.epochs s.epoch
+  pub of_plan : IsOfPlan s.epoch
+  pub count : length s.sums.cells ≡ cell_count s.epoch
+  pub cells : WhereTold told (λ files. s.sums.cells ≡ epoch_sums ready.plan files s.epoch)
+
+-- the epoch of sums is the one of this length that begins where it does
+abbrev pub IsCut : JobSizes → ℕ → Summed → Type 0
+IsCut job epoch s = cut_at job epoch (place_of s.epoch) ≡ Some s.epoch
+
+-- the epoch that is read
+abbrev pub epoch_read : Option Held → Option EpochPlan
+epoch_read None = None
+epoch_read (Some held) = Some held.epoch
+
+-- the epoch that is summed
+abbrev pub epoch_summed : Option Summed → Option EpochPlan
+epoch_summed None = None
+epoch_summed (Some s) = Some s.epoch
+
+-- Where a walk stands at the first sample that is not kept: what is summed is its next epoch, what is read is the one behind that,
+-- or its next one where none is summed, and the next one that is to be read begins behind these.
+pub record IsAhead (told : Option Files) (ready : Ready) (epoch : ℕ) (due : Option Place) (ahead : Ahead) : Type 0 where
+  pub sums : IfSome ahead.summed (AreSumsOf told ready)
+  pub values : IfSome ahead.held (IsHeld told ready)
+  pub first : IsNext ready.epochs epoch due (epoch_summed ahead.summed)
+  pub second : IsNext ready.epochs epoch (behind ready.epochs (epoch_summed ahead.summed) due) (epoch_read ahead.held)
+  pub next : option_map place_at ahead.next
+      ≡ behind ready.epochs (epoch_read ahead.held) (behind ready.epochs (epoch_summed ahead.summed) due)
+  pub place : IfSome ahead.next (λ p. IsPlace ready.epochs (place_at p))
+
+-- how many of the three steps are done of the first epoch that is not kept
+abbrev pub steps_done : {A B : Type 0} → Option A → Option B → ℕ
+steps_done (Some summed) held = 2
+steps_done None (Some held) = 1
+steps_done None None = 0
+
+-- the steps of an epoch that is appended, where one is
+abbrev pub steps_kept : {A : Type 0} → Option A → ℕ
+steps_kept None = 0
+steps_kept (Some summed) = 3
+
+-- how many steps are left at most, where so many epochs are not kept
+abbrev pub steps_left : ℕ → Ahead → ℕ
+steps_left left ahead = 3 * left - steps_done ahead.summed ahead.held
+
+-- one more where an epoch is appended
+abbrev pub kept_with : {A : Type 0} → Option A → ℕ → ℕ
+kept_with None kept = kept
+kept_with (Some summed) kept = kept + 1

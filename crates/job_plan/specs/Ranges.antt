@@ -100,4 +100,3 @@ pub record IsPlan (plan : Plan) : Type 0 where
   pub few_products : length plan.products ≤ 256
   pub products : All (IsProductPlan plan) plan.products
   pub scans : All (IsScanPlan plan) plan.scans
-  pub load : length plan.stations * length plan.channels * plan.epoch ≤ 268435456

@@ -9,3 +9,4 @@ pub mod WalkLemmas
 pub mod CountedLemmas
 pub mod WholeWalks
 pub mod OwnWalk
+pub mod LeftLemmas

@@ -27,6 +27,10 @@ IsWalk job epoch due [] = due ≡ None
 IsWalk job epoch due (e ∷ epochs) =
     (next_epoch job epoch due ≡ Some e) × IsWalk job epoch (place_after job e) epochs
 
+-- the epochs of a whole job, where each is cut with so many samples
+abbrev pub epochs_by : JobSizes → ℕ → List EpochPlan
+epochs_by job epoch = epochs_of (record job { epoch = epoch })
+
 -- so many epochs are left where a walk stands
 pub record AreLeft (job : JobSizes) (epoch : ℕ) (due : Option Place) (count : ℕ) : Type 0 where
   pub epochs : List EpochPlan

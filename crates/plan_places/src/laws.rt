@@ -1,10 +1,10 @@
 //! What follows from the definitions. The functions do nothing: a call brings its law.
-ghost use Rattle.std.specs.Prelude.{◌≡◌, ◌≤◌, ℕ, List, Option, IfSome, Some, None};
+ghost use Rattle.std.specs.Prelude.{◌≡◌, ◌≤◌, ℕ, List, length, Option, IfSome, Some, None};
 ghost use Rattle.piece_plan.specs.declared.epoch.EpochPlan.{EpochPlan};
 ghost use Rattle.piece_plan.specs.Epochs.{JobSizes, IsJob, IsEpoch, epochs_of};
 ghost use Rattle.piece_plan.specs.Order.{Place, first_place, place_after, AreInOrder, CoverJob};
 ghost use Rattle.plan_places.specs.Places.{IsPlace};
-ghost use Rattle.plan_places.specs.Walk.{cut_at, IsWalk};
+ghost use Rattle.plan_places.specs.Walk.{cut_at, IsWalk, AreLeft, epochs_by};
 
 /// An epoch that is cut from a place is one of the job.
 pub fn cut_epochs_fit()
@@ -44,4 +44,16 @@ pub fn walks_are_alone()
 /// Where epochs are as long as the job says, its epochs are the walk from its start.
 pub fn epochs_of_job_are_walk()
     ensures { (job : JobSizes) → IsJob job → IsWalk job job.epoch (first_place 0 job.scans) (epochs_of job) }
+{}
+
+/// The epochs of a whole job, of any length, are the walk from its start.
+pub fn epochs_by_length_are_walk()
+    ensures { (job : JobSizes) (epoch : ℕ) → IsJob job → 1 ≤ epoch → epoch ≤ 4194304
+        → IsWalk job epoch (first_place 0 job.scans) (epochs_by job epoch) }
+{}
+
+/// From no place are more epochs left than the whole job has.
+pub fn no_more_are_left_than_all()
+    ensures { (job : JobSizes) (epoch : ℕ) (due : Option Place) (n : ℕ) → IsJob job → 1 ≤ epoch → epoch ≤ 4194304
+        → IfSome due (IsPlace job) → AreLeft job epoch due n → n ≤ length (epochs_by job epoch) }
 {}

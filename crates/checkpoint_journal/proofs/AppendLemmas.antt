@@ -1,154 +1,221 @@
--- What the two steps of an append leave of a journal.
-use Rattle.std.specs.Prelude.{option_map, option_and_then}
-use Rattle.std.proofs.Common.{◌≡◌, ◌≢◌, ◌∙◌, ℕ, ◌+◌, ◌<◌, ◌≤◌, false, List, [], ◌∷◌, ◌++◌, length, get_or, take, drop, Option, Some, None, refl, sym, ap, subst, arith, length-append, append_assoc}
-use Rattle.std.proofs.lemmas.List.{take_at, drop_at, drop_more, drop-drop, drop-take, take-take, take_all, append-nil, length-take, length-drop, take-append-le}
-use Rattle.dev_traits.specs.Images.{put_at}
-use Rattle.checkpoint_journal.specs.Image.{behind, is_blank, reading, row_of, gate_at}
-use Rattle.checkpoint_journal.specs.Runs.{put_over, IsDue}
-use Rattle.checkpoint_journal.specs.Standing.{Keeps}
-use Rattle.checkpoint_journal.proofs.RowLemmas.{row_of-closed, row_of-open}
-use Rattle.checkpoint_journal.proofs.FindLemmas.{begun_of, reading-begun, reading-front}
-use Rattle.checkpoint_journal.proofs.PartLemmas.{RowParts, row_len, row_parts, behind-some, begun_means}
-use Rattle.checkpoint_journal.proofs.WriteLemmas.{put_at-inside, front_at}
+-- A journal that stands on a disk, before and after an append.
+use Rattle.std.specs.Prelude.{option_map, is_some, IfSome}
+use Rattle.std.proofs.Common.{◌≡◌, ◌≢◌, inl, inr, ⊎_elim, ◌∙◌, ℕ, ◌+◌, ◌*◌, ◌^◌, ◌<◌, Bool, true, false, List, [], ◌∷◌, ◌++◌, length, Option, Some, None, refl, sym, ap, subst, arith, length-append}
+use Rattle.dev_traits.specs.Told.{WhereTold}
+use Rattle.dev_traits.specs.Moments.{IsDurable}
+use Rattle.dev_traits.proofs.ToldLemmas.{WhereTold-weaker}
+use Rattle.corr_model.specs.declared.cell.Cell.{Cell}
+use Rattle.checkpoint_journal.specs.Cells.{body_text}
+use Rattle.checkpoint_journal.specs.Runs.{Changes, StepTold, KeepsEpochs, OneMore, AddsEpoch, IsDue, Adds}
+use Rattle.checkpoint_journal.proofs.RunLemmas.{changes_of, read_steps, told_value}
+use Rattle.checkpoint_journal.proofs.ToldLemmas.{told_both}
+use Rattle.checkpoint_journal.proofs.TextLemmas.{length-body_text}
+use Rattle.piece_plan.specs.declared.epoch.EpochPlan.{EpochPlan}
+use Rattle.piece_plan.specs.Epochs.{JobSizes, IsJob, IsEpoch, cell_count}
+use Rattle.piece_plan.specs.Order.{Place, place_of, place_after}
+use Rattle.plan_places.specs.declared.place.Place.{Place as Spot}
+use Rattle.plan_places.specs.Places.{place_at, IsPlace}
+use Rattle.journal_image.specs.Image.{Due, Kept, range_text, text, IsIdentity, KeptEpoch, records, Reading, Reads, Keeps, nothing, more}
+use Rattle.journal_image.proofs.ReadingLemmas.{reads-AtGate, keeps_one}
+use Rattle.journal_image.proofs.ThingLemmas.{text-ranged}
+use Rattle.journal_image.proofs.KeptLemmas.{keeps_more}
+use Rattle.checkpoint_journal.specs.declared.finding.Found.{Found}
+use Rattle.checkpoint_journal.specs.Finding.{due_of, IsEnd, record_size}
+use Rattle.checkpoint_journal.specs.Kept.{kept_epoch}
+use Rattle.checkpoint_journal.specs.Standing.{JournalState, journal_state, IsGate, Knows, Stands}
+use Rattle.checkpoint_journal.proofs.GateLemmas.{gate-more-things, gate_of-more}
+use Rattle.checkpoint_journal.proofs.KeepLemmas.{adds_same}
 
-some_lists : (a b : List ℕ) → Some a ≡ Some b → a ≡ b
-some_lists a b e = cc
+-- a fact about no content, where another tells
+told_still : (old new : Option (List ℕ)) (N : Type 0) → is_some new ≡ is_some old → WhereTold old (λ image. N) → WhereTold new (λ image. N)
+told_still old None N same fact = tt
+told_still None (Some image) N same fact = cc
+told_still (Some v) (Some image) N same fact = fact
 
--- the bytes from the first gate on
-row_behind : (sizes : List ℕ) (o : Option (List ℕ)) (bodies : List (List ℕ)) → option_and_then (row_of sizes) o ≡ Some bodies → (rest : List ℕ) × (o ≡ Some rest) × (row_of sizes rest ≡ Some bodies)
-row_behind sizes None bodies e = cc
-row_behind sizes (Some rest) bodies e = (rest, refl, e)
+-- an image keeps the epochs of what it says
+module _ (id : List ℕ) (job : JobSizes) (named : IsIdentity id) (is_job : IsJob job) where
+  keeps_records : (v : List ℕ) (r : Reading) → Reads id job v r → Keeps id job v (records r.things)
+  keeps_records v r reads = inr (r, reads, refl)
 
--- an image that keeps something, by its parts
-pub record Parts (id sizes : List ℕ) (k : ℕ) (u : List ℕ) (bodies : List (List ℕ)) : Type 0 where
-  pub long : 1 < length u
-  pub is_open : get_or u 0 0 ≡ 1
-  pub front : take (1 + length id) u ≡ 1 ∷ id
-  pub row : RowParts sizes (drop (1 + length id) u) bodies
-  pub many : length bodies ≡ k
+  same_kept : (v image : List ℕ) (r : Reading) → Reads id job v r → Reads id job image r → KeepsEpochs id job v image
+  same_kept v image r before after kept = (
+    λ keeps. inr (r, after, keeps_one id job v named is_job kept (records r.things) keeps (keeps_records v r before)),
+    λ keeps. inr (r, before, keeps_one id job image named is_job kept (records r.things) keeps (keeps_records image r after)),
+  )
 
-pub keeps_parts : (id sizes : List ℕ) (k : ℕ) (u : List ℕ) (keeps : Keeps id sizes k u) → Parts id sizes k u keeps.bodies
-keeps_parts id sizes k u keeps =
-    let begun = begun_means u keeps.begun in
-    let found = row_behind sizes (behind (1 ∷ id) u) keeps.bodies (sym (reading-begun id sizes u keeps.begun) ∙ keeps.reads) in
-    let is : u ≡ (1 ∷ id) ++ found.0 = behind-some (1 ∷ id) u found.0 found.1 in
-    let size : length (1 ∷ id) ≡ 1 + length id = omega arith in
-    let back : drop (1 + length id) u ≡ found.0 = ap (drop (1 + length id)) is ∙ drop_at (1 ∷ id) found.0 (1 + length id) size in
-    record {
-      long = begun.0;
-      is_open = begun.1;
-      front = ap (take (1 + length id)) is ∙ take_at (1 ∷ id) found.0 (1 + length id) size;
-      row = subst (λ (l : List ℕ). RowParts sizes l keeps.bodies) (sym back) (row_parts sizes found.0 keeps.bodies found.2);
-      many = keeps.many;
-    }
+  pub one_more : (v image : List ℕ) (r : Reading) (e : EpochPlan) (body : List ℕ) (k : ℕ) → Reads id job v r → Reads id job image (more job r (Kept e body)) → k ≡ length (records r.things)
+      → OneMore id job k (record { epoch = e; body = body }) v image
+  one_more v image r e body k before after many = record {
+    old = records r.things;
+    many = sym many;
+    before = keeps_records v r before;
+    after = inr (more job r (Kept e body), after, sym (keeps_more job r e body []).0);
+  }
 
--- an image with the same bytes up to a gate reads as the bodies before it and what comes from it on
-pub same_up_to_gate : (id sizes : List ℕ) (k : ℕ) (u v : List ℕ) (bodies : List (List ℕ)) → Parts id sizes k u bodies → 1 < length v → gate_at (1 + length id) sizes k < length v → take (gate_at (1 + length id) sizes k) v ≡ take (gate_at (1 + length id) sizes k) u
-    → (is_blank v ≡ false) × (reading id sizes v ≡ option_map (λ (more : List (List ℕ)). bodies ++ more) (row_of (drop k sizes) (drop (gate_at (1 + length id) sizes k) v)))
-same_up_to_gate id sizes k u v bodies p long_v inside same =
-    let head = 1 + length id in
-    let n = row_len sizes k in
-    let head_n : head + n ≡ gate_at head sizes k = omega arith in
-    let counted : row_len sizes (length bodies) ≡ n = ap (row_len sizes) p.many in
-    let open_v : get_or v 0 0 ≡ 1 = front_at (gate_at head sizes k) 0 u v (omega arith) same ∙ p.is_open in
-    let front_v : take head v ≡ 1 ∷ id = sym (take-take head (gate_at head sizes k) v (omega arith)) ∙ ap (take head) same ∙ take-take head (gate_at head sizes k) u (omega arith) ∙ p.front in
-    let first : take n (drop head v) ≡ take n (drop head u) = sym (drop-take head n v) ∙ ap (λ (j : ℕ). drop head (take j v)) head_n ∙ ap (drop head) same ∙ ap (λ (j : ℕ). drop head (take j u)) (sym head_n) ∙ drop-take head n u in
-    let fits : n ≤ length (drop head v) = omega (arith, length-drop head v) in
-    let walked = p.row.again (drop head v) (subst (λ j. j ≤ length (drop head v)) (sym counted) fits) (subst (λ j. take j (drop head v) ≡ take j (drop head u)) (sym counted) first) in
-    let place : drop n (drop head v) ≡ drop (gate_at head sizes k) v = drop-drop n head v ∙ ap (λ (j : ℕ). drop j v) head_n in (
-      begun_of v long_v open_v,
-      reading-front id sizes v long_v open_v front_v ∙ walked
-          ∙ ap (λ (j : ℕ). option_map (λ (more : List (List ℕ)). bodies ++ more) (row_of (drop j sizes) (drop (row_len sizes j) (drop head v)))) p.many
-          ∙ ap (λ (l : List ℕ). option_map (λ (more : List (List ℕ)). bodies ++ more) (row_of (drop k sizes) l)) place,
-    )
+  pub adds_epoch : (u v image : List ℕ) (r : Reading) (e : EpochPlan) (body : List ℕ) (k : ℕ) → Reads id job u r → k ≡ length (records r.things)
+      → Adds id job r (Kept e body) u v → Adds id job r (Kept e body) v image → AddsEpoch id job k (record { epoch = e; body = body }) v image
+  adds_epoch u v image r e body k reads many first second = ⊎_elim
+      (λ (still : Reads id job v r). ⊎_elim
+      (λ (same : Reads id job image r). inl (same_kept v image r still same))
+      (λ (one : Reads id job image (more job r (Kept e body))). inr (one_more v image r e body k still one many))
+      (second.0 still))
+      (λ (one : Reads id job v (more job r (Kept e body))). inl (same_kept v image (more job r (Kept e body)) one (second.1 one)))
+      (first.0 reads)
 
--- The image that an append begins on: it keeps k bodies, and the gate of the next one, of this size, stands here.
-pub record Due (id sizes : List ℕ) (k gate size : ℕ) (u : List ℕ) : Type 0 where
-  pub bodies : List (List ℕ)
-  pub parts : Parts id sizes k u bodies
-  pub reads : reading id sizes u ≡ Some bodies
-  pub place : gate ≡ gate_at (1 + length id) sizes k
-  pub more : k < length sizes
-  pub size_is : get_or sizes k 0 ≡ size
-  pub inside : gate < length u
-  pub shut : get_or u gate 0 ≢ 1
-  pub some : 1 ≤ gate
+-- an image that keeps what it kept
+pub adds_epoch-same : (id : List ℕ) (job : JobSizes) (k : ℕ) (one : KeptEpoch) (v : List ℕ) → AddsEpoch id job k one v v
+adds_epoch-same id job k one v = inl (λ kept. (λ keeps. keeps, λ keeps. keeps))
 
-pub due_of : (id sizes : List ℕ) (k gate size : ℕ) (u : List ℕ) → IsDue id sizes k gate size u → Due id sizes k gate size u
-due_of id sizes k gate size u due =
-    let keeps = due.keeps in
-    let p = keeps_parts id sizes k u keeps in
-    let head = 1 + length id in
-    let n = row_len sizes k in
-    let counted : row_len sizes (length keeps.bodies) ≡ n = ap (row_len sizes) p.many in
-    let at : head + n ≡ gate = omega (arith, due.place) in
-    let there : n < length (drop head u) = omega (arith, p.row.inside, counted) in
-    record {
-      bodies = keeps.bodies;
-      parts = p;
-      reads = keeps.reads;
-      place = due.place;
-      more = due.more;
-      size_is = due.sized;
-      inside = omega (arith, length-drop head u);
-      shut = λ one. p.row.stops (omega (arith, p.many, due.more)) (ap (λ (j : ℕ). get_or (drop head u) j 0) counted ∙ Rattle.std.proofs.lemmas.List.get_or-drop head u n 0 ∙ ap (λ (j : ℕ). get_or u j 0) at ∙ one);
-      some = omega arith;
-    }
+-- an image that says this, as the journal knows it
+pub record KnowsAs (id : List ℕ) (job : JobSizes) (j : JournalState) (r : Reading) (image : List ℕ) : Type 0 where
+  pub reads : Reads id job image r
+  pub end : IsEnd id job r j.end
+  pub here : IsGate id job r j.here
 
--- what stands behind a closed gate plays no part
-pub behind_closed : (id sizes : List ℕ) (k gate size : ℕ) (u v : List ℕ) (due : Due id sizes k gate size u) → gate + 1 ≤ length v → take (gate + 1) v ≡ take (gate + 1) u → reading id sizes v ≡ Some due.bodies
-behind_closed id sizes k gate size u v due long same =
-    let p = due.parts in
-    let front : take gate v ≡ take gate u = sym (take-take gate (gate + 1) v (omega arith)) ∙ ap (take gate) same ∙ take-take gate (gate + 1) u (omega arith) in
-    let long_v : 1 < length v = omega (arith, due.some) in
-    let read = same_up_to_gate id sizes k u v due.bodies p long_v (subst (λ j. j < length v) due.place (omega arith)) (subst (λ j. take j v ≡ take j u) due.place front) in
-    let shut : get_or v gate 0 ≢ 1 = λ one. due.shut (sym (front_at (gate + 1) gate u v (omega arith) same) ∙ one) in
-    let here : drop (gate_at (1 + length id) sizes k) v ≡ get_or v gate 0 ∷ drop (gate + 1) v = ap (λ (j : ℕ). drop j v) (sym due.place) ∙ drop_more v gate 0 (omega arith) in
-    read.1 ∙ ap (option_map (λ (more : List (List ℕ)). due.bodies ++ more)) (ap (row_of (drop k sizes)) here ∙ row_of-closed (drop k sizes) (get_or v gate 0) (drop (gate + 1) v) shut) ∙ ap (λ (l : List (List ℕ)). Some l) (append-nil due.bodies)
+-- what the one image says, where it is told
+pub known : (id : List ℕ) (job : JobSizes) (j : JournalState) (seen : Option (List ℕ)) → WhereTold seen (Knows id job j) → (r : Reading) × WhereTold seen (KnowsAs id job j r)
+known id job j None knows = (nothing job, tt)
+known id job j (Some v) knows = (knows.reading, record { reads = knows.reads; end = knows.end; here = knows.here })
 
--- behind the gate stand the body and a closed gate
-pub at_gate : (id sizes : List ℕ) (k gate size : ℕ) (u v : List ℕ) (due : Due id sizes k gate size u) (x : ℕ) (text rest : List ℕ) → length text ≡ size → v ≡ take gate u ++ (x ∷ ((text ++ 0 ∷ []) ++ rest))
-    → (is_blank v ≡ false) × (x ≡ 1 → reading id sizes v ≡ Some (due.bodies ++ text ∷ [])) × (x ≢ 1 → reading id sizes v ≡ Some due.bodies)
-at_gate id sizes k gate size u v due x text rest sized is =
-    let p = due.parts in
-    let tail = x ∷ ((text ++ 0 ∷ []) ++ rest) in
-    let front_size : length (take gate u) ≡ gate = omega (arith, length-take gate u, due.inside) in
-    let total : length v ≡ length (take gate u) + length tail = ap length is ∙ length-append (take gate u) tail in
-    let long_v : 1 < length v = omega (arith, length-append (text ++ 0 ∷ []) rest, length-append text (0 ∷ []), due.some) in
-    let front : take gate v ≡ take gate u = ap (take gate) is ∙ take_at (take gate u) tail gate front_size in
-    let back : drop gate v ≡ tail = ap (drop gate) is ∙ drop_at (take gate u) tail gate front_size in
-    let inside : gate < length v = omega arith in
-    let read = same_up_to_gate id sizes k u v due.bodies p long_v (subst (λ j. j < length v) due.place inside) (subst (λ j. take j v ≡ take j u) due.place front) in
-    let here : drop (gate_at (1 + length id) sizes k) v ≡ tail = ap (λ (j : ℕ). drop j v) (sym due.place) ∙ back in
-    let left : drop k sizes ≡ size ∷ drop (k + 1) sizes = drop_more sizes k 0 due.more ∙ ap (λ (s : ℕ). s ∷ drop (k + 1) sizes) due.size_is in
-    let body_rest : (text ++ 0 ∷ []) ++ rest ≡ text ++ 0 ∷ rest = append_assoc text (0 ∷ []) rest in
-    let opened : row_of (size ∷ drop (k + 1) sizes) (1 ∷ ((text ++ 0 ∷ []) ++ rest)) ≡ Some (text ∷ []) =
-    row_of-open size (drop (k + 1) sizes) ((text ++ 0 ∷ []) ++ rest)
-    ∙ ap (λ (l : List ℕ). option_map (λ (more : List (List ℕ)). take size l ∷ more) (row_of (drop (k + 1) sizes) (drop size l))) body_rest
-    ∙ ap (λ (l : List ℕ). option_map (λ (more : List (List ℕ)). l ∷ more) (row_of (drop (k + 1) sizes) (drop size (text ++ 0 ∷ rest)))) (take_at text (0 ∷ rest) size sized)
-    ∙ ap (λ (l : List ℕ). option_map (λ (more : List (List ℕ)). text ∷ more) (row_of (drop (k + 1) sizes) l)) (drop_at text (0 ∷ rest) size sized)
-    ∙ ap (option_map (λ (more : List (List ℕ)). text ∷ more)) (row_of-closed (drop (k + 1) sizes) 0 rest (omega arith)) in (
-      read.0,
-      λ one. read.1
-          ∙ ap (λ (l : List ℕ). option_map (λ (more : List (List ℕ)). due.bodies ++ more) (row_of (drop k sizes) l)) (here ∙ ap (λ (g : ℕ). g ∷ ((text ++ 0 ∷ []) ++ rest)) one)
-          ∙ ap (λ (l : List ℕ). option_map (λ (more : List (List ℕ)). due.bodies ++ more) (row_of l (1 ∷ ((text ++ 0 ∷ []) ++ rest)))) left
-          ∙ ap (option_map (λ (more : List (List ℕ)). due.bodies ++ more)) opened,
-      λ shut. read.1
-          ∙ ap (option_map (λ (more : List (List ℕ)). due.bodies ++ more)) (ap (row_of (drop k sizes)) here ∙ row_of-closed (drop k sizes) x ((text ++ 0 ∷ []) ++ rest) shut)
-          ∙ ap (λ (l : List (List ℕ)). Some l) (append-nil due.bodies),
-    )
+some_next : (o : Option Spot) (p : Place) → option_map place_at o ≡ Some p → o ≢ None
+some_next None p is none = cc
+some_next (Some s) p is none = cc
 
--- the body and the closed gate written behind the gate
-pub over_gate : (gate : ℕ) (bytes u : List ℕ) → gate < length u → put_over (gate + 1) bytes u ≡ take gate u ++ (get_or u gate 0 ∷ (bytes ++ drop (gate + 1 + length bytes) u))
-over_gate gate bytes u inside =
-    let cut : take (gate + 1) u ≡ take gate u ++ get_or u gate 0 ∷ [] = Rattle.std.proofs.lemmas.List.take_more u gate 0 inside in
-    ap (λ (l : List ℕ). l ++ (bytes ++ drop (gate + 1 + length bytes) u)) cut ∙ append_assoc (take gate u) (get_or u gate 0 ∷ []) (bytes ++ drop (gate + 1 + length bytes) u)
+-- the numbers behind one thing more
+record Agrees (id : List ℕ) (job : JobSizes) (j : JournalState) (r : Reading) : Type 0 where
+  end : IsEnd id job r j.end
+  here : IsGate id job r j.here
 
--- one byte of an image, written over
-pub put_byte : (gate x y : ℕ) (front tail : List ℕ) → length front ≡ gate → put_at gate (y ∷ []) (front ++ x ∷ tail) ≡ front ++ y ∷ tail
-put_byte gate x y front tail size =
-    let inside : gate ≤ length (front ++ x ∷ tail) = omega (arith, length-append front (x ∷ tail)) in
-    let one : length (front ++ x ∷ []) ≡ gate + 1 = omega (arith, length-append front (x ∷ [])) in
-    put_at-inside gate (y ∷ []) (front ++ x ∷ tail) inside
-    ∙ ap (λ (l : List ℕ). l ++ (y ∷ drop (gate + 1) (front ++ x ∷ tail))) (take_at front (x ∷ tail) gate size)
-    ∙ ap (λ (l : List ℕ). front ++ y ∷ l) (ap (drop (gate + 1)) (sym (append_assoc front (x ∷ []) tail)) ∙ drop_at (front ++ x ∷ []) tail (gate + 1) one)
+same_due : (a b : Due) → a.ranged ≡ b.ranged → a.place ≡ b.place → a ≡ b
+same_due a b ranged place = λ i. record { ranged = ranged i; place = place i }
+
+module _ (id : List ℕ) (job : JobSizes) (j : JournalState) (seen : Option (List ℕ)) (images : List ℕ → Type 0) (stands : Stands id job j seen images) where
+  -- the gate stands in the file
+  pub stands_inside : WhereTold seen (λ image. j.end.gate < length image)
+  stands_inside = WhereTold-weaker seen (Knows id job j) (λ image. j.end.gate < length image)
+      (λ image knows. let at = reads-AtGate id job image knows.reading knows.reads in omega (arith, knows.end.gate, at.inside)) stands.image
+
+  module _ (e : EpochPlan) (body : List ℕ) (begins : option_map place_at j.end.next ≡ Some (place_of e)) (fits : IsEpoch job e) (size : length body ≡ 24 * cell_count e) where
+    pub stands_ranged : j.end.ranged ≡ true
+    stands_ranged = stands.turned (some_next j.end.next (place_of e) begins)
+
+    module _ (r : Reading) (knows : WhereTold seen (KnowsAs id job j r)) where
+      with_range : (image : List ℕ) → KnowsAs id job j r image → r.due.ranged ≡ true
+      with_range image known = ap (λ (d : Due). d.ranged) (sym known.end.due) ∙ stands_ranged
+
+      -- a record of the epoch is due
+      pub stands_due : WhereTold seen (IsDue id job r (Kept e body) j.end.gate (range_text e ++ body))
+      stands_due = WhereTold-weaker seen (KnowsAs id job j r) (IsDue id job r (Kept e body) j.end.gate (range_text e ++ body)) (λ image known. record {
+        reads = known.reads;
+        fits = record {
+          place = ap (λ (d : Due). d.place) (sym known.end.due) ∙ begins;
+          epoch = fits;
+          size = size;
+          own = λ old. let no : true ≡ false = sym (with_range image known) ∙ old in cc;
+        };
+        place = known.end.gate;
+        is = sym (text-ranged r.due e body (with_range image known));
+      }) knows
+
+      -- the journal behind it
+      numbers : (end : Found) → end.old ≡ j.end.old → end.kept ≡ j.end.kept + 1 → end.gate ≡ j.end.gate + (1 + (28 + length body)) → end.ranged ≡ j.end.ranged
+          → option_map place_at end.next ≡ place_after job e → (image : List ℕ) → KnowsAs id job j r image
+          → Agrees id job (journal_state j.first end j.here j.failed) (more job r (Kept e body))
+      numbers end old kept gate ranged next image known =
+          let long : length (text r.due (Kept e body)) ≡ 28 + length body = ap length (text-ranged r.due e body (with_range image known)) ∙ length-append (range_text e) body in
+          let many = ap length (keeps_more job r e body []).0 ∙ length-append (records r.things) (record { epoch = e; body = body } ∷ []) in
+          record {
+            end = record {
+              old = old ∙ known.end.old;
+              kept = omega (arith, kept, known.end.kept, many);
+              gate = omega (arith, gate, known.end.gate, gate_of-more id job image r (Kept e body) known.reads, long);
+              due = same_due (due_of end) (more job r (Kept e body)).due (ranged ∙ ap (λ (d : Due). d.ranged) known.end.due) next;
+            };
+            here = gate-more-things id job r (Kept e body) j.here known.here;
+          }
+
+      pub stands_more : (end : Found) (seen' : Option (List ℕ)) (images' : List ℕ → Type 0) → end.old ≡ j.end.old → end.kept ≡ j.end.kept + 1
+          → end.gate ≡ j.end.gate + (1 + (28 + length body)) → end.ranged ≡ j.end.ranged → option_map place_at end.next ≡ place_after job e → IfSome end.next (λ p. IsPlace job (place_at p))
+          → end.gate < 2 ^ 63 → is_some seen' ≡ is_some seen → WhereTold seen' (λ image. Reads id job image (more job r (Kept e body))) → IsDurable seen' images'
+          → Stands id job (journal_state j.first end j.here j.failed) seen' images'
+      stands_more end seen' images' old kept gate ranged next place short tells reads durable = record {
+        sound = stands.sound;
+        named = stands.named;
+        plan = stands.plan;
+        first = stands.first;
+        version = stands.version ∙ sym old;
+        places = (stands.places.0, (record { short = short; many = omega (arith, kept, gate, stands.places.1.0.many); next = place }, stands.places.1.1));
+        turned = λ goes_on. ranged ∙ stands_ranged;
+        within = omega (arith, kept, stands.within);
+        before = omega (arith, gate, stands.before);
+        image = told_both seen' (λ image. Agrees id job j' q) (λ image. Reads id job image q) (Knows id job j')
+            (λ image agrees one. record { reading = q; reads = one; end = agrees.end; here = agrees.here })
+            (told_still seen seen' (Agrees id job j' q) tells (WhereTold-weaker seen (KnowsAs id job j r) (λ image. Agrees id job j' q) (numbers end old kept gate ranged next) knows))
+            reads;
+        durable = durable;
+      }
+        where
+          j' : JournalState
+          j' = journal_state j.first end j.here j.failed
+
+          q : Reading
+          q = more job r (Kept e body)
+
+-- A record of an epoch is written behind the last gate of a journal. Its fields say `j`, and contracts see `now`: the two are
+-- equal.
+module _ {D : Type 0} (seen : D → Option (List ℕ)) (moment : D → ℕ) (may_leave : D → ℕ → List ℕ → Type 0) (id : List ℕ) (job : JobSizes) (j now : JournalState) (view : j ≡ now) (old : D)
+    (stands : Stands id job now (seen old) (may_leave old (moment old))) (e : EpochPlan) (cells : List Cell)
+    (begins : option_map place_at now.end.next ≡ Some (place_of e)) (fits : IsEpoch job e) (counted : length cells ≡ cell_count e) where
+  abbrev body : List ℕ
+  body = body_text cells
+
+  size : length body ≡ 24 * cell_count e
+  size = length-body_text cells ∙ ap (λ (n : ℕ). 24 * n) counted
+
+  before : Stands id job j (seen old) (may_leave old (moment old))
+  before = subst (λ (s : JournalState). Stands id job s (seen old) (may_leave old (moment old))) (sym view) stands
+
+  next_begins : option_map place_at j.end.next ≡ Some (place_of e)
+  next_begins = subst (λ (s : JournalState). option_map place_at s.end.next ≡ Some (place_of e)) (sym view) begins
+
+  many : now.end.kept ≡ j.end.kept
+  many = ap (λ (s : JournalState). s.end.kept) (sym view)
+
+  reading : (r : Reading) × WhereTold (seen old) (KnowsAs id job j r)
+  reading = known id job j (seen old) before.image
+
+  due : WhereTold (seen old) (IsDue id job reading.0 (Kept e body) j.end.gate (range_text e ++ body))
+  due = stands_due id job j (seen old) (may_leave old (moment old)) before e body next_begins fits size reading.0 reading.1
+
+  pub appended_stands : (end : Found) (new : D) → end.old ≡ j.end.old → end.kept ≡ j.end.kept + 1
+      → end.gate ≡ j.end.gate + (1 + record_size j.end.ranged e) → end.ranged ≡ j.end.ranged → option_map place_at end.next ≡ place_after job e → IfSome end.next (λ p. IsPlace job (place_at p))
+      → end.gate < 2 ^ 63 → is_some (seen new) ≡ is_some (seen old)
+      → ((r : Reading) → WhereTold (seen old) (IsDue id job r (Kept e (body_text cells)) j.end.gate (range_text e ++ body_text cells))
+      → WhereTold (seen new) (λ image. Reads id job image (more job r (Kept e (body_text cells)))))
+      → IsDurable (seen new) (may_leave new (moment new)) → Stands id job (journal_state j.first end j.here j.failed) (seen new) (may_leave new (moment new))
+  appended_stands end new first kept gate ranged next place short tells reads durable =
+      let with_range = ap (λ (b : Bool). record_size b e) (stands_ranged id job j (seen old) (may_leave old (moment old)) before e body next_begins fits size) in
+      stands_more id job j (seen old) (may_leave old (moment old)) before e body next_begins fits size reading.0 reading.1 end (seen new) (may_leave new (moment new))
+      first kept (omega (arith, gate, with_range, size)) ranged next place short tells (reads reading.0 due) durable
+
+  -- what is read keeps one epoch more
+  pub appended_one_more : (new : D) → is_some (seen new) ≡ is_some (seen old)
+      → ((r : Reading) → WhereTold (seen old) (IsDue id job r (Kept e (body_text cells)) j.end.gate (range_text e ++ body_text cells))
+      → WhereTold (seen new) (λ image. Reads id job image (more job r (Kept e (body_text cells)))))
+      → StepTold (OneMore id job now.end.kept (kept_epoch e cells)) (seen old) (seen new)
+  appended_one_more new tells reads = read_steps (OneMore id job now.end.kept (kept_epoch e cells)) (seen old) (seen new) tells (λ v image was is.
+      let known = told_value (seen old) (KnowsAs id job j reading.0) v was reading.1 in
+      let after = told_value (seen new) (λ (w : List ℕ). Reads id job w (more job reading.0 (Kept e body))) image is (reads reading.0 due) in
+      one_more id job stands.named stands.plan v image reading.0 e body now.end.kept known.reads after (many ∙ known.end.kept))
+
+  -- each image of the write keeps what was kept, or one epoch more
+  pub appended_changes : ((d : D) → WhereTold (seen d) (may_leave d (moment d))) → (new : D) → is_some (seen new) ≡ is_some (seen old)
+      → ((r : Reading) → WhereTold (seen old) (IsDue id job r (Kept e (body_text cells)) j.end.gate (range_text e ++ body_text cells))
+      → Changes seen moment may_leave (Adds id job r (Kept e (body_text cells))) old new)
+      → Changes seen moment may_leave (AddsEpoch id job now.end.kept (kept_epoch e cells)) old new
+  appended_changes law new tells changes =
+      let r = reading.0 in
+      changes_of seen moment may_leave (Adds id job r (Kept e body)) (AddsEpoch id job now.end.kept (kept_epoch e cells)) (adds_same id job stands.named stands.plan r (Kept e body))
+      old new stands.durable (law new) tells (changes r due).runs (λ u v image is first second.
+      let known = told_value (seen old) (KnowsAs id job j r) u is reading.1 in
+      adds_epoch id job stands.named stands.plan u v image r e body now.end.kept known.reads (many ∙ known.end.kept) first second)

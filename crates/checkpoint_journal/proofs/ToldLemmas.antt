@@ -19,3 +19,8 @@ told_again {A = A} new old P same p = let Q : Option A → Type 0 = λ o. WhereT
 pub told_mapped : {A : Type 0} (old new : Option A) (f : A → A) (P Q : A → Type 0) → new ≡ option_map f old → ((a : A) → P a → Q (f a)) → WhereTold old P → WhereTold new Q
 told_mapped {A = A} None new f P Q is follows p = let W : Option A → Type 0 = λ o. WhereTold o Q in subst W (sym is) tt
 told_mapped {A = A} (Some a) new f P Q is follows p = let W : Option A → Type 0 = λ o. WhereTold o Q in subst W (sym is) (follows a p)
+
+pub told_four : {A : Type 0} (told : Option A) (P Q R S U : A → Type 0) → ((a : A) → P a → Q a → R a → S a → U a)
+    → WhereTold told P → WhereTold told Q → WhereTold told R → WhereTold told S → WhereTold told U
+told_four None P Q R S U follows p q r s = tt
+told_four (Some a) P Q R S U follows p q r s = follows a p q r s

@@ -1,14 +1,17 @@
 -- What a write or a cut leaves of a journal's file.
-use Rattle.std.proofs.Common.{◌≡◌, ◌≢◌, ◌⊎◌, ⊎_elim, ◌∙◌, ℕ, ◌+◌, ◌-◌, ◌<◌, ◌≤◌, true, List, [], ◌∷◌, ◌++◌, length, get_or, take, drop, replicate, Some, refl, sym, ap, arith, take-append-drop, length-append, append_assoc}
-use Rattle.std.proofs.lemmas.List.{take_at, drop_at, take_all, drop_all, append-nil, length-take, length-drop, get_or-take, get_or-drop, drop_more}
+use Rattle.std.proofs.Common.{◌≡◌, ◌≢◌, ◌⊎◌, ⊎_elim, ◌∙◌, ℕ, ◌+◌, ◌-◌, ◌<◌, ◌≤◌, true, List, [], ◌∷◌, ◌++◌, length, get_or, take, drop, replicate, refl, sym, ap, arith, take-append-drop, length-append, append_assoc}
+use Rattle.std.proofs.lemmas.List.{take_at, drop_at, take_more, take_all, drop_all, append-nil, length-take, length-drop, get_or-take, get_or-drop, drop_more}
 use Rattle.std.proofs.lemmas.Grind.{same_number_lists}
 use Rattle.std.proofs.lemmas.Bool.Decides.{nat_tests}
 use Rattle.dev_traits.specs.Images.{put_at, Torn, Shorn}
-use Rattle.checkpoint_journal.specs.Image.{is_blank, reading, row_of}
-use Rattle.checkpoint_journal.specs.Runs.{KeepsBodies, KeepsFront, KeepsBlank, IsClosedHead}
-use Rattle.checkpoint_journal.specs.Standing.{Keeps}
-use Rattle.checkpoint_journal.proofs.RowLemmas.{row_of-closed}
-use Rattle.checkpoint_journal.proofs.FindLemmas.{begun_of, blank_short, blank_closed, reading-blank, reading-front}
+use Rattle.journal_image.specs.Image.{is_blank}
+use Rattle.checkpoint_journal.specs.Runs.{KeepsFront, KeepsBlank, IsClosedHead, put_over}
+
+pub blank_short : (image : List ℕ) → length image ≤ 1 → is_blank image ≡ true
+blank_short image short = grind (arith, nat_tests)
+
+pub blank_closed : (image : List ℕ) → get_or image 0 0 ≢ 1 → is_blank image ≡ true
+blank_closed image shut = grind (arith, nat_tests)
 
 pub blank_means : (v : List ℕ) → is_blank v ≡ true → 1 < length v → get_or v 0 0 ≢ 1
 blank_means v blank long = grind (arith, nat_tests)
@@ -64,10 +67,6 @@ closed_front v image some shut keeps =
     let k = keeps some in
     (k.0, λ one. shut (sym (front_at 1 0 v image (omega arith) k.1) ∙ one))
 
--- the same reading of two blank images
-pub both_blank : (id sizes v image : List ℕ) → is_blank v ≡ true → is_blank image ≡ true → KeepsBodies id sizes v image
-both_blank id sizes v image a b = reading-blank id sizes image b ∙ sym (reading-blank id sizes v a)
-
 pub put_at-inside : (at : ℕ) (bytes old : List ℕ) → at ≤ length old → put_at at bytes old ≡ take at old ++ (bytes ++ drop (at + length bytes) old)
 put_at-inside at bytes old inside =
     let none : at - length old ≡ 0 = omega arith in
@@ -93,28 +92,6 @@ torn_byte a v image inside torn =
     get_or-drop (a + 1) image i 0 ∙ torn.behind (a + 1 + i) in_v (omega arith) ∙ sym (get_or-drop (a + 1) v i 0)) in
     sym (take-append-drop a image) ∙ ap (λ (l : List ℕ). l ++ drop a image) ahead ∙ ap (λ (l : List ℕ). take a v ++ l) (drop_more image a 0 (omega arith) ∙ ap (λ (l : List ℕ). get_or image a 0 ∷ l) back)
 
--- an identity and one closed gate, behind whatever head gate
-pub reading-new : (id sizes image : List ℕ) (b : ℕ) → image ≡ b ∷ (id ++ 0 ∷ []) → reading id sizes image ≡ Some []
-reading-new id sizes image b is = ap (reading id sizes) is ∙ ⊎_elim
-    (λ (one : b ≡ 1).
-    let new = 1 ∷ (id ++ 0 ∷ []) in
-    let long : 1 < length new = omega (arith, length-append id (0 ∷ [])) in
-    let size : length (1 ∷ id) ≡ 1 + length id = omega arith in
-    let front : take (1 + length id) new ≡ 1 ∷ id = take_at (1 ∷ id) (0 ∷ []) (1 + length id) size in
-    let back : drop (1 + length id) new ≡ 0 ∷ [] = drop_at (1 ∷ id) (0 ∷ []) (1 + length id) size in
-    ap (λ (g : ℕ). reading id sizes (g ∷ (id ++ 0 ∷ []))) one ∙ reading-front id sizes new long refl front ∙ ap (row_of sizes) back ∙ row_of-closed sizes 0 [] (omega arith))
-    (λ (shut : b ≢ 1). reading-blank id sizes (b ∷ (id ++ 0 ∷ [])) (blank_closed (b ∷ (id ++ 0 ∷ [])) shut))
-    (one_or_not b)
-
--- the open head gate, the identity and one closed gate
-pub new_keeps : (id sizes image : List ℕ) → image ≡ 1 ∷ (id ++ 0 ∷ []) → Keeps id sizes 0 image
-new_keeps id sizes image is = record {
-  begun = ap is_blank is ∙ begun_of (1 ∷ (id ++ 0 ∷ [])) (omega (arith, length-append id (0 ∷ []))) refl;
-  bodies = [];
-  reads = reading-new id sizes image 1 is;
-  many = refl;
-}
-
 -- the identity and the closed gate behind a closed head gate
 pub staged_identity : (id v : List ℕ) → IsClosedHead v → put_at (1 + length id) (0 ∷ []) (put_at 1 id v) ≡ get_or v 0 0 ∷ (id ++ 0 ∷ [])
 staged_identity id [] closed = let no = closed.alone in absurd (omega arith)
@@ -131,15 +108,24 @@ staged_identity id (b ∷ c ∷ v) closed = let no = closed.alone in absurd (ome
 pub opened_identity : (id v : List ℕ) (b : ℕ) → v ≡ b ∷ (id ++ 0 ∷ []) → put_at 0 (1 ∷ []) v ≡ 1 ∷ (id ++ 0 ∷ [])
 opened_identity id v b is = put_at-inside 0 (1 ∷ []) v (omega arith) ∙ ap (λ (l : List ℕ). 1 ∷ drop 1 l) is
 
--- while the head gate is opened
-pub torn_head : (id sizes u v : List ℕ) (b : ℕ) → u ≡ b ∷ (id ++ 0 ∷ []) → Torn 0 1 u v → reading id sizes v ≡ Some []
-torn_head id sizes u v b is torn =
-    let some : 0 < length u = omega (arith, ap length is) in
-    reading-new id sizes v (get_or v 0 0) (torn_byte 0 u v some torn ∙ ap (λ (l : List ℕ). get_or v 0 0 ∷ drop 1 l) is)
-
 -- images that come from a closed head gate by writes behind it
 pub blank_closed_front : (u v image : List ℕ) → IsClosedHead u → KeepsFront 1 u v → KeepsFront 1 v image → (is_blank v ≡ true) × (is_blank image ≡ true)
 blank_closed_front u v image closed first second =
     let a = closed_front u v (omega (arith, closed.alone)) closed.closed first in
     let b = closed_front v image a.0 a.1 second in
     (blank_closed v a.1, blank_closed image b.1)
+
+-- bytes written behind a gate
+pub over_gate : (gate : ℕ) (bytes u : List ℕ) → gate < length u → put_over (gate + 1) bytes u ≡ take gate u ++ (get_or u gate 0 ∷ (bytes ++ drop (gate + 1 + length bytes) u))
+over_gate gate bytes u inside =
+    let cut : take (gate + 1) u ≡ take gate u ++ get_or u gate 0 ∷ [] = take_more u gate 0 inside in
+    ap (λ (l : List ℕ). l ++ (bytes ++ drop (gate + 1 + length bytes) u)) cut ∙ append_assoc (take gate u) (get_or u gate 0 ∷ []) (bytes ++ drop (gate + 1 + length bytes) u)
+
+-- one byte of an image, written over
+pub put_byte : (gate x y : ℕ) (front tail : List ℕ) → length front ≡ gate → put_at gate (y ∷ []) (front ++ x ∷ tail) ≡ front ++ y ∷ tail
+put_byte gate x y front tail size =
+    let inside : gate ≤ length (front ++ x ∷ tail) = omega (arith, length-append front (x ∷ tail)) in
+    let one : length (front ++ x ∷ []) ≡ gate + 1 = omega (arith, length-append front (x ∷ [])) in
+    put_at-inside gate (y ∷ []) (front ++ x ∷ tail) inside
+    ∙ ap (λ (l : List ℕ). l ++ (y ∷ drop (gate + 1) (front ++ x ∷ tail))) (take_at front (x ∷ tail) gate size)
+    ∙ ap (λ (l : List ℕ). front ++ y ∷ l) (ap (drop (gate + 1)) (sym (append_assoc front (x ∷ []) tail)) ∙ drop_at (front ++ x ∷ []) tail (gate + 1) one)

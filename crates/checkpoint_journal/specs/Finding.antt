@@ -1,81 +1,66 @@
--- What is found in a file.
-use Rattle.std.specs.Prelude.{◌≡◌, ◌≢◌, ℕ, ◌+◌, ◌-◌, ◌≤◌, ◌<◌, ◌^◌, true, List, length, slice_index, Option, Some, None}
-use Rattle.dev_traits.specs.Told.{WhereTold}
+-- What a file is found to be.
+use Rattle.std.specs.Prelude.{◌≡◌, ℕ, ◌+◌, ◌*◌, ◌≤◌, ◌<◌, ◌^◌, Bool, true, false, if◌then◌else◌, List, length, option_map, IfSome}
+use Rattle.piece_plan.specs.declared.epoch.EpochPlan.{EpochPlan}
+use Rattle.piece_plan.specs.Epochs.{JobSizes, cell_count}
+use Rattle.plan_places.specs.Places.{place_at, IsPlace}
+use Rattle.journal_image.specs.declared.difference.Differs.{Differs}
+use Rattle.journal_image.specs.Image.{is_blank, Due, records, Reading, Reads, gate_of}
+use Rattle.journal_image.specs.Difference.{IsReadTo, IsDifference}
+use Rattle.checkpoint_journal.specs.declared.finding.Found.{Found}
 use Rattle.checkpoint_journal.specs.declared.finding.Finding.{Finding}
 use Rattle.checkpoint_journal.specs.declared.finding.Finding.TheVariants.{Blank, Ours, Other}
-use Rattle.checkpoint_journal.specs.declared.fault.Differs.{Differs}
-use Rattle.checkpoint_journal.specs.Image.{is_blank, reading, row_of, gate_at}
-use Rattle.checkpoint_journal.specs.Standing.{Keeps}
-use Rattle.checkpoint_journal.specs.Difference.{IsDifference}
 
--- no reading, and where the image differs
-pub record IsOther (id sizes image : List ℕ) (d : Differs) : Type 0 where
-  pub unread : reading id sizes image ≡ None
-  pub place : IsDifference id image d
+-- what is due at a gate
+abbrev pub due_of : Found → Due
+due_of f = record { ranged = f.ranged; place = option_map place_at f.next }
+
+-- an image says what stands before a gate, and what is due there
+abbrev pub IsAt : List ℕ → JobSizes → List ℕ → Found → Type 0
+IsAt id job image f = IsReadTo id job image f.old (due_of f) f.kept f.gate
+
+-- the gate behind the last record of what an image says
+pub record IsEnd (id : List ℕ) (job : JobSizes) (r : Reading) (f : Found) : Type 0 where
+  pub old : f.old ≡ r.old
+  pub kept : f.kept ≡ length (records r.things)
+  pub gate : f.gate ≡ gate_of id job r
+  pub due : due_of f ≡ r.due
+
+-- an image of this job's form, and the gate behind its last record
+pub record IsFound (id : List ℕ) (job : JobSizes) (image : List ℕ) (f : Found) : Type 0 where
+  pub reading : Reading
+  pub reads : Reads id job image reading
+  pub end : IsEnd id job reading f
+
+-- an image that is neither blank nor of this job's form, and where it differs
+pub record IsOther (id : List ℕ) (job : JobSizes) (image : List ℕ) (d : Differs) : Type 0 where
+  pub begun : is_blank image ≡ false
+  pub unread : (r : Reading) → ¬ Reads id job image r
+  pub place : IsDifference id job image d
 
 -- what an image is
-abbrev pub Finds : List ℕ → List ℕ → List ℕ → Finding → Type 0
-Finds id sizes image Blank = is_blank image ≡ true
-Finds id sizes image (Ours kept gate) = Keeps id sizes kept image
-Finds id sizes image (Other d) = IsOther id sizes image d
+abbrev pub Finds : List ℕ → JobSizes → List ℕ → Finding → Type 0
+Finds id job image Blank = is_blank image ≡ true
+Finds id job image (Ours f) = IsFound id job image f
+Finds id job image (Other d) = IsOther id job image d
 
--- a row of so many open gates, and the place of the gate behind it
-pub record IsRow (head : ℕ) (sizes : List ℕ) (kept gate : ℕ) : Type 0 where
-  pub within : kept ≤ length sizes
-  pub place : gate ≡ gate_at head sizes kept
-  pub short : gate < 2 ^ 63
+-- a gate below 2^63 with fewer epochs before it, and behind it a place of the job or the job's end
+pub record HasPlace (job : JobSizes) (f : Found) : Type 0 where
+  pub short : f.gate < 2 ^ 63
+  pub many : f.kept ≤ f.gate
+  pub next : IfSome f.next (λ p. IsPlace job (place_at p))
 
-abbrev pub HasPlace : ℕ → List ℕ → Finding → Type 0
-HasPlace head sizes Blank = Unit {0}
-HasPlace head sizes (Ours kept gate) = IsRow head sizes kept gate
-HasPlace head sizes (Other d) = Unit {0}
+-- so does the gate of a journal that is found, also where the disk does not tell its content
+abbrev pub FindsPlace : JobSizes → Finding → Type 0
+FindsPlace job Blank = Unit {0}
+FindsPlace job (Ours f) = HasPlace job f
+FindsPlace job (Other d) = Unit {0}
 
--- the gate behind the row stands below 2^63
-abbrev pub HasShortGate : Finding → Type 0
-HasShortGate Blank = Unit {0}
-HasShortGate (Ours kept gate) = gate < 2 ^ 63
-HasShortGate (Other d) = Unit {0}
+-- the last gate of a journal that is found stands behind the identity
+abbrev pub FindsBehind : List ℕ → Finding → Type 0
+FindsBehind id Blank = Unit {0}
+FindsBehind id (Ours f) = 1 + length id ≤ f.gate
+FindsBehind id (Other d) = Unit {0}
 
--- the first n bytes of the identity stand behind the head gate
-pub record SameTo (id image : List ℕ) (n : ℕ) : Type 0 where
-  pub within : n ≤ length id
-  pub room : 1 + n ≤ length image
-  pub same : (k : ℕ) → k < n → slice_index image (1 + k) ≡ slice_index id k
-
--- those stand there, and at this place another byte or none
-pub record SameUpTo (id image : List ℕ) (at : ℕ) : Type 0 where
-  pub some : 1 ≤ at
-  pub before : SameTo id image (at - 1)
-  pub within : at - 1 < length id
-  pub other : at < length image → slice_index image at ≢ slice_index id (at - 1)
-
--- the place of the first byte that differs, where one does
-abbrev pub FindsFirst : List ℕ → List ℕ → Option ℕ → Type 0
-FindsFirst id image None = SameTo id image (length id)
-FindsFirst id image (Some at) = SameUpTo id image at
-
-abbrev pub IsInside : List ℕ → Option ℕ → Type 0
-IsInside id None = Unit {0}
-IsInside id (Some at) = (1 ≤ at) × (at ≤ length id)
-
--- so many bytes from a place on are those of a part; then comes another, or the image's or the part's end
-pub record Compares (image : List ℕ) (at : ℕ) (part : List ℕ) (n : ℕ) : Type 0 where
-  pub room : at ≤ length image → at + n ≤ length image
-  pub same : (k : ℕ) → k < n → slice_index image (at + k) ≡ slice_index part k
-  pub other : n < length part → at + n < length image → slice_index image (at + n) ≢ slice_index part n
-
--- from the first gate on, so many open gates in a row; or a gate of the row lies past the end
-abbrev pub FindsRow : List ℕ → List ℕ → Option (ℕ × ℕ) → Type 0
-FindsRow sizes bytes None = row_of sizes bytes ≡ None
-FindsRow sizes bytes (Some row) = (bodies : List (List ℕ)) × (row_of sizes bytes ≡ Some bodies) × (length bodies ≡ row.0)
-
--- an image that reads with so many bodies
-abbrev pub ReadsMany : List ℕ → List ℕ → ℕ → List ℕ → Type 0
-ReadsMany id sizes kept image = (bodies : List (List ℕ)) × (reading id sizes image ≡ Some bodies) × (length bodies ≡ kept)
-
--- What an opening gives, from what was read before it and what is read after. Of a blank file it makes this job's
--- journal with no epoch, and any other it leaves.
-abbrev pub Opens : List ℕ → List ℕ → Option (List ℕ) → Option (List ℕ) → Finding → Type 0
-Opens id sizes old new Blank = WhereTold new (Keeps id sizes 0)
-Opens id sizes old new (Ours kept gate) = WhereTold new (Keeps id sizes kept)
-Opens id sizes old new (Other d) = (new ≡ old) × WhereTold old (λ image. IsOther id sizes image d)
+-- the bytes of a record of an epoch
+abbrev pub record_size : Bool → EpochPlan → ℕ
+record_size ranged e = if ranged then 28 + 24 * cell_count e else 24 * cell_count e

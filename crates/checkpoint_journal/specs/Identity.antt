@@ -6,7 +6,7 @@ use Rattle.byteorder.specs.Endian.{little_bytes}
 -- the two texts
 abbrev pub identity_of : List ℕ → List ℕ → List ℕ → List ℕ
 identity_of schedule job sizes =
-    codes "VLBIJRN1"
+    codes "VLBIJRN2"
     ++ little_bytes 8 (length schedule)
     ++ little_bytes 8 (length job)
     ++ little_bytes 8 (length sizes)

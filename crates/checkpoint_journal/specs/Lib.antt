@@ -1,9 +1,11 @@
 pub mod Cells
-pub mod Difference
 pub mod Identity
-pub mod Image
-pub mod Runs
-pub mod Standing
+pub mod Front
 pub mod Finding
+pub mod Standing
+pub mod Runs
+pub mod Kept
 pub mod Faults
-pub mod Answers
+pub mod Staged
+pub mod Opening
+pub mod Next

@@ -2,52 +2,50 @@
 ghost use Rattle.std.specs.Prelude.{◌≡◌, ℕ, List, [], ◌∷◌, ◌++◌, ◌+◌, ◌*◌, ◌≤◌, ◌<◌, ◌^◌, length, take, slice_index, OnOk};
 ghost use Rattle.dev_traits.specs.Fault.{Counts};
 ghost use Rattle.dev_traits.specs.Told.{WhereTold};
-ghost use Rattle.piece_plan.specs.Epochs.{epochs_of};
 ghost use Rattle.checkpoint_journal.specs.Runs.{Looks};
-ghost use Rattle.checkpoint_journal.specs.Image.{body_sizes, gate_at};
-ghost use Rattle.checkpoint_journal.specs.Cells.{cell_from, cells_at};
+ghost use Rattle.checkpoint_journal.specs.Cells.{cell_from, cells_at, body_cells};
 
 use crate::cells::read_cell;
-use crate::reader::{body_len, load};
+use crate::reader::load;
 use corr_model::Cell;
 use dev_traits::{Disk, Failed};
-use piece_plan::JobPlan;
 
-// The place of an epoch's gate: on from the gate of the epoch `next`, or from the first gate, at `head`.
-pub(crate) fn gate_of(plan: &JobPlan, head: u64, next: u64, place: u64, i: u64) -> u64
-    requires within { i ≤ length (epochs_of plan.now) }
-    requires place { place ≡ gate_at head (body_sizes plan.now) next }
-    requires short { gate_at head (body_sizes plan.now) i < 2 ^ 63 }
-    ensures { result ≡ gate_at head (body_sizes plan.now) i }
+/// Reads cells out of the bytes of a body, 24 for each, as many as there are.
+pub fn body_cells(bytes: &[u8], out: &mut [Cell])
+    requires { length bytes.now ≡ 24 * length out.old }
+    ensures { out.new ≡ body_cells bytes.now }
 {
-    if i < next {
-        return head + distance(plan, 0, i);
-    }
-    place + distance(plan, next, i)
+    let count = out.len();
+    decode(bytes, out, 0, count);
 }
 
-// The number of bytes from an epoch's gate to that of a later one.
-fn distance(plan: &JobPlan, from: u64, to: u64) -> u64
-    requires order { from ≤ to }
-    requires within { to ≤ length (epochs_of plan.now) }
-    requires short { gate_at 0 (body_sizes plan.now) to < 2 ^ 63 }
-    ensures { gate_at 0 (body_sizes plan.now) from + result ≡ gate_at 0 (body_sizes plan.now) to }
+// Reads so many cells of a body that begins at a place into the front of `out`, in parts through the buffer.
+pub(crate) fn read_front<D: Disk>(
+    disk: &mut D,
+    at: u64,
+    out: &mut [Cell],
+    count: usize,
+    buffer: &mut [u8],
+) -> Result<(), Failed>
+    requires places { count ≤ length out.old }
+    requires room { at + 24 * count < 2 ^ 64 }
+    requires buffer { length buffer.old ≡ 960000 }
+    ensures cells { OnOk result
+        (WhereTold (D.seen disk.old) (λ image. take count out.new ≡ cells_at image at count)) }
+    ensures looks { Looks D.seen D.moment D.may_leave disk.old disk.new }
+    ensures counts { Counts (D.faults disk.old) (D.faults disk.new) result }
 {
-    let mut len = 0;
-    for k in from..to {
-        len += 1 + body_len(plan, k);
-    }
-    len
+    read_body(disk, at, &mut out[..count], buffer)
 }
 
 // Reads the cells of a body that begins at a place, in parts through the buffer.
-pub(crate) fn read_body<D: Disk>(
+fn read_body<D: Disk>(
     disk: &mut D,
     at: u64,
     out: &mut [Cell],
     buffer: &mut [u8],
 ) -> Result<(), Failed>
-    requires room { at + 24 * length out.old < 2 ^ 63 }
+    requires room { at + 24 * length out.old < 2 ^ 64 }
     requires buffer { length buffer.old ≡ 960000 }
     ensures cells { OnOk result
         (WhereTold (D.seen disk.old) (λ image. out.new ≡ cells_at image at (length out.old))) }
@@ -74,7 +72,7 @@ fn read_part<D: Disk>(
 ) -> Result<(), Failed>
     requires places { first + count ≤ length out.old }
     requires fits { 24 * count ≤ length buffer.old }
-    requires room { body + 24 * length out.old < 2 ^ 63 }
+    requires room { body + 24 * length out.old < 2 ^ 64 }
     ensures cells { OnOk result (WhereTold (D.seen disk.old)
         (λ image. take first out.old ≡ cells_at image body first
         → take (first + count) out.new ≡ cells_at image body (first + count))) }

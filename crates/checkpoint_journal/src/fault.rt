@@ -2,22 +2,14 @@
 ghost use Rattle.std.specs.Prelude.{◌≡◌};
 ghost use Rattle.checkpoint_journal.specs.declared.fault.OpenFault.TheVariants.{Memory};
 
+use journal_image::Differs;
 use std::alloc::AllocError;
 use thiserror::Error;
-
-/// Where a file differs from the journal of this job: the byte place, the file's byte there, none past its end, and
-/// this job's byte there, none behind the identity.
-#[derive(Clone, Copy, Debug, PartialEq, Eq)]
-pub struct Differs {
-    pub at: u64,
-    pub kept: Option<u8>,
-    pub ours: Option<u8>,
-}
 
 /// Why a journal is not opened.
 #[derive(Clone, Copy, Debug, PartialEq, Eq, Error)]
 pub enum OpenFault {
-    /// A call of the disk failed.
+    /// A call of the disk failed, or the mark of an old journal has no room below byte 2^63 - 1.
     #[error("the disk failed")]
     Disk,
     /// The file is neither blank nor a journal of this job.
@@ -39,7 +31,7 @@ impl From<AllocError> for OpenFault {
 /// Why an epoch is not appended.
 #[derive(Clone, Copy, Debug, PartialEq, Eq, Error)]
 pub enum AppendFault {
-    /// A call of the disk failed.
+    /// A call of the disk failed, or the record has no room below byte 2^63 - 1.
     #[error("the disk failed")]
     Disk,
 }

@@ -1,26 +1,24 @@
 //! What a file is found to be.
-ghost use Rattle.std.specs.Prelude.{◌≡◌};
-ghost use Rattle.checkpoint_journal.specs.Answers.{kept_of};
+use journal_image::Differs;
+use plan_places::Place;
 
-use crate::{Differs, OpenFault};
-use dev_traits::Failed;
-
-/// A blank file; a journal of this job with so many kept epochs, and the place of the gate behind them; or another.
-#[derive(Clone, Copy)]
-pub enum Finding {
-    Blank,
-    Ours(u64, u64),
-    Other(Differs),
+/// A gate of a journal: whether the journal is an old one, whose first records have no range; how many epochs it keeps
+/// before the gate; the place of the job where the next one begins, none at the job's end; the byte place of the gate; and
+/// whether a record behind it carries its range.
+#[derive(Clone, Copy, Debug, PartialEq, Eq)]
+pub struct Found {
+    pub old: bool,
+    pub kept: u64,
+    pub next: Option<Place>,
+    pub gate: u64,
+    pub ranged: bool,
 }
 
-// What a look answers for what it found. It takes no memory, so none can be wanting.
-pub(crate) fn kept_of(found: Result<Finding, Failed>) -> Result<u64, OpenFault>
-    ensures { result ≡ kept_of found }
-{
-    match found {
-        Ok(Finding::Blank) => Ok(0),
-        Ok(Finding::Ours(kept, _)) => Ok(kept),
-        Ok(Finding::Other(d)) => Err(OpenFault::Other(d)),
-        Err(Failed) => Err(OpenFault::Disk),
-    }
+/// A blank file; a journal of this job, with the gate behind its last record; or another file, with the first place that
+/// differs.
+#[derive(Clone, Copy, Debug, PartialEq, Eq)]
+pub enum Finding {
+    Blank,
+    Ours(Found),
+    Other(Differs),
 }

@@ -1,6 +1,7 @@
 //! Which job a journal belongs to.
 ghost use Rattle.std.specs.Prelude.{◌≡◌, List, ℕ, ◌++◌, length, flat_map, OnOk, IfOk};
 ghost use Rattle.byteorder.specs.Endian.{little_bytes};
+ghost use Rattle.journal_image.specs.Image.{IsIdentity};
 ghost use Rattle.checkpoint_journal.specs.Identity.{identity_of};
 
 use byteorder::{ByteOrder, LittleEndian};
@@ -17,12 +18,15 @@ impl Model for Identity {
     ghost Value = { List ℕ };
 
     ghost view = { λ id. id.bytes.items };
+
+    ghost invariant = { λ id. IsIdentity id.bytes.items };
 }
 
 impl Identity {
     /// Its bytes, as they stand in the journal behind the head gate.
     pub fn bytes(&self) -> &[u8]
-        ensures { result.now ≡ self.now }
+        ensures is { result.now ≡ self.now }
+        ensures named { IsIdentity self.now }
     {
         &self.bytes
     }
@@ -38,7 +42,7 @@ pub fn job_identity(
 ) -> Result<Identity, AllocError>
     ensures { IfOk result (λ id. id ≡ identity_of schedule.now job.now sizes.now) }
 {
-    let mut bytes = b"VLBIJRN1".to_vec(alloc)?;
+    let mut bytes = b"VLBIJRN2".to_vec(alloc)?;
     push_number(&mut bytes, schedule.len() as u64)?;
     push_number(&mut bytes, job.len() as u64)?;
     push_number(&mut bytes, sizes.len() as u64)?;

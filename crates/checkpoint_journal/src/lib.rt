@@ -1,22 +1,34 @@
-//! The journal of a job: a file that keeps the cells of each epoch that was summed, so that a run that was stopped goes
-//! on where it ended. It stands on `dev_traits` for the disk and the images that a crash may leave of it, on
-//! `piece_plan` for the epochs, on `atomic_sums` for their sums, and on `byteorder`. At each moment of a call, every
-//! image that a crash may leave keeps the epochs that were kept before it; after an append that succeeds it keeps the
-//! new one too. A journal of another job is refused with the first place that differs, and never written.
-//! (`docs/FORMATS.md` has the file byte by byte.)
+//! The journal of a job whose records carry the range of their epoch, on a disk. It stands on `dev_traits` for the disk
+//! and the images that a crash may leave of it, on `journal_image` for what the bytes of such a journal say, and on
+//! `plan_places` for the places where epochs begin. A file is read from its front, record by record, and one of another
+//! job is told by the first place that differs. At every moment of an opening each image that a crash may leave keeps the
+//! epochs that were kept before it, and at every moment of an append these, or these and the new one. An old journal gets a
+//! mark at its opening, behind which records carry their range.
 #![tactic(auto)]
 
+mod append;
+mod begin;
 mod body;
 mod cells;
+mod cursor;
 mod fault;
 mod finding;
+mod front;
 mod identity;
 mod journal;
+mod next;
+mod open;
+mod opening;
 mod reader;
-#[cfg(test)]
-mod tests;
+mod record;
+mod seen;
+mod walk;
 mod writer;
 
-pub use fault::{AppendFault, Differs, OpenFault, ReadFault};
+pub use body::body_cells;
+pub use fault::{AppendFault, OpenFault, ReadFault};
+pub use finding::{Finding, Found};
 pub use identity::{Identity, job_identity};
 pub use journal::Journal;
+pub use reader::find;
+pub use seen::Seen;

@@ -1,2 +1,2 @@
 pub mod BoardLemmas
-pub mod RoomLemmas
+pub mod StandLemmas

@@ -1,51 +1,26 @@
 //! What is printed.
-ghost use Rattle.std.specs.Prelude.{OnOk};
-ghost use Rattle.journal_cases.specs.Standing.{StandsIn};
 
-use crate::job::{Brought, Job};
+use crate::job::{Brought, Job, ReadEpoch};
 use anyhow::Result;
-use checkpoint_journal::{Journal, OpenFault};
-use corr_model::Cell;
+use checkpoint_journal::{OpenFault, Seen};
 use hex::encode;
+use md5::{Digest, Md5};
 use mem_devices::MemDisk;
-use std::alloc::Global;
+use piece_plan::EpochPlan;
+use std::alloc::{AllocError, Global};
 use std::fmt::{self, Write};
 
-/// Prints the number of kept epochs that a look found, or why there is none.
-pub fn print_look(rt: &impl Print, looked: Result<u64, OpenFault>) -> Result<()> {
-    match looked {
-        Ok(kept) => print!(rt; "look {kept}")?,
-        Err(fault) => {
-            print!(rt; "look: ")?;
-            print_fault(rt, fault)?;
+/// How many epochs a journal keeps, and where the next one begins, in words.
+#[derive(Clone, Copy)]
+pub struct SeenWords(pub Seen);
+
+impl fmt::Display for SeenWords {
+    fn fmt<W: fmt::Write>(&self, f: &mut fmt::Formatter<W>) -> fmt::Result {
+        match self.0.next {
+            Some(at) => write!(f, "{}, next {} {} {}", self.0.kept, at.scan, at.m, at.from),
+            None => write!(f, "{}, next none", self.0.kept),
         }
     }
-    Ok(())
-}
-
-/// Prints how a journal was brought on.
-pub fn print_brought(rt: &impl Print, brought: Brought) -> Result<()> {
-    match brought {
-        Brought::Refused(fault) => print_fault(rt, fault)?,
-        Brought::Opened {
-            first,
-            kept,
-            failed,
-        } => {
-            print!(rt; "opened {first}, kept {kept}")?;
-            if failed {
-                print!(rt; ", failed")?;
-            }
-        }
-    }
-    Ok(())
-}
-
-/// Prints why a journal is not opened.
-pub fn print_fault(rt: &impl Print, fault: OpenFault) -> Result<()> {
-    let words = FaultWords { fault, end: None };
-    print!(rt; "{words}")?;
-    Ok(())
 }
 
 /// Why a journal is not opened, in words. Where the length of the file is there, the place that it is counts as the end.
@@ -82,47 +57,75 @@ fn write_byte<W: fmt::Write>(f: &mut fmt::Formatter<W>, byte: Option<u8>) -> fmt
     }
 }
 
-/// Prints the number of kept epochs, and the cells of each.
-pub fn print_kept(
-    rt: &impl Print,
-    alloc: Global,
-    job: &Job,
-    disk: &mut MemDisk,
-    journal: &mut Journal,
-) -> Result<()>
-    requires stands { StandsIn job.now.plan journal.old disk.old }
-    ensures stands { OnOk result (StandsIn job.now.plan journal.new disk.new) }
-{
-    print!(rt; "opened {}", journal.kept())?;
-    let cells = cells_of(alloc, job, disk, journal)?;
-    print!(rt; "{cells}")?;
-    Ok(())
+/// Why a journal is not opened, in words.
+pub fn fault_words(alloc: Global, fault: OpenFault) -> Result<String, AllocError> {
+    let words = FaultWords { fault, end: None };
+    format!(in alloc; "{words}")
 }
 
-/// The cells of each kept epoch, in words.
-pub fn cells_of(
-    alloc: Global,
-    job: &Job,
-    disk: &mut MemDisk,
-    journal: &mut Journal,
-) -> Result<String>
-    requires stands { StandsIn job.now.plan journal.old disk.old }
-    ensures stands { OnOk result (StandsIn job.now.plan journal.new disk.new) }
-{
+/// The range of an epoch, in words.
+#[derive(Clone, Copy)]
+pub struct RangeWords(pub EpochPlan);
+
+impl fmt::Display for RangeWords {
+    fn fmt<W: fmt::Write>(&self, f: &mut fmt::Formatter<W>) -> fmt::Result {
+        write!(
+            f,
+            "{}:{}:{}-{}",
+            self.0.scan, self.0.m, self.0.from, self.0.to
+        )
+    }
+}
+
+/// The ranges of epochs in words, and where their cells are not those that are made from it.
+pub fn epochs_words(alloc: Global, epochs: &[ReadEpoch]) -> Result<String, AllocError> {
     let mut words = String::new(alloc);
-    for i in 0..journal.kept() {
-        let cells = job.cells(alloc, disk, journal, i)?;
-        write!(words, ", epoch {i}")?;
-        write_cells(&mut words, &cells)?;
+    for (i, epoch) in epochs.iter().enumerate() {
+        words.push_str(if i == 0 { ": " } else { " " })?;
+        write!(words, "{}", RangeWords(epoch.range))?;
+        if epoch.other {
+            words.push_str(" of other cells")?;
+        }
     }
     Ok(words)
 }
 
-fn write_cells(words: &mut String, cells: &[Cell]) -> Result<()> {
-    for cell in cells {
+/// The range of an epoch and its cells, in words.
+pub fn cells_words(alloc: Global, epoch: &ReadEpoch) -> Result<String, AllocError> {
+    let mut words = format!(in alloc; "{}", RangeWords(epoch.range))?;
+    for cell in &epoch.cells {
         write!(words, " {},{},{}", cell.re, cell.im, cell.count)?;
     }
-    Ok(())
+    Ok(words)
+}
+
+/// What a look at a disk finds, in words.
+pub fn look_words(alloc: Global, job: &Job, disk: &mut MemDisk) -> Result<String, AllocError> {
+    match job.look(alloc, disk) {
+        Ok(seen) => format!(in alloc; "look {}", SeenWords(seen)),
+        Err(fault) => format!(in alloc; "look: {}", FaultWords { fault, end: None }),
+    }
+}
+
+/// How a journal was brought on, in words.
+pub fn brought_words(alloc: Global, brought: Brought) -> Result<String, AllocError> {
+    match brought {
+        Brought::Refused(fault) => fault_words(alloc, fault),
+        Brought::Opened {
+            first,
+            seen,
+            failed,
+        } => {
+            let end = if failed { ", failed" } else { "" };
+            format!(in alloc; "opened {first}, kept {}{end}", SeenWords(seen))
+        }
+    }
+}
+
+/// The length of a file and its digest, in words.
+pub fn digest_words(alloc: Global, bytes: &[u8]) -> Result<String> {
+    let digest = encode(alloc, &Md5::digest(bytes))?;
+    Ok(format!(in alloc; "{} bytes, {digest}", bytes.len())?)
 }
 
 /// Prints the length of a file, and its bytes.

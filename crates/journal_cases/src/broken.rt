@@ -1,11 +1,10 @@
 //! Journals that are a good one broken.
 
-use crate::answer::{FaultWords, cells_of};
-use crate::job::Job;
+use crate::answer::{FaultWords, SeenWords, epochs_words};
+use crate::job::{Job, disk_of, seen_of};
 use anyhow::{Result, bail};
 use broken_texts::Reader;
-use checkpoint_journal::OpenFault;
-use mem_devices::MemDisk;
+use checkpoint_journal::{OpenFault, Seen};
 use std::alloc::{AllocError, Global};
 
 /// The reader of such journals of a job, and the journal of that job that keeps no epoch.
@@ -29,7 +28,7 @@ impl<'a> BrokenJournal<'a> {
     fn looked(&self, alloc: Global, text: &[u8]) -> Result<String> {
         let mut disk = disk_of(alloc, text)?;
         let mut answer = match self.job.look(alloc, &mut disk) {
-            Ok(kept) => format!(in alloc; "kept {kept}")?,
+            Ok(seen) => kept_words(alloc, seen)?,
             Err(fault) => fault_of(alloc, fault, text)?,
         };
         if disk.bytes() != text {
@@ -37,33 +36,45 @@ impl<'a> BrokenJournal<'a> {
         }
         Ok(answer)
     }
+
+    // What stands in the file after an opening.
+    fn left(&self, alloc: Global, text: &[u8], file: &[u8]) -> Result<String, AllocError> {
+        if file == text {
+            return String::from_str(alloc, "the file stays");
+        }
+        if file == self.new.as_slice() {
+            return String::from_str(alloc, "a new file");
+        }
+        let first = first_change(text, file);
+        let last = last_change(text, file);
+        format!(in alloc; "bytes {first} to {last} written")
+    }
 }
 
 impl Reader for BrokenJournal<'_> {
     fn answer(&mut self, alloc: Global, text: &[u8]) -> Result<String> {
         let mut disk = disk_of(alloc, text)?;
-        let (opened, cells) = match self.job.open(alloc, &mut disk) {
+        let (opened, epochs) = match self.job.open(alloc, &mut disk) {
             Ok(mut journal) => {
-                let kept = journal.kept();
-                let cells = cells_of(alloc, self.job, &mut disk, &mut journal)?;
-                (format!(in alloc; "kept {kept}")?, cells)
+                let seen = seen_of(&journal);
+                let epochs = self.job.read_rest(alloc, &mut disk, &mut journal)?;
+                (kept_words(alloc, seen)?, epochs_words(alloc, &epochs)?)
             }
             Err(fault) => (fault_of(alloc, fault, text)?, String::new(alloc)),
         };
-        let left = if disk.bytes() == text {
-            "the file stays"
-        } else if disk.bytes() == self.new.as_slice() {
-            "a new file"
-        } else {
-            "another file"
-        };
+        let left = self.left(alloc, text, disk.bytes())?;
         let looked = self.looked(alloc, text)?;
         if looked == opened {
-            Ok(format!(in alloc; "{opened}{cells}, {left}")?)
+            Ok(format!(in alloc; "{opened}{epochs}, {left}")?)
         } else {
-            Ok(format!(in alloc; "{opened}{cells}, {left}, look: {looked}")?)
+            Ok(format!(in alloc; "{opened}{epochs}, {left}, look: {looked}")?)
         }
     }
+}
+
+// How many epochs a journal keeps, and where the next one begins.
+fn kept_words(alloc: Global, seen: Seen) -> Result<String, AllocError> {
+    format!(in alloc; "kept {}", SeenWords(seen))
 }
 
 // Why a journal is not opened.
@@ -75,8 +86,19 @@ fn fault_of(alloc: Global, fault: OpenFault, text: &[u8]) -> Result<String, Allo
     format!(in alloc; "{words}")
 }
 
-// A disk with these bytes.
-fn disk_of(alloc: Global, text: &[u8]) -> Result<MemDisk> {
-    let file = text.to_vec(alloc)?;
-    Ok(MemDisk::new(alloc, file, Vec::new(alloc), None)?)
+// The first place where a file is another than it was.
+fn first_change(before: &[u8], after: &[u8]) -> usize {
+    let most = before.len().max(after.len());
+    (0..most)
+        .find(|&i| before.get(i) != after.get(i))
+        .unwrap_or(most)
+}
+
+// The last such place.
+fn last_change(before: &[u8], after: &[u8]) -> usize {
+    let most = before.len().max(after.len());
+    (0..most)
+        .rev()
+        .find(|&i| before.get(i) != after.get(i))
+        .unwrap_or(most)
 }

@@ -1,15 +1,14 @@
 //! What the lines ask.
 
-use crate::answer::{print_brought, print_fault, print_file, print_kept, print_look};
+use crate::answer::{SeenWords, brought_words, fault_words, look_words, print_file};
 use crate::broken::BrokenJournal;
-use crate::epoch::Epoch;
-use crate::job::Job;
-use crate::machine::sum_of;
-use crate::table::{print_fails, print_stops};
+use crate::job::{Job, MOST_EPOCHS, disk_of, seen_of};
+use crate::old::old_journal;
+use crate::reading::{print_mixed, print_read, print_retried};
+use crate::table::Runs;
 use crate::texts::{append_line, append_runs, numbers_of, set_byte};
 use anyhow::{Context, Result, bail};
 use broken_texts::print_broken;
-use hex::decode;
 use mem_devices::MemDisk;
 use std::alloc::Global;
 use std::mem;
@@ -41,15 +40,16 @@ impl Cases {
     pub fn read(&mut self, rt: &impl Print, word: &str, rest: &str) -> Result<()> {
         match word {
             "case" => self.begin(rt, rest)?,
-            "plan" => self.plan(rt)?,
-            "machine" => self.machine(rt, rest)?,
             "show" => print_file(rt, self.alloc, &self.file)?,
             "look" => self.look(rt)?,
             "open" => self.open(rt)?,
-            "run" => self.run(rt)?,
-            "stops" => print_stops(rt, self.alloc, self.job()?, &self.file)?,
-            "fails" => print_fails(rt, self.alloc, self.job()?, &self.file)?,
-            "broken" => self.broken(rt, rest)?,
+            "run" => self.run(rt, rest)?,
+            "stops" => self.runs(rest)?.print_stops(rt)?,
+            "fails" => self.runs(rest)?.print_fails(rt)?,
+            "read" => self.read_back(rt)?,
+            "mixed" => self.mixed(rt, rest)?,
+            "retry" => print_retried(rt, self.alloc, self.job()?, &self.file)?,
+            "broken" => self.broken(rt)?,
             _ => self.describe(word, rest)?,
         }
         Ok(())
@@ -63,7 +63,7 @@ impl Cases {
             "text" => self.text.extend_from_slice(rest.as_bytes())?,
             "recordings" => self.recordings = numbers_of(self.alloc, rest)?,
             "job" => self.end_job(rest)?,
-            "epoch" => self.add_epoch(rest)?,
+            "old" => self.make_old(rest)?,
             "bytes" => append_runs(&mut self.file, rest)?,
             "byte" => set_byte(&mut self.file, rest)?,
             "cut" => self.file.truncate(rest.parse::<usize>()?),
@@ -88,28 +88,34 @@ impl Cases {
         Ok(())
     }
 
-    // One more epoch of the job.
-    fn add_epoch(&mut self, rest: &str) -> Result<()> {
-        let epoch = Epoch::read(self.alloc, rest)?;
-        self.job.as_mut().context("no job")?.add(epoch)
+    // The file is an old journal of the job.
+    fn make_old(&mut self, rest: &str) -> Result<()> {
+        let count = rest.parse::<u64>()?;
+        let job = self.job()?;
+        self.file = old_journal(self.alloc, job.identity.bytes(), &job.plan, count)?;
+        Ok(())
     }
 
-    // What journals of the job are that are a good one broken.
-    fn broken(&self, rt: &impl Print, rest: &str) -> Result<()> {
-        let (name, text) = rest.split_once(' ').context("a name and bytes")?;
-        let text = decode(self.alloc, text)?;
+    // What journals of the job are that are the file broken.
+    fn broken(&self, rt: &impl Print) -> Result<()> {
         let mut reader = BrokenJournal::new(self.alloc, self.job()?)?;
-        print_broken(rt, self.alloc, &mut reader, name, &text)
+        print_broken(rt, self.alloc, &mut reader, "journal", &self.file)
     }
 
     fn job(&self) -> Result<&Job> {
         Ok(self.job.as_ref().context("no job")?)
     }
 
-    // The disk with the file.
-    fn disk(&self) -> Result<MemDisk> {
-        let file = self.file.to_vec(self.alloc)?;
-        Ok(MemDisk::new(self.alloc, file, Vec::new(self.alloc), None)?)
+    // Runs on the file by epochs of two lengths.
+    fn runs(&self, rest: &str) -> Result<Runs<'_>> {
+        let (samples, other) = rest.split_once(' ').context("two lengths")?;
+        Ok(Runs {
+            alloc: self.alloc,
+            job: self.job()?,
+            file: &self.file,
+            samples: samples.parse::<u64>()?,
+            other: other.parse::<u64>()?,
+        })
     }
 
     // The file is what a disk holds.
@@ -118,50 +124,41 @@ impl Cases {
         Ok(())
     }
 
-    // The number of the job's epochs, and of the first one's cells.
-    fn plan(&self, rt: &impl Print) -> Result<()> {
-        let plan = &self.job()?.plan;
-        let count = plan.epochs();
-        if count == 0 {
-            bail!("no epoch");
-        }
-        let cells = plan.epoch(0).cells();
-        println!(rt; "plan: {count} epochs, {cells} cells in the first")?;
-        Ok(())
-    }
-
-    // The sum of a board without threads.
-    fn machine(&self, rt: &impl Print, rest: &str) -> Result<()> {
-        match sum_of(self.alloc, &numbers_of(self.alloc, rest)?)? {
-            Some(sum) => println!(rt; "machine: {sum}")?,
-            None => println!(rt; "machine: not allowed")?,
-        }
-        Ok(())
-    }
-
     fn look(&mut self, rt: &impl Print) -> Result<()> {
-        let mut disk = self.disk()?;
-        print_look(rt, self.job()?.look(self.alloc, &mut disk))?;
-        println!(rt; "")?;
+        let mut disk = disk_of(self.alloc, &self.file)?;
+        println!(rt; "{}", look_words(self.alloc, self.job()?, &mut disk)?)?;
         self.keep(&disk)
     }
 
     fn open(&mut self, rt: &impl Print) -> Result<()> {
-        let mut disk = self.disk()?;
-        let job = self.job()?;
-        match job.open(self.alloc, &mut disk) {
-            Ok(mut journal) => print_kept(rt, self.alloc, job, &mut disk, &mut journal)?,
-            Err(fault) => print_fault(rt, fault)?,
+        let mut disk = disk_of(self.alloc, &self.file)?;
+        match self.job()?.open(self.alloc, &mut disk) {
+            Ok(journal) => println!(rt; "opened {}", SeenWords(seen_of(&journal)))?,
+            Err(fault) => println!(rt; "{}", fault_words(self.alloc, fault)?)?,
         }
-        println!(rt; "")?;
         self.keep(&disk)
     }
 
-    fn run(&mut self, rt: &impl Print) -> Result<()> {
-        let mut disk = self.disk()?;
-        let brought = self.job()?.bring(self.alloc, &mut disk)?;
-        print_brought(rt, brought)?;
-        println!(rt; "")?;
+    fn run(&mut self, rt: &impl Print, rest: &str) -> Result<()> {
+        let numbers = numbers_of(self.alloc, rest)?;
+        let samples = numbers.first().copied().context("a length")?;
+        let most = numbers.get(1).copied().unwrap_or(MOST_EPOCHS);
+        let mut disk = disk_of(self.alloc, &self.file)?;
+        let brought = self.job()?.bring(self.alloc, &mut disk, samples, most)?;
+        println!(rt; "{}", brought_words(self.alloc, brought)?)?;
+        self.keep(&disk)
+    }
+
+    fn read_back(&mut self, rt: &impl Print) -> Result<()> {
+        let mut disk = disk_of(self.alloc, &self.file)?;
+        print_read(rt, self.alloc, self.job()?, &mut disk)?;
+        self.keep(&disk)
+    }
+
+    fn mixed(&mut self, rt: &impl Print, rest: &str) -> Result<()> {
+        let samples = rest.parse::<u64>()?;
+        let mut disk = disk_of(self.alloc, &self.file)?;
+        print_mixed(rt, self.alloc, self.job()?, &mut disk, samples)?;
         self.keep(&disk)
     }
 }

@@ -1,63 +1,63 @@
-//! Epochs, as the lines write them.
-ghost use Rattle.std.specs.Prelude.{◌≡◌, length};
+//! The cells of epochs, made from their ranges.
+ghost use Rattle.std.specs.Prelude.{◌≡◌, ◌*◌, ◌<◌, ◌≤◌, length, IfOk};
+ghost use Rattle.piece_plan.specs.Epochs.{IsOfPlan, cell_count};
 
 use crate::board::sums_of;
 use anyhow::{Context, Result, bail};
 use atomic_sums::EpochSums;
+use corr_model::Cell;
+use piece_plan::EpochPlan;
 use std::alloc::Global;
 
-/// The sums of an epoch, and the number of their cells.
-#[derive(Drop)]
-pub struct Epoch {
-    pub sums: EpochSums,
-    pub cells: u64,
-    ghost counted: { length sums.cells ≡ cells },
+// Above the sample where an epoch of a case ends.
+const BIAS: u64 = 1 << 24;
+
+/// The cells of an epoch: the sums tell its scan, its integration and its samples, and the count is the number of the cell, from 1.
+pub fn cells_of(alloc: Global, e: &EpochPlan) -> Result<Vec<Cell>>
+    requires { IsOfPlan e.now }
+    ensures { IfOk result (λ cells. length cells.items ≡ cell_count e.now) }
+{
+    let re = re_of(e).context("too great a place")?;
+    let im = -(e.to as i64);
+    let mut cells = Vec::new(alloc);
+    for number in 0..e.cells() {
+        cells.push(Cell {
+            re,
+            im,
+            count: u64::from(number) + 1,
+        })?;
+    }
+    Ok(cells)
 }
 
-impl Epoch {
-    /// Read from the line's words: the bias of each piece, and the cells of each piece, with slashes between the pieces.
-    pub fn read(alloc: Global, rest: &str) -> Result<Epoch> {
-        let (bias, cells) = rest.split_once(' ').context("a bias and cells")?;
-        let bias = bias.parse::<u64>()?;
-        let mut pieces = Vec::new(alloc);
-        for piece in cells.split('/') {
-            pieces.push(amounts_of(alloc, piece, bias)?)?;
-        }
-        Epoch::of(alloc, &pieces, bias)
-    }
+// The real part of an epoch's cells.
+fn re_of(e: &EpochPlan) -> Option<i64> {
+    let m = e.m.checked_mul(10)?;
+    let before = m.checked_add(1000 * u64::from(e.scan))?;
+    let re = before.checked_add(e.from)?;
+    i64::try_from(re).ok()
+}
 
-    // The epoch of pieces with these amounts.
-    fn of(alloc: Global, pieces: &[Vec<u64>], bias: u64) -> Result<Epoch> {
-        let width = pieces.first().context("a piece")?.len() as u64;
-        if width == 0 || width > 3000 || width % 3 != 0 {
-            bail!("no such number of cells");
-        }
-        if pieces.len() > 4 {
-            bail!("too many pieces");
-        }
-        let all = bias.checked_mul(pieces.len() as u64).context("a bias")?;
-        if all >= 1 << 62 {
-            bail!("too great a bias");
-        }
-        let sums = sums_of(alloc, pieces, width, all)?;
-        Ok(Epoch {
-            sums,
-            cells: width / 3,
-        })
+/// The sums of these cells, as a board makes them.
+pub fn epoch_sums(alloc: Global, cells: &[Cell]) -> Result<EpochSums>
+    ensures { IfOk result (λ sums. length sums.cells ≡ length cells.now) }
+{
+    if cells.is_empty() || cells.len() > 1000 {
+        bail!("no such number of cells");
     }
+    let amounts = amounts_of(alloc, cells)?;
+    sums_of(alloc, &amounts, BIAS)
 }
 
 // The amounts of a piece: three for each of its cells, to the first two of which the bias is added.
-fn amounts_of(alloc: Global, cells: &str, bias: u64) -> Result<Vec<u64>> {
+fn amounts_of(alloc: Global, cells: &[Cell]) -> Result<Vec<u64>>
+    ensures { IfOk result (λ amounts. length amounts.items ≡ 3 * length cells.now) }
+{
     let mut amounts = Vec::new(alloc);
-    for cell in cells.split_whitespace() {
-        let mut parts = cell.split(',');
-        let re = parts.next().context("re")?.parse::<i64>()?;
-        let im = parts.next().context("im")?.parse::<i64>()?;
-        let count = parts.next().context("a count")?.parse::<u64>()?;
-        amounts.push(bias.checked_add_signed(re).context("a greater bias")?)?;
-        amounts.push(bias.checked_add_signed(im).context("a greater bias")?)?;
-        amounts.push(count)?;
+    for cell in cells {
+        amounts.push(BIAS.checked_add_signed(cell.re).context("a greater bias")?)?;
+        amounts.push(BIAS.checked_add_signed(cell.im).context("a greater bias")?)?;
+        amounts.push(cell.count)?;
     }
     Ok(amounts)
 }

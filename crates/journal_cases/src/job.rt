@@ -1,31 +1,42 @@
 //! A job, and its journal on a disk in memory.
-ghost use Rattle.std.specs.Prelude.{◌≡◌, ◌<◌, ◌^◌, length, IfOk, OnOk, true};
+ghost use Rattle.std.specs.Prelude.{◌≡◌, ◌<◌, ◌^◌, length, IfOk, IfSome, OnOk, Some};
+ghost use Rattle.journal_cases.specs.Few.{AreFew};
 ghost use Rattle.journal_cases.specs.Standing.{StandsIn};
 
-use crate::epoch::Epoch;
+use crate::epoch::{cells_of, epoch_sums};
 use crate::plan::plan_of;
-use anyhow::{Context, Result, bail};
-use checkpoint_journal::{AppendFault, Identity, Journal, OpenFault, job_identity};
+use anyhow::{Result, bail};
+use checkpoint_journal::{
+    AppendFault, Identity, Journal, OpenFault, ReadFault, Seen, job_identity,
+};
 use corr_model::Cell;
 use mem_devices::MemDisk;
-use piece_plan::JobPlan;
+use piece_plan::{EpochPlan, JobPlan};
+use plan_places::{Place, cut};
 use std::alloc::Global;
 
-/// A job: its identity, its plan, and the epochs that are to be appended.
+/// More epochs than the job of a case has.
+pub const MOST_EPOCHS: u64 = 1_000;
+
+/// A job: its identity and its plan.
 #[derive(Drop)]
 pub struct Job {
-    identity: Identity,
+    pub identity: Identity,
     pub plan: JobPlan,
-    epochs: Vec<Epoch>,
     ghost short: { length identity < 2 ^ 62 },
+    ghost few: { AreFew plan },
 }
 
-/// How a journal was brought on: it was not opened, or so many epochs were kept in it at first and so many at the end, and
-/// whether it failed.
+/// How a journal was brought on: it was not opened, or so many epochs were kept in it at first and so many at the end, where the next
+/// one begins, and whether it failed.
 #[derive(Clone, Copy, PartialEq, Eq)]
 pub enum Brought {
     Refused(OpenFault),
-    Opened { first: u64, kept: u64, failed: bool },
+    Opened {
+        first: u64,
+        seen: Seen,
+        failed: bool,
+    },
 }
 
 impl Brought {
@@ -36,6 +47,22 @@ impl Brought {
             Brought::Opened { failed, .. } => !*failed,
         }
     }
+}
+
+/// An epoch that was read back, with its cells, and whether they are other ones than those that are made from its range.
+#[derive(Drop, PartialEq, Eq)]
+pub struct ReadEpoch {
+    pub range: EpochPlan,
+    pub cells: Vec<Cell>,
+    pub other: bool,
+}
+
+/// What a reading gives: an epoch, none where all were read, or a fault of the disk.
+#[derive(Drop)]
+pub enum Reading {
+    Epoch(ReadEpoch),
+    End,
+    Failed,
 }
 
 impl Job {
@@ -54,18 +81,11 @@ impl Job {
         Ok(Job {
             identity,
             plan: plan_of(alloc, rest)?,
-            epochs: Vec::new(alloc),
         })
     }
 
-    /// One more epoch.
-    pub fn add(&mut self, epoch: Epoch) -> Result<()> {
-        self.epochs.push(epoch)?;
-        Ok(())
-    }
-
     /// What a look at the disk finds.
-    pub fn look(&self, alloc: Global, disk: &mut MemDisk) -> Result<u64, OpenFault> {
+    pub fn look(&self, alloc: Global, disk: &mut MemDisk) -> Result<Seen, OpenFault> {
         Journal::look(alloc, disk, &self.identity, &self.plan)
     }
 
@@ -76,15 +96,21 @@ impl Job {
         Journal::open_on(alloc, disk, &self.identity, &self.plan)
     }
 
-    /// Opens the journal, and appends each epoch that it does not keep, until the disk fails.
-    pub fn bring(&self, alloc: Global, disk: &mut MemDisk) -> Result<Brought> {
+    /// Opens the journal, and appends epochs of so many samples, at most so many of them, until the disk fails.
+    pub fn bring(
+        &self,
+        alloc: Global,
+        disk: &mut MemDisk,
+        samples: u64,
+        most: u64,
+    ) -> Result<Brought> {
         match self.open(alloc, disk) {
             Ok(mut journal) => {
                 let first = journal.kept();
-                self.append_rest(disk, &mut journal)?;
+                self.append_rest(alloc, disk, &mut journal, samples, most)?;
                 Ok(Brought::Opened {
                     first,
-                    kept: journal.kept(),
+                    seen: seen_of(&journal),
                     failed: journal.has_failed(),
                 })
             }
@@ -92,62 +118,134 @@ impl Job {
         }
     }
 
-    /// Appends each epoch that the journal does not keep, until the disk fails.
-    pub fn append_rest(&self, disk: &mut MemDisk, journal: &mut Journal) -> Result<()>
+    /// Appends epochs of so many samples until the journal covers the job, at most so many of them, or until the disk fails.
+    pub fn append_rest(
+        &self,
+        alloc: Global,
+        disk: &mut MemDisk,
+        journal: &mut Journal,
+        samples: u64,
+        most: u64,
+    ) -> Result<()>
         requires stands { StandsIn self.now.plan journal.old disk.old }
     {
-        let kept = journal.kept() as usize;
-        let rest = self.epochs.get(kept..).context("too few epochs")?;
-        for epoch in rest {
-            if !self.append(disk, journal, epoch)? {
+        for _ in 0..most {
+            let Some(place) = journal.next_place() else {
+                break;
+            };
+            let appended = self.append(alloc, disk, journal, &place, samples)?;
+            if appended.is_none() {
                 break;
             }
         }
         Ok(())
     }
 
-    // Appends an epoch, and answers whether that was done.
-    fn append(&self, disk: &mut MemDisk, journal: &mut Journal, epoch: &Epoch) -> Result<bool>
-        requires stands { StandsIn self.now.plan journal.old disk.old }
-        ensures stands { IfOk result (λ done. done ≡ true
-            → StandsIn self.now.plan journal.new disk.new) }
-    {
-        let next = journal.kept();
-        if next >= self.plan.epochs() {
-            bail!("too many epochs");
-        }
-        let count = u64::from(self.plan.epoch(next).cells());
-        if count != epoch.cells {
-            bail!("an epoch with another number of cells");
-        }
-        if disk.bytes().len() > 1_000_000 {
-            bail!("too long a file");
-        }
-        match journal.append(disk, &self.plan, &epoch.sums) {
-            Ok(()) => Ok(true),
-            Err(AppendFault::Disk) => Ok(false),
-        }
-    }
-
-    /// The cells of a kept epoch.
-    pub fn cells(
+    /// Appends the next epoch, which begins at this place and has so many samples or goes up to its integration's end. None where the
+    /// disk fails.
+    pub fn append(
         &self,
         alloc: Global,
         disk: &mut MemDisk,
         journal: &mut Journal,
-        i: u64,
-    ) -> Result<Vec<Cell>>
+        at: &Place,
+        samples: u64,
+    ) -> Result<Option<EpochPlan>>
+        requires stands { StandsIn self.now.plan journal.old disk.old }
+        requires next { journal.old.end.next ≡ Some at.now }
+        ensures stands { IfOk result
+            (λ done. IfSome done (λ _. StandsIn self.now.plan journal.new disk.new)) }
+    {
+        if samples == 0 || samples > 4_194_304 {
+            bail!("no such epoch");
+        }
+        let e = cut(&self.plan, at, samples);
+        let cells = cells_of(alloc, &e)?;
+        let sums = epoch_sums(alloc, &cells)?;
+        match journal.append(disk, &self.plan, &e, &sums) {
+            Ok(()) => Ok(Some(e)),
+            Err(AppendFault::Disk) => Ok(None),
+        }
+    }
+
+    /// Reads the next epoch.
+    pub fn read(&self, alloc: Global, disk: &mut MemDisk, journal: &mut Journal) -> Result<Reading>
         requires stands { StandsIn self.now.plan journal.old disk.old }
         ensures stands { OnOk result (StandsIn self.now.plan journal.new disk.new) }
     {
-        if i >= journal.kept() || i >= self.plan.epochs() {
-            bail!("no such epoch");
+        let mut cells = vec![in alloc; Cell::ZERO; 1000]?;
+        match journal.read_next(disk, &self.plan, &mut cells) {
+            Ok(Some(range)) => {
+                cells.truncate(range.cells() as usize);
+                let other = cells != cells_of(alloc, &range)?;
+                Ok(Reading::Epoch(ReadEpoch {
+                    range,
+                    cells,
+                    other,
+                }))
+            }
+            Ok(None) => Ok(Reading::End),
+            Err(ReadFault::Disk) => Ok(Reading::Failed),
         }
-        let count = self.plan.epoch(i).cells() as usize;
-        let mut cells = vec![in alloc; Cell::ZERO; count]?;
-        if journal.read_epoch(disk, &self.plan, i, &mut cells).is_err() {
-            bail!("the disk failed");
-        }
-        Ok(cells)
     }
+
+    /// Reads all epochs that are left to be read.
+    pub fn read_rest(
+        &self,
+        alloc: Global,
+        disk: &mut MemDisk,
+        journal: &mut Journal,
+    ) -> Result<Vec<ReadEpoch>>
+        requires stands { StandsIn self.now.plan journal.old disk.old }
+        ensures stands { OnOk result (StandsIn self.now.plan journal.new disk.new) }
+    {
+        let mut epochs = Vec::new(alloc);
+        for _ in 0..MOST_EPOCHS {
+            match self.read(alloc, disk, journal)? {
+                Reading::Epoch(epoch) => epochs.push(epoch)?,
+                Reading::End => break,
+                Reading::Failed => bail!("the disk failed"),
+            }
+        }
+        Ok(epochs)
+    }
+
+    /// Goes back to the first epoch, and reads all.
+    pub fn read_again(
+        &self,
+        alloc: Global,
+        disk: &mut MemDisk,
+        journal: &mut Journal,
+    ) -> Result<Vec<ReadEpoch>>
+        requires stands { StandsIn self.now.plan journal.old disk.old }
+        ensures stands { OnOk result (StandsIn self.now.plan journal.new disk.new) }
+    {
+        journal.rewind();
+        self.read_rest(alloc, disk, journal)
+    }
+}
+
+/// What a journal keeps.
+pub fn seen_of(journal: &Journal) -> Seen {
+    Seen {
+        kept: journal.kept(),
+        next: journal.next_place(),
+    }
+}
+
+/// A disk with these bytes.
+pub fn disk_of(alloc: Global, bytes: &[u8]) -> Result<MemDisk> {
+    let file = bytes.to_vec(alloc)?;
+    Ok(MemDisk::new(alloc, file, Vec::new(alloc), None)?)
+}
+
+/// A disk with these bytes of which one call fails.
+pub fn failing_disk(alloc: Global, bytes: &[u8], call: u64) -> Result<MemDisk> {
+    let failing = vec![in alloc; call]?;
+    Ok(MemDisk::new(alloc, bytes.to_vec(alloc)?, failing, None)?)
+}
+
+/// A disk with these bytes that stops after so many calls.
+pub fn stopped_disk(alloc: Global, bytes: &[u8], stop: u64) -> Result<MemDisk> {
+    Ok(MemDisk::new(alloc, bytes.to_vec(alloc)?, Vec::new(alloc), Some(stop))?)
 }

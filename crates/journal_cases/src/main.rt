@@ -1,6 +1,6 @@
-//! Cases of the journal of a job. Standard input describes jobs, their epochs and files, and asks what the journal is in
-//! such a file, what is appended to it, and what it keeps after each stop of the disk; the answers are printed. The head
-//! of the file `stdin` says what the lines mean.
+//! Cases of the journal of a job whose records carry the range of their epoch. Standard input describes jobs and files, and asks what
+//! the journal is in such a file, what is appended to it and read back, and what it keeps after each stop and fault of the disk; the
+//! answers are printed. The head of the file `stdin` says what the lines mean.
 #![tactic(auto)]
 
 mod answer;
@@ -9,8 +9,9 @@ mod broken;
 mod cases;
 mod epoch;
 mod job;
-mod machine;
+mod old;
 mod plan;
+mod reading;
 mod table;
 mod texts;
 

@@ -1,14 +1,17 @@
 //! The plan of a job, as a line writes it.
 ghost use Rattle.std.specs.Prelude.{◌≡◌, ◌*◌, All, IfOk, IfSome};
 ghost use Rattle.piece_plan.specs.Epochs.{IsScan};
+ghost use Rattle.journal_cases.specs.Few.{HasFewCells, AreFew};
 
 use anyhow::{Context, Result, bail};
 use piece_plan::{JobPlan, ScanSize};
 use std::alloc::Global;
 
 /// The plan of these words: the samples of an integration, those of an epoch, the number of lags, and for each scan its
-/// samples, products and baselines, with commas between them.
-pub fn plan_of(alloc: Global, rest: &str) -> Result<JobPlan> {
+/// samples, products and baselines, with commas between them. No epoch has more than 1,000 cells.
+pub fn plan_of(alloc: Global, rest: &str) -> Result<JobPlan>
+    ensures { IfOk result AreFew }
+{
     let mut words = rest.split_whitespace();
     let integration = words.next().context("an integration")?.parse::<u64>()?;
     let epoch = words.next().context("an epoch")?.parse::<u64>()?;
@@ -29,12 +32,14 @@ fn plan_of_sizes(
     epoch: u64,
     lags: u32,
 ) -> Result<JobPlan>
-    requires { All (IsScan lags) scans.now }
+    requires scans { All (IsScan lags) scans.now }
+    requires few { All (HasFewCells lags) scans.now }
+    ensures { IfOk result AreFew }
 {
-    if integration == 0 || integration > 1_000_000 {
+    if integration == 0 || integration > 10_000_000 {
         bail!("no such integration");
     }
-    if epoch == 0 || epoch > 1_000_000 {
+    if epoch == 0 || epoch > 4_194_304 {
         bail!("no such epoch");
     }
     if lags < 2 || lags > 1024 || lags % 2 != 0 {
@@ -48,7 +53,8 @@ fn plan_of_sizes(
 
 // The size of a scan.
 fn scan_of(word: &str, lags: u32) -> Result<ScanSize>
-    ensures { IfOk result (IsScan lags) }
+    ensures scan { IfOk result (IsScan lags) }
+    ensures few { IfOk result (HasFewCells lags) }
 {
     let mut parts = word.split(',');
     let samples = parts.next().context("samples")?.parse::<u64>()?;
@@ -57,7 +63,7 @@ fn scan_of(word: &str, lags: u32) -> Result<ScanSize>
     let Some(cells) = cells_of(products, baselines, lags) else {
         bail!("too many cells");
     };
-    if samples > 1_000_000 || products == 0 || baselines == 0 || cells > 4_194_304 {
+    if samples > 10_000_000 || products == 0 || baselines == 0 || cells > 1000 {
         bail!("no such scan");
     }
     Ok(ScanSize {

@@ -1,120 +1,140 @@
 //! What each stop and each fault of the disk leaves.
 
-use crate::answer::{print_brought, print_fault, print_file, print_kept, print_look};
-use crate::job::Job;
+use crate::answer::{
+    SeenWords, brought_words, digest_words, epochs_words, fault_words, look_words,
+};
+use crate::job::{Brought, Job, MOST_EPOCHS, failing_disk, seen_of, stopped_disk};
 use anyhow::{Result, bail};
 use mem_devices::MemDisk;
-use std::alloc::Global;
+use std::alloc::{AllocError, Global};
+use std::fmt::Write;
 
 // More calls of a disk than a case makes.
 const MOST_CALLS: u64 = 1_000;
 
-/// Prints how the journal in a file is brought on with the disk stopped after 0, 1, 2 .. calls, until nothing stops it, and
-/// behind each stop six images that a crash may leave.
-pub fn print_stops(rt: &impl Print, alloc: Global, job: &Job, file: &[u8]) -> Result<()> {
-    let whole = whole_of(alloc, job, file)?;
-    for stop in 0..MOST_CALLS {
-        let mut disk = stopped_disk(alloc, file, stop)?;
-        let brought = job.bring(alloc, &mut disk)?;
-        print!(rt; "stop {stop}: ")?;
-        print_brought(rt, brought)?;
-        println!(rt; "")?;
-        if brought.is_done() {
-            return Ok(());
+// What the bytes are that a crash may change.
+const FILLS: [u8; 3] = [0, 1, 7];
+
+/// Runs on a file that a disk stops or fails: the job, the file, the samples of an epoch, and those of an epoch that is appended
+/// afterwards.
+#[derive(Clone, Copy)]
+pub struct Runs<'a> {
+    pub alloc: Global,
+    pub job: &'a Job,
+    pub file: &'a [u8],
+    pub samples: u64,
+    pub other: u64,
+}
+
+impl Runs<'_> {
+    /// Prints how the journal in the file is brought on with the disk stopped after 0, 1, 2 .. calls, until nothing stops it, and
+    /// behind each stop six images that a crash may leave. Equal answers in a row are printed once.
+    pub fn print_stops(&self, rt: &impl Print) -> Result<()> {
+        println!(rt; "stops {}, then {}", self.samples, self.other)?;
+        let mut last = String::new(self.alloc);
+        for stop in 0..MOST_CALLS {
+            let mut disk = stopped_disk(self.alloc, self.file, stop)?;
+            let brought = self.bring(&mut disk)?;
+            let words = self.stop_words(stop, brought)?;
+            if words != last {
+                print!(rt; "{words}")?;
+            }
+            if brought.is_done() {
+                return Ok(());
+            }
+            last = words;
         }
-        for fill in [0, 1, 7] {
+        bail!("too many stops")
+    }
+
+    /// Prints how the journal in the file is brought on with call 0, 1, 2 .. of the disk failing, until there is none, and behind
+    /// each fault the six images and the same disk. Equal answers in a row are printed once.
+    pub fn print_fails(&self, rt: &impl Print) -> Result<()> {
+        println!(rt; "fails {}, then {}", self.samples, self.other)?;
+        let mut last = String::new(self.alloc);
+        for call in 0..MOST_CALLS {
+            let mut disk = failing_disk(self.alloc, self.file, call)?;
+            let brought = self.bring(&mut disk)?;
+            if brought.is_done() {
+                println!(rt; "  {}", brought_words(self.alloc, brought)?)?;
+                return Ok(());
+            }
+            let words = self.fail_words(call, brought, disk)?;
+            if words != last {
+                print!(rt; "{words}")?;
+            }
+            last = words;
+        }
+        bail!("too many calls")
+    }
+
+    fn bring(&self, disk: &mut MemDisk) -> Result<Brought> {
+        self.job.bring(self.alloc, disk, self.samples, MOST_EPOCHS)
+    }
+
+    // How the journal was brought on with the disk stopped, and what it is in each image.
+    fn stop_words(&self, stop: u64, brought: Brought) -> Result<String> {
+        let mut words = format!(in self.alloc; "  {}\n", brought_words(self.alloc, brought)?)?;
+        let mut answers = Vec::new(self.alloc);
+        for fill in FILLS {
             for long in [false, true] {
-                let mut disk = stopped_disk(alloc, file, stop)?;
-                job.bring(alloc, &mut disk)?;
-                let length = if long { "long" } else { "short" };
-                print!(rt; "  fill {fill} {length}: ")?;
-                print_again(rt, alloc, job, disk.crash(alloc, fill, long)?, &whole)?;
+                let mut disk = stopped_disk(self.alloc, self.file, stop)?;
+                self.bring(&mut disk)?;
+                let image = disk.crash(self.alloc, fill, long)?;
+                answers.push(self.again(image)?)?;
             }
         }
+        write_images(&mut words, &answers)?;
+        Ok(words)
     }
-    bail!("too many stops")
-}
 
-/// Prints how the journal in a file is brought on with call 0, 1, 2 .. of the disk failing, until there is none, and behind
-/// each fault the same disk.
-pub fn print_fails(rt: &impl Print, alloc: Global, job: &Job, file: &[u8]) -> Result<()> {
-    let whole = whole_of(alloc, job, file)?;
-    for call in 0..MOST_CALLS {
-        let mut disk = failing_disk(alloc, file, call)?;
-        let brought = job.bring(alloc, &mut disk)?;
-        print!(rt; "fail {call}: ")?;
-        print_brought(rt, brought)?;
-        println!(rt; "")?;
-        if brought.is_done() {
-            return Ok(());
-        }
-        print!(rt; "  crash:")?;
-        for fill in [0, 1, 7] {
+    // The same with a call of the disk that failed, and what the journal is on that disk then.
+    fn fail_words(&self, call: u64, brought: Brought, disk: MemDisk) -> Result<String> {
+        let mut words = format!(in self.alloc; "  {}\n", brought_words(self.alloc, brought)?)?;
+        let mut answers = Vec::new(self.alloc);
+        for fill in FILLS {
             for long in [false, true] {
-                let mut disk = failing_disk(alloc, file, call)?;
-                job.bring(alloc, &mut disk)?;
-                let mut image = disk.crash(alloc, fill, long)?;
-                print!(rt; " ")?;
-                print_look(rt, job.look(alloc, &mut image))?;
+                let mut disk = failing_disk(self.alloc, self.file, call)?;
+                self.bring(&mut disk)?;
+                let mut image = disk.crash(self.alloc, fill, long)?;
+                answers.push(look_words(self.alloc, self.job, &mut image)?)?;
             }
         }
-        println!(rt; "")?;
-        print!(rt; "  the same disk: ")?;
-        print_again(rt, alloc, job, disk, &whole)?;
+        write_images(&mut words, &answers)?;
+        writeln!(words, "    the same disk: {}", self.again(disk)?)?;
+        Ok(words)
     }
-    bail!("too many calls")
-}
 
-// The file that is left where nothing fails.
-fn whole_of(alloc: Global, job: &Job, file: &[u8]) -> Result<Vec<u8>> {
-    let mut disk = MemDisk::new(alloc, file.to_vec(alloc)?, Vec::new(alloc), None)?;
-    job.bring(alloc, &mut disk)?;
-    Ok(disk.bytes().to_vec(alloc)?)
-}
-
-// A disk that stops after so many calls.
-fn stopped_disk(alloc: Global, file: &[u8], stop: u64) -> Result<MemDisk> {
-    Ok(MemDisk::new(alloc, file.to_vec(alloc)?, Vec::new(alloc), Some(stop))?)
-}
-
-// A disk of which one call fails.
-fn failing_disk(alloc: Global, file: &[u8], call: u64) -> Result<MemDisk> {
-    let failing = vec![in alloc; call]?;
-    Ok(MemDisk::new(alloc, file.to_vec(alloc)?, failing, None)?)
-}
-
-// Prints what the journal is on a disk, and what it is brought on to.
-fn print_again(
-    rt: &impl Print,
-    alloc: Global,
-    job: &Job,
-    mut disk: MemDisk,
-    whole: &[u8],
-) -> Result<()> {
-    print!(rt; "{} bytes, ", disk.bytes().len())?;
-    print_look(rt, job.look(alloc, &mut disk))?;
-    print!(rt; ", ")?;
-    match job.open(alloc, &mut disk) {
-        Ok(mut journal) => {
-            print_kept(rt, alloc, job, &mut disk, &mut journal)?;
-            job.append_rest(&mut disk, &mut journal)?;
-            print!(rt; ", then ")?;
-            print_end(rt, alloc, disk.bytes(), whole)
+    // What the journal is on a disk, and the file when epochs of the other length are appended.
+    fn again(&self, mut disk: MemDisk) -> Result<String> {
+        let mut words = look_words(self.alloc, self.job, &mut disk)?;
+        match self.job.open(self.alloc, &mut disk) {
+            Ok(mut journal) => {
+                let seen = seen_of(&journal);
+                let epochs = self.job.read_rest(self.alloc, &mut disk, &mut journal)?;
+                self.job.append_rest(self.alloc, &mut disk, &mut journal, self.other, MOST_EPOCHS)?;
+                let ranges = epochs_words(self.alloc, &epochs)?;
+                write!(words, ", opened {}{ranges}", SeenWords(seen))?;
+                let file = digest_words(self.alloc, disk.bytes())?;
+                write!(words, ", then {} epochs, {file}", journal.kept())?;
+            }
+            Err(fault) => write!(words, ", {}", fault_words(self.alloc, fault)?)?,
         }
-        Err(fault) => {
-            print_fault(rt, fault)?;
-            println!(rt; "")?;
-            Ok(())
+        Ok(words)
+    }
+}
+
+// What is said of each of the six images, in one line where it is the same.
+fn write_images(words: &mut String, answers: &[String]) -> Result<(), AllocError> {
+    if let Some(first) = answers.first() {
+        if answers.iter().all(|answer| answer == first) {
+            return writeln!(words, "    each image: {first}");
         }
     }
-}
-
-// Prints that a file is the whole one, or what it is.
-fn print_end(rt: &impl Print, alloc: Global, file: &[u8], whole: &[u8]) -> Result<()> {
-    if file == whole {
-        println!(rt; "whole")?;
-        Ok(())
-    } else {
-        print_file(rt, alloc, file)
+    for (i, answer) in answers.iter().enumerate() {
+        let fill = FILLS.get(i / 2).copied().unwrap_or(0);
+        let length = if i % 2 == 0 { "short" } else { "long" };
+        writeln!(words, "    fill {fill} {length}: {answer}")?;
     }
+    Ok(())
 }

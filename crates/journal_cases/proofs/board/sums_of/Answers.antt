@@ -6,5 +6,6 @@ use Rattle.journal_cases.proofs.board.sums_of.Goals as goal
 
 pub returns : goal.returns
 returns c =
-    let many : length c.in_ok-sums.sums.totals ≡ c.args.width = c.in_ok-sums.ensures.0 ∙ ap (λ (k : Sizes). k.width) c.in_ok-board.ensures.sizes in
-    ap (λ (e : EpochCells). 3 * length e.cells) c.unbias.ensures ∙ length-cells c.args.bias c.args.width c.in_ok-sums.sums many c.requires.width.2
+    let n = length c.args.amounts.now in
+    let many : length c.in_ok-sums.sums.totals ≡ n = c.in_ok-sums.ensures.0 ∙ ap (λ (k : Sizes). k.width) c.in_ok-board.ensures.sizes in
+    ap (λ (e : EpochCells). 3 * length e.cells) c.unbias.ensures ∙ length-cells c.args.bias n c.in_ok-sums.sums many c.requires.thirds

@@ -4,7 +4,7 @@ use Rattle.journal_cases.proofs.plan.plan_of_sizes.Goals as goal
 pub new-requires : goal.new-requires
 new-requires c = record {
   many = omega arith;
-  scans = c.requires;
+  scans = c.requires.scans;
   integration = omega arith;
   longest = omega arith;
   epoch = omega arith;

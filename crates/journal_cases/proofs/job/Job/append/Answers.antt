@@ -1,22 +1,14 @@
-use Rattle.std.proofs.Common.{◌≡◌, ◌≤◌, ℕ, length, Some, arith, ap, subst}
-use Rattle.piece_plan.specs.Epochs.{cell_count}
-use Rattle.checkpoint_journal.specs.Image.{cells_of_epoch}
-use Rattle.journal_cases.proofs.RoomLemmas.{counted_at, room_here}
+use Rattle.std.specs.Prelude.{option_map}
+use Rattle.std.proofs.Common.{◌∙◌, ap}
+use Rattle.plan_places.specs.Places.{place_at}
+use Rattle.journal_cases.proofs.StandLemmas.{stands_on, cut_begins}
 use Rattle.journal_cases.proofs.job.Job.append.Goals as goal
 
-pub append-requires-clause-cells : goal.append-requires-clause-cells
-append-requires-clause-cells c =
-    let job = c.args.self.now.plan in
-    let e = c.epoch.result in
-    let n = length c.args.epoch.now.sums.cells in
-    let count : cell_count e ≡ n = omega (arith, c.cells.ensures, c.from-count.ensures, c.args.epoch.now.counted) in
-    subst (λ (i : ℕ). cells_of_epoch job i ≡ Some n) c.kept-next.ensures
-    (subst (λ (m : ℕ). cells_of_epoch job c.kept-next.result ≡ Some m) count (counted_at job c.kept-next.result e c.epoch.ensures.at))
+pub append-requires-clause-begins : goal.append-requires-clause-begins
+append-requires-clause-begins c =
+    ap (option_map place_at) c.requires.next ∙ cut_begins c.args.self.now.plan c.args.samples (place_at c.args.at.now) c.cut-e.result c.cut-e.ensures.cut
 
-pub append-requires-clause-room : goal.append-requires-clause-room
-append-requires-clause-room c =
-    let job = c.args.self.now.plan in
-    let e = c.epoch.result in
-    let n = length c.args.epoch.now.sums.cells in
-    let few : n ≤ 4194304 = omega (arith, c.cells.ensures, c.from-count.ensures, c.args.epoch.now.counted, c.epoch.ensures.of_plan.cells) in
-    room_here job c.args.journal.now c.args.disk.now n c.requires.stands (append-requires-clause-cells c) few (omega (arith, ap length c.bytes.ensures))
+pub returns-in-Ok : goal.returns-in-Ok
+returns-in-Ok c = record {
+  stands = stands_on c.args.self.now.plan c.args.journal.now c.append.new.self c.args.disk.now c.append.new.disk c.requires.stands c.in-Ok.ensures.stands;
+}

@@ -1,0 +1,138 @@
+-- The mark that an opening writes behind the last record of an old journal.
+use Rattle.std.specs.Prelude.{option_map, is_some}
+use Rattle.std.proofs.Common.{◌≡◌, ◌≢◌, ◌⊎◌, inl, inr, ◌∙◌, ℕ, ◌+◌, ◌<◌, true, false, List, [], ◌∷◌, ◌++◌, length, Option, Some, None, refl, sym, ap, subst, arith, append-nil, length-append}
+use Rattle.dev_traits.specs.Told.{WhereTold}
+use Rattle.dev_traits.specs.Moments.{IsDurable}
+use Rattle.piece_plan.specs.Epochs.{JobSizes, IsJob}
+use Rattle.plan_places.specs.declared.place.Place.{Place as Spot}
+use Rattle.plan_places.specs.Places.{place_at}
+use Rattle.checkpoint_journal.specs.Runs.{Changes, IsDue, Adds, KeepsEpochs, IsOurs}
+use Rattle.checkpoint_journal.proofs.RunLemmas.{changes_of, told_value}
+use Rattle.checkpoint_journal.proofs.ToldLemmas.{told_both}
+use Rattle.journal_image.specs.Image.{is_blank, Due, Thing, Kept, Turn, mark_text, text, Fits, next, Covers, things_text, records, KeptEpoch, IsIdentity, start, Reading, Reads, Keeps, nothing, more, gate_of}
+use Rattle.journal_image.proofs.ReadingLemmas.{reads-AtGate}
+use Rattle.journal_image.proofs.RowLemmas.{row_text-append}
+use Rattle.checkpoint_journal.specs.declared.finding.Found.{Found}
+use Rattle.checkpoint_journal.specs.Finding.{due_of, IsEnd, IsFound, HasPlace}
+use Rattle.checkpoint_journal.specs.Opening.{IsReady}
+use Rattle.checkpoint_journal.proofs.BeginLemmas.{both_keep, begun-Reads, reads-Keeps}
+
+-- the last gate stands in the file
+pub found_inside : (id : List ℕ) (job : JobSizes) (image : List ℕ) (f : Found) → IsFound id job image f → f.gate < length image
+found_inside id job image f found =
+    let at = reads-AtGate id job image found.reading found.reads in omega (arith, found.end.gate, at.inside)
+
+-- neither a file of this job's form nor a blank one is of another job
+pub found_ours : (id : List ℕ) (job : JobSizes) (image : List ℕ) (f : Found) → IsFound id job image f → IsOurs id job image
+found_ours id job image f found = (records found.reading.things, reads-Keeps id job image found.reading found.reads)
+
+pub blank_ours : (id : List ℕ) (job : JobSizes) (image : List ℕ) → is_blank image ≡ true → IsOurs id job image
+blank_ours id job image blank = ([], inl (blank, refl))
+
+-- a journal that was begun just now, and its one gate
+pub begun_found : (id : List ℕ) (job : JobSizes) (image : List ℕ) (f : Found) → image ≡ 1 ∷ (id ++ 0 ∷ []) → f.old ≡ false → f.kept ≡ 0 → due_of f ≡ start job false → f.gate ≡ 1 + length id → IsFound id job image f
+begun_found id job image f is old kept due gate = record {
+  reading = nothing job;
+  reads = begun-Reads id job image is;
+  end = record { old = old; kept = kept; gate = omega (arith, gate); due = due };
+}
+
+pub begun_ready : (id : List ℕ) (job : JobSizes) (f : Found) → due_of f ≡ start job false → f.gate ≡ 1 + length id → HasPlace job f → IsReady id job f
+begun_ready id job f due gate place = record { place = place; turned = λ some. ap (λ (d : Due). d.ranged) due; behind = omega (arith, gate) }
+
+-- the gate behind one thing more
+gate-more : (id : List ℕ) (job : JobSizes) (image : List ℕ) (r : Reading) (t : Thing) → Reads id job image r → gate_of id job (more job r t) ≡ gate_of id job r + (1 + length (text r.due t))
+gate-more id job image r t reads =
+    let before = things_text job (start job r.old) r.things in
+    let row : things_text job (start job r.old) (r.things ++ t ∷ []) ≡ before ++ (1 ∷ text r.due t) =
+    row_text-append (Fits job) text (next job) Covers (start job r.old) r.due r.things (t ∷ []) reads.row.goes ∙ ap (λ (l : List ℕ). before ++ (1 ∷ l)) (append-nil (text r.due t)) in
+    omega (arith, ap length row, length-append before (1 ∷ text r.due t))
+
+-- a mark is no record
+records-mark : (things : List Thing) (mark : List ℕ) → records (things ++ Turn mark ∷ []) ≡ records things
+records-mark [] mark = refl
+records-mark (Kept e body ∷ things) mark = ap (λ (l : List KeptEpoch). record { epoch = e; body = body } ∷ l) (records-mark things mark)
+records-mark (Turn bytes ∷ things) mark = records-mark things mark
+
+none_placed : (o : Option Spot) → option_map place_at o ≡ None → o ≡ None
+none_placed None is = refl
+none_placed (Some p) is = cc
+
+-- the gate behind a mark
+abbrev pub past : Found → Found
+past f = record f { gate = f.gate + 25; ranged = true }
+
+-- the mark is due, and behind it stands the gate that ends the row then
+pub record MarkDue (id : List ℕ) (job : JobSizes) (f : Found) (seen : Option (List ℕ)) : Type 0 where
+  pub reading : Reading
+  pub due : WhereTold seen (IsDue id job reading (Turn mark_text) f.gate mark_text)
+  pub end : WhereTold seen (λ image. IsEnd id job (more job reading (Turn mark_text)) (past f))
+
+marked_end : (id : List ℕ) (job : JobSizes) (image : List ℕ) (f : Found) (found : IsFound id job image f) → IsEnd id job (more job found.reading (Turn mark_text)) (past f)
+marked_end id job image f found = record {
+  old = found.end.old;
+  kept = found.end.kept ∙ ap length (sym (records-mark found.reading.things mark_text));
+  gate = let further : gate_of id job (more job found.reading (Turn mark_text)) ≡ gate_of id job found.reading + 25 = gate-more id job image found.reading (Turn mark_text) found.reads in
+      ap (λ (n : ℕ). n + 25) found.end.gate ∙ sym further;
+  due = ap (λ (d : Due). record { ranged = true; place = d.place }) found.end.due;
+}
+
+pub mark_due : (id : List ℕ) (job : JobSizes) (f : Found) (seen : Option (List ℕ)) → f.ranged ≡ false → f.next ≢ None → WhereTold seen (λ image. IsFound id job image f) → MarkDue id job f seen
+mark_due id job f None old goes_on found = record { reading = nothing job; due = tt; end = tt }
+mark_due id job f (Some image) old goes_on found = record {
+  reading = found.reading;
+  due = record {
+    reads = found.reads;
+    fits = record {
+      old = ap (λ (d : Due). d.ranged) (sym found.end.due) ∙ old;
+      more = λ none. goes_on (none_placed f.next (ap (λ (d : Due). d.place) found.end.due ∙ none));
+      size = refl;
+      count = refl;
+    };
+    place = found.end.gate;
+    is = refl;
+  };
+  end = marked_end id job image f found;
+}
+
+-- a fact about no content, where another tells
+told_still : (old new : Option (List ℕ)) (N : Type 0) → is_some new ≡ is_some old → WhereTold old (λ image. N) → WhereTold new (λ image. N)
+told_still old None N same fact = tt
+told_still None (Some image) N same fact = cc
+told_still (Some v) (Some image) N same fact = fact
+
+-- the journal behind its mark
+pub mark_found : (id : List ℕ) (job : JobSizes) (f : Found) (old new : Option (List ℕ)) (m : MarkDue id job f old) → is_some new ≡ is_some old
+    → WhereTold new (λ image. Reads id job image (more job m.reading (Turn mark_text))) → WhereTold new (λ image. IsFound id job image (past f))
+mark_found id job f old new m tells reads =
+    let marked = more job m.reading (Turn mark_text) in
+    told_both new (λ image. Reads id job image marked) (λ image. IsEnd id job marked (past f)) (λ image. IsFound id job image (past f))
+    (λ image there end. record { reading = marked; reads = there; end = end })
+    reads (told_still old new (IsEnd id job marked (past f)) tells m.end)
+
+module _ (id : List ℕ) (job : JobSizes) (named : IsIdentity id) (is : IsJob job) (r : Reading) where
+  adds_stay : (t : Thing) (v : List ℕ) → Adds id job r t v v
+  adds_stay t v = (λ reads. inl reads, λ reads. reads)
+
+  -- an image that says r, or that and a mark, keeps the epochs of r
+  keeps_of : (image : List ℕ) → Reads id job image r ⊎ Reads id job image (more job r (Turn mark_text)) → Keeps id job image (records r.things)
+  keeps_of image (inl reads) = reads-Keeps id job image r reads
+  keeps_of image (inr reads) = subst (Keeps id job image) (records-mark r.things mark_text) (reads-Keeps id job image (more job r (Turn mark_text)) reads)
+
+  adds_on : (v image : List ℕ) → Adds id job r (Turn mark_text) v image → Reads id job v r ⊎ Reads id job v (more job r (Turn mark_text)) → Reads id job image r ⊎ Reads id job image (more job r (Turn mark_text))
+  adds_on v image adds (inl reads) = adds.0 reads
+  adds_on v image adds (inr reads) = inr (adds.1 reads)
+
+  adds_keep : (u v image : List ℕ) → Reads id job u r → Adds id job r (Turn mark_text) u v → Adds id job r (Turn mark_text) v image → KeepsEpochs id job v image
+  adds_keep u v image reads first second =
+      let there = adds_on u v first (inl reads) in
+      both_keep id job v image (records r.things) named is (keeps_of v there) (keeps_of image (adds_on v image second there))
+
+  -- while the mark is written, each image keeps the same epochs
+  module _ {D : Type 0} (seen : D → Option (List ℕ)) (moment : D → ℕ) (may_leave : D → ℕ → List ℕ → Type 0) (law : (d : D) → WhereTold (seen d) (may_leave d (moment d))) where
+    pub part_mark : (gate : ℕ) (old new : D) → IsDurable (seen old) (may_leave old (moment old)) → WhereTold (seen old) (IsDue id job r (Turn mark_text) gate mark_text) → is_some (seen new) ≡ is_some (seen old)
+        → Changes seen moment may_leave (Adds id job r (Turn mark_text)) old new → Changes seen moment may_leave (KeepsEpochs id job) old new
+    part_mark gate old new durable due tells changes =
+        changes_of seen moment may_leave (Adds id job r (Turn mark_text)) (KeepsEpochs id job) (adds_stay (Turn mark_text)) old new durable (law new) tells changes.runs (λ u v image there first second.
+        let begun = told_value (seen old) (IsDue id job r (Turn mark_text) gate mark_text) u there due in
+        adds_keep u v image begun.reads first second)

@@ -1,0 +1,164 @@
+use Rattle.std.specs.Prelude.{IfOk}
+use Rattle.std.proofs.Common.{◌≡◌, ◌∙◌, ◌<◌, ◌++◌, ◌∷◌, [], List, ℕ, length, Option, true, inl, inr, subst, sym}
+use Rattle.dev_traits.specs.Told.{WhereTold}
+use Rattle.dev_traits.proofs.ToldLemmas.{WhereTold-weaker}
+use Rattle.checkpoint_journal.proofs.RunLemmas.{looks_of, looks_both, changes_looks, changes_both, durable_looks}
+use Rattle.checkpoint_journal.proofs.ToldLemmas.{told_again}
+use Rattle.journal_image.specs.Image.{is_blank}
+use Rattle.checkpoint_journal.specs.declared.finding.Finding.{Finding}
+use Rattle.checkpoint_journal.specs.Finding.{Finds, FindsPlace, FindsBehind, IsFound, IsOther}
+use Rattle.checkpoint_journal.specs.Opening.{Opens}
+use Rattle.checkpoint_journal.specs.Runs.{KeepsEpochs, IsOurs}
+use Rattle.checkpoint_journal.proofs.BeginLemmas.{epochs_stay, epochs_joined}
+use Rattle.checkpoint_journal.proofs.OpenLemmas.{found_inside, found_ours, blank_ours, begun_found, begun_ready}
+use Rattle.checkpoint_journal.proofs.open.open.Goals as goal
+
+pub returns-in_err-sync-clause-changes : goal.returns-in_err-sync-clause-changes
+returns-in_err-sync-clause-changes g c =
+    let first = looks_of g.D.Disk.seen g.D.Disk.moment g.D.Disk.may_leave _ _ c.sync.ensures.same c.sync.ensures.goes in
+    changes_looks g.D.Disk.seen g.D.Disk.moment g.D.Disk.may_leave (KeepsEpochs c.args.id.now c.args.plan.now) (epochs_stay c.args.id.now c.args.plan.now) _ _ first
+
+pub returns-in_err-sync-clause-spares : goal.returns-in_err-sync-clause-spares
+returns-in_err-sync-clause-spares g c = inl (looks_of g.D.Disk.seen g.D.Disk.moment g.D.Disk.may_leave _ _ c.sync.ensures.same c.sync.ensures.goes)
+
+pub returns-in_err-finding-clause-changes : goal.returns-in_err-finding-clause-changes
+returns-in_err-finding-clause-changes g c =
+    let first = looks_of g.D.Disk.seen g.D.Disk.moment g.D.Disk.may_leave _ _ c.sync.ensures.same c.sync.ensures.goes in
+    let looks = looks_both g.D.Disk.seen g.D.Disk.moment g.D.Disk.may_leave _ _ _ first c.find.ensures.looks in
+    changes_looks g.D.Disk.seen g.D.Disk.moment g.D.Disk.may_leave (KeepsEpochs c.args.id.now c.args.plan.now) (epochs_stay c.args.id.now c.args.plan.now) _ _ looks
+
+pub returns-in_err-finding-clause-spares : goal.returns-in_err-finding-clause-spares
+returns-in_err-finding-clause-spares g c =
+    let first = looks_of g.D.Disk.seen g.D.Disk.moment g.D.Disk.may_leave _ _ c.sync.ensures.same c.sync.ensures.goes in
+    inl (looks_both g.D.Disk.seen g.D.Disk.moment g.D.Disk.may_leave _ _ _ first c.find.ensures.looks)
+
+-- another job's file
+pub returns-in-Other-clause-changes : goal.returns-in-Other-clause-changes
+returns-in-Other-clause-changes g c =
+    let first = looks_of g.D.Disk.seen g.D.Disk.moment g.D.Disk.may_leave _ _ c.sync.ensures.same c.sync.ensures.goes in
+    let looks = looks_both g.D.Disk.seen g.D.Disk.moment g.D.Disk.may_leave _ _ _ first c.find.ensures.looks in
+    changes_looks g.D.Disk.seen g.D.Disk.moment g.D.Disk.may_leave (KeepsEpochs c.args.id.now c.args.plan.now) (epochs_stay c.args.id.now c.args.plan.now) _ _ looks
+
+pub returns-in-Other-clause-spares : goal.returns-in-Other-clause-spares
+returns-in-Other-clause-spares g c =
+    let first = looks_of g.D.Disk.seen g.D.Disk.moment g.D.Disk.may_leave _ _ c.sync.ensures.same c.sync.ensures.goes in
+    inl (looks_both g.D.Disk.seen g.D.Disk.moment g.D.Disk.may_leave _ _ _ first c.find.ensures.looks)
+
+pub returns-in-Other-clause-durable : goal.returns-in-Other-clause-durable
+returns-in-Other-clause-durable g c =
+    durable_looks g.D.Disk.seen g.D.Disk.moment g.D.Disk.may_leave _ _ c.find.ensures.looks c.in_ok-sync.ensures.durable
+
+pub returns-in-Other-clause-opens : goal.returns-in-Other-clause-opens
+returns-in-Other-clause-opens g c =
+    let id = c.args.id.now in
+    let job = c.args.plan.now in
+    let d = c.in-Other.d in
+    let finds = subst (λ (f : Finding). WhereTold (g.D.Disk.seen c.sync.new.self) (λ image. Finds id job image f)) c.in-Other.is c.in_ok-finding.ensures.finds in
+    (c.find.ensures.looks.same ∙ c.sync.ensures.same, told_again _ _ (λ image. IsOther id job image d) (sym c.sync.ensures.same) finds)
+
+-- a blank file
+pub begin-requires-clause-durable : goal.begin-requires-clause-durable
+begin-requires-clause-durable g c =
+    durable_looks g.D.Disk.seen g.D.Disk.moment g.D.Disk.may_leave _ _ c.find.ensures.looks c.in_ok-sync.ensures.durable
+
+pub begin-requires-clause-blank : goal.begin-requires-clause-blank
+begin-requires-clause-blank g c =
+    let finds = subst (λ (f : Finding). WhereTold (g.D.Disk.seen c.sync.new.self) (λ image. Finds c.args.id.now c.args.plan.now image f)) c.in-Blank.is c.in_ok-finding.ensures.finds in
+    told_again _ _ (λ image. is_blank image ≡ true) c.find.ensures.looks.same finds
+
+pub returns-in_err-begin-in-Blank-clause-changes : goal.returns-in_err-begin-in-Blank-clause-changes
+returns-in_err-begin-in-Blank-clause-changes g c =
+    let id = c.args.id.now in
+    let job = c.args.plan.now in
+    let first = looks_of g.D.Disk.seen g.D.Disk.moment g.D.Disk.may_leave _ _ c.sync.ensures.same c.sync.ensures.goes in
+    let looks = looks_both g.D.Disk.seen g.D.Disk.moment g.D.Disk.may_leave _ _ _ first c.find.ensures.looks in
+    let quiet = changes_looks g.D.Disk.seen g.D.Disk.moment g.D.Disk.may_leave (KeepsEpochs id job) (epochs_stay id job) _ _ looks in
+    changes_both g.D.Disk.seen g.D.Disk.moment g.D.Disk.may_leave (KeepsEpochs id job) (epochs_stay id job) (epochs_joined id job) _ _ _ quiet (c.begin.ensures.changes job c.find.ensures.job)
+
+pub returns-in_ok-begin-in-Blank-clause-changes : goal.returns-in_ok-begin-in-Blank-clause-changes
+returns-in_ok-begin-in-Blank-clause-changes g c =
+    let id = c.args.id.now in
+    let job = c.args.plan.now in
+    let first = looks_of g.D.Disk.seen g.D.Disk.moment g.D.Disk.may_leave _ _ c.sync.ensures.same c.sync.ensures.goes in
+    let looks = looks_both g.D.Disk.seen g.D.Disk.moment g.D.Disk.may_leave _ _ _ first c.find.ensures.looks in
+    let quiet = changes_looks g.D.Disk.seen g.D.Disk.moment g.D.Disk.may_leave (KeepsEpochs id job) (epochs_stay id job) _ _ looks in
+    changes_both g.D.Disk.seen g.D.Disk.moment g.D.Disk.may_leave (KeepsEpochs id job) (epochs_stay id job) (epochs_joined id job) _ _ _ quiet (c.begin.ensures.changes job c.find.ensures.job)
+
+pub returns-in_err-begin-in-Blank-clause-spares : goal.returns-in_err-begin-in-Blank-clause-spares
+returns-in_err-begin-in-Blank-clause-spares g c =
+    let id = c.args.id.now in
+    let job = c.args.plan.now in
+    let finds = subst (λ (f : Finding). WhereTold (g.D.Disk.seen c.sync.new.self) (λ image. Finds id job image f)) c.in-Blank.is c.in_ok-finding.ensures.finds in
+    inr (told_again _ _ (IsOurs id job) (sym c.sync.ensures.same) (WhereTold-weaker _ (λ image. is_blank image ≡ true) (IsOurs id job) (blank_ours id job) finds))
+
+pub returns-in_ok-begin-in-Blank-clause-spares : goal.returns-in_ok-begin-in-Blank-clause-spares
+returns-in_ok-begin-in-Blank-clause-spares g c =
+    let id = c.args.id.now in
+    let job = c.args.plan.now in
+    let finds = subst (λ (f : Finding). WhereTold (g.D.Disk.seen c.sync.new.self) (λ image. Finds id job image f)) c.in-Blank.is c.in_ok-finding.ensures.finds in
+    inr (told_again _ _ (IsOurs id job) (sym c.sync.ensures.same) (WhereTold-weaker _ (λ image. is_blank image ≡ true) (IsOurs id job) (blank_ours id job) finds))
+
+pub returns-in_ok-begin-in-Blank-clause-opens : goal.returns-in_ok-begin-in-Blank-clause-opens
+returns-in_ok-begin-in-Blank-clause-opens g c =
+    let id = c.args.id.now in
+    let job = c.args.plan.now in
+    let f = c.first_gate.result in
+    WhereTold-weaker _ (λ image. image ≡ 1 ∷ (id ++ 0 ∷ [])) (λ image. IsFound id job image f)
+    (λ image is. begun_found id job image f is c.first_gate.ensures.old c.first_gate.ensures.kept c.first_gate.ensures.due c.first_gate.ensures.gate) c.in_ok-begin-in-Blank.ensures.begun
+
+pub returns-in_ok-begin-in-Blank-clause-ready : goal.returns-in_ok-begin-in-Blank-clause-ready
+returns-in_ok-begin-in-Blank-clause-ready g c =
+    begun_ready c.args.id.now c.args.plan.now c.first_gate.result c.first_gate.ensures.due c.first_gate.ensures.gate c.first_gate.ensures.place
+
+-- a journal of this job
+pub carry_on-requires-clause-short : goal.carry_on-requires-clause-short
+carry_on-requires-clause-short g c =
+    let place = subst (FindsPlace c.args.plan.now) c.in-Ours.is c.in_ok-finding.ensures.place in
+    place.short
+
+pub carry_on-requires-clause-within : goal.carry_on-requires-clause-within
+carry_on-requires-clause-within g c =
+    let id = c.args.id.now in
+    let job = c.args.plan.now in
+    let f = c.in-Ours.found in
+    let finds = subst (λ (f : Finding). WhereTold (g.D.Disk.seen c.sync.new.self) (λ image. Finds id job image f)) c.in-Ours.is c.in_ok-finding.ensures.finds in
+    told_again _ _ (λ image. f.gate < length image) c.find.ensures.looks.same
+    (WhereTold-weaker _ (λ image. IsFound id job image f) (λ image. f.gate < length image) (λ image found. found_inside id job image f found) finds)
+
+pub carry_on-requires-clause-durable : goal.carry_on-requires-clause-durable
+carry_on-requires-clause-durable g c =
+    durable_looks g.D.Disk.seen g.D.Disk.moment g.D.Disk.may_leave _ _ c.find.ensures.looks c.in_ok-sync.ensures.durable
+
+pub returns-in-Ours-clause-opens : goal.returns-in-Ours-clause-opens
+returns-in-Ours-clause-opens g c =
+    let id = c.args.id.now in
+    let job = c.args.plan.now in
+    let f = c.in-Ours.found in
+    let finds = subst (λ (f : Finding). WhereTold (g.D.Disk.seen c.sync.new.self) (λ image. Finds id job image f)) c.in-Ours.is c.in_ok-finding.ensures.finds in
+    let told = told_again _ _ (λ image. IsFound id job image f) c.find.ensures.looks.same finds in
+    subst (λ (o : Option (List ℕ)). IfOk c.carry_on.result (Opens id job o (g.D.Disk.seen c.carry_on.new.disk))) (c.find.ensures.looks.same ∙ c.sync.ensures.same)
+    (c.carry_on.ensures.opens id job c.requires.named c.find.ensures.job told)
+
+pub returns-in-Ours-clause-ready : goal.returns-in-Ours-clause-ready
+returns-in-Ours-clause-ready g c =
+    c.carry_on.ensures.ready c.args.id.now c.args.plan.now (subst (FindsPlace c.args.plan.now) c.in-Ours.is c.in_ok-finding.ensures.place) (subst (FindsBehind c.args.id.now) c.in-Ours.is c.in_ok-finding.ensures.behind)
+
+pub returns-in-Ours-clause-changes : goal.returns-in-Ours-clause-changes
+returns-in-Ours-clause-changes g c =
+    let id = c.args.id.now in
+    let job = c.args.plan.now in
+    let f = c.in-Ours.found in
+    let finds = subst (λ (f : Finding). WhereTold (g.D.Disk.seen c.sync.new.self) (λ image. Finds id job image f)) c.in-Ours.is c.in_ok-finding.ensures.finds in
+    let told = told_again _ _ (λ image. IsFound id job image f) c.find.ensures.looks.same finds in
+    let first = looks_of g.D.Disk.seen g.D.Disk.moment g.D.Disk.may_leave _ _ c.sync.ensures.same c.sync.ensures.goes in
+    let looks = looks_both g.D.Disk.seen g.D.Disk.moment g.D.Disk.may_leave _ _ _ first c.find.ensures.looks in
+    let quiet = changes_looks g.D.Disk.seen g.D.Disk.moment g.D.Disk.may_leave (KeepsEpochs id job) (epochs_stay id job) _ _ looks in
+    changes_both g.D.Disk.seen g.D.Disk.moment g.D.Disk.may_leave (KeepsEpochs id job) (epochs_stay id job) (epochs_joined id job) _ _ _ quiet (c.carry_on.ensures.changes id job c.requires.named c.find.ensures.job told)
+
+pub returns-in-Ours-clause-spares : goal.returns-in-Ours-clause-spares
+returns-in-Ours-clause-spares g c =
+    let id = c.args.id.now in
+    let job = c.args.plan.now in
+    let f = c.in-Ours.found in
+    let finds = subst (λ (f : Finding). WhereTold (g.D.Disk.seen c.sync.new.self) (λ image. Finds id job image f)) c.in-Ours.is c.in_ok-finding.ensures.finds in
+    inr (told_again _ _ (IsOurs id job) (sym c.sync.ensures.same) (WhereTold-weaker _ (λ image. IsFound id job image f) (IsOurs id job) (λ image found. found_ours id job image f found) finds))

@@ -1,0 +1,160 @@
+use Rattle.std.proofs.Common.{◌≡◌, ◌∙◌, ℕ, ◌+◌, ◌≤◌, List, length, get_or, take, drop, true, IfSome, refl, sym, ap, subst, arith, rules}
+use Rattle.dev_traits.specs.Told.{WhereTold}
+use Rattle.dev_traits.proofs.ToldLemmas.{WhereTold-weaker}
+use Rattle.plan_places.specs.Places.{place_at, IsPlace}
+use Rattle.checkpoint_journal.proofs.RunLemmas.{looks_none, looks_both}
+use Rattle.checkpoint_journal.proofs.ToldLemmas.{told_both, told_three, told_again, told_four}
+use Rattle.journal_image.specs.declared.finding.Behind.{Behind}
+use Rattle.journal_image.specs.declared.finding.Behind.TheVariants.{Record, Mark, Fault}
+use Rattle.journal_image.specs.Image.{begin}
+use Rattle.journal_image.specs.Difference.{end_of}
+use Rattle.journal_image.specs.Finding.{IsBehind}
+use Rattle.checkpoint_journal.specs.declared.finding.Found.{Found}
+use Rattle.checkpoint_journal.specs.Finding.{IsAt, IsFound, IsOther}
+use Rattle.checkpoint_journal.proofs.StepLemmas.{first_at, found_here, step_record, step_mark, step_fault, step_past}
+use Rattle.checkpoint_journal.proofs.walk.walk.Goals as goal
+
+pub loop-here-init : goal.loop-here-init
+loop-here-init g c =
+    let id = c.args.id.now in
+    let job = c.args.plan.now in
+    let first = c.first_gate-here.result in
+    record {
+      looks = looks_none g.D.Disk.seen g.D.Disk.moment g.D.Disk.may_leave _;
+      faults = refl;
+      old = c.first_gate-here.ensures.old;
+      at = WhereTold-weaker _ (λ image. take (1 + length id) image ≡ begin id c.args.old) (λ image. IsAt id job image first)
+          (λ image front. first_at id job image c.args.old first c.first_gate-here.ensures.old c.first_gate-here.ensures.kept c.first_gate-here.ensures.due c.first_gate-here.ensures.gate front)
+          c.requires.begun;
+      place = c.first_gate-here.ensures.place.next;
+      many = c.first_gate-here.ensures.place.many;
+      behind = omega (arith, c.first_gate-here.ensures.gate);
+    }
+
+pub returns-in_default-clause-finds : goal.returns-in_default-clause-finds
+returns-in_default-clause-finds g c =
+    let id = c.args.id.now in
+    let job = c.args.plan.now in
+    let here = c.loop-here.here in
+    told_both _ (λ image. c.args.len ≡ length image) (λ image. IsAt id job image here) (λ image. IsFound id job image here)
+    (λ image is walked. found_here id job image here walked (omega (arith, c.loop-here-test.true)) (λ one. c.in_default.is))
+    c.requires.length c.loop-here.invariant.at
+
+pub returns-in_err-gate-clause-looks : goal.returns-in_err-gate-clause-looks
+returns-in_err-gate-clause-looks g c = looks_both g.D.Disk.seen g.D.Disk.moment g.D.Disk.may_leave _ _ _ c.loop-here.invariant.looks c.byte_at.ensures.looks
+
+pub returns-then-gate-ne1-clause-looks : goal.returns-then-gate-ne1-clause-looks
+returns-then-gate-ne1-clause-looks g c = looks_both g.D.Disk.seen g.D.Disk.moment g.D.Disk.may_leave _ _ _ c.loop-here.invariant.looks c.byte_at.ensures.looks
+
+pub returns-then-gate-ne1-clause-finds : goal.returns-then-gate-ne1-clause-finds
+returns-then-gate-ne1-clause-finds g c =
+    let id = c.args.id.now in
+    let job = c.args.plan.now in
+    let here = c.loop-here.here in
+    told_three _ (λ image. c.args.len ≡ length image) (λ image. c.in_ok-gate.gate ≡ get_or image here.gate 0) (λ image. IsAt id job image here) (λ image. IsFound id job image here)
+    (λ image is byte walked. found_here id job image here walked (omega (arith, c.loop-here-test.true)) (λ one. absurd (c.if-gate-ne1.true (byte ∙ one))))
+    c.requires.length
+    (told_again _ _ (λ image. c.in_ok-gate.gate ≡ get_or image here.gate 0) (sym c.loop-here.invariant.looks.same) c.in_ok-gate.ensures.byte)
+    c.loop-here.invariant.at
+
+pub look_behind-requires-clause-length : goal.look_behind-requires-clause-length
+look_behind-requires-clause-length g c =
+    told_again _ _ (λ image. c.args.len ≡ length image) (c.byte_at.ensures.looks.same ∙ c.loop-here.invariant.looks.same) c.requires.length
+
+pub returns-in_err-e-clause-looks : goal.returns-in_err-e-clause-looks
+returns-in_err-e-clause-looks g c =
+    let first = looks_both g.D.Disk.seen g.D.Disk.moment g.D.Disk.may_leave _ _ _ c.loop-here.invariant.looks c.byte_at.ensures.looks in
+    looks_both g.D.Disk.seen g.D.Disk.moment g.D.Disk.may_leave _ _ _ first c.look_behind.ensures.looks
+
+pub returns-in-Fault-clause-looks : goal.returns-in-Fault-clause-looks
+returns-in-Fault-clause-looks g c =
+    let first = looks_both g.D.Disk.seen g.D.Disk.moment g.D.Disk.may_leave _ _ _ c.loop-here.invariant.looks c.byte_at.ensures.looks in
+    looks_both g.D.Disk.seen g.D.Disk.moment g.D.Disk.may_leave _ _ _ first c.look_behind.ensures.looks
+
+pub loop-here-preserved-in-Record : goal.loop-here-preserved-in-Record
+loop-here-preserved-in-Record g c =
+    let id = c.args.id.now in
+    let job = c.args.plan.now in
+    let here = c.loop-here.here in
+    let later = c.past_record-here.result in
+    let p = c.in-Some.place in
+    let seen = g.D.Disk.seen c.args.disk.now in
+    let Stands : Behind → List ℕ → Type 0 = λ (b : Behind). λ (image : List ℕ). IsBehind job here.ranged (place_at p) (drop (here.gate + 1) image) (here.gate + 1) b in
+    let first = looks_both g.D.Disk.seen g.D.Disk.moment g.D.Disk.may_leave _ _ _ c.loop-here.invariant.looks c.byte_at.ensures.looks in
+    let found = told_again seen (g.D.Disk.seen c.byte_at.new.disk) (Stands (Record c.in-Record.e)) (sym first.same) (subst (λ (b : Behind). WhereTold (g.D.Disk.seen c.byte_at.new.disk) (Stands b)) c.in-Record.is c.in_ok-e.ensures.behind) in
+    record {
+      looks = looks_both g.D.Disk.seen g.D.Disk.moment g.D.Disk.may_leave _ _ _ first c.look_behind.ensures.looks;
+      faults = search rules;
+      old = c.past_record-here.ensures.same.0 ∙ c.loop-here.invariant.old;
+      at = told_four seen (λ image. c.args.len ≡ length image) (λ image. c.in_ok-gate.gate ≡ get_or image here.gate 0) (Stands (Record c.in-Record.e)) (λ image. IsAt id job image here) (λ image. IsAt id job image later)
+          (λ image is byte behind walked.
+          step_record id job image here walked p c.in-Some.is (omega (arith, c.loop-here-test.true)) (sym byte ∙ c.if-gate-ne1.false) c.in-Record.e later behind
+          c.past_record-here.ensures.kept c.past_record-here.ensures.gate c.past_record-here.ensures.next c.past_record-here.ensures.same.1 c.past_record-here.ensures.same.0)
+          c.requires.length
+          (told_again _ _ (λ image. c.in_ok-gate.gate ≡ get_or image here.gate 0) (sym c.loop-here.invariant.looks.same) c.in_ok-gate.ensures.byte)
+          found
+          c.loop-here.invariant.at;
+      place = c.past_record-here.ensures.place;
+      many = omega (arith, c.past_record-here.ensures.kept, c.past_record-here.ensures.gate, c.loop-here.invariant.many);
+      behind = omega (arith, c.past_record-here.ensures.gate, c.loop-here.invariant.behind);
+    }
+
+pub loop-here-preserved : goal.loop-here-preserved
+loop-here-preserved g c =
+    let id = c.args.id.now in
+    let job = c.args.plan.now in
+    let here = c.loop-here.here in
+    let p = c.in-Some.place in
+    let seen = g.D.Disk.seen c.args.disk.now in
+    let Stands : Behind → List ℕ → Type 0 = λ (b : Behind). λ (image : List ℕ). IsBehind job here.ranged (place_at p) (drop (here.gate + 1) image) (here.gate + 1) b in
+    let first = looks_both g.D.Disk.seen g.D.Disk.moment g.D.Disk.may_leave _ _ _ c.loop-here.invariant.looks c.byte_at.ensures.looks in
+    let found = told_again seen (g.D.Disk.seen c.byte_at.new.disk) (Stands Mark) (sym first.same) (subst (λ (b : Behind). WhereTold (g.D.Disk.seen c.byte_at.new.disk) (Stands b)) c.in-Mark.is c.in_ok-e.ensures.behind) in
+    let later : c.past_mark-here.result ≡ record here { gate = here.gate + 25; ranged = true } = c.past_mark-here.ensures in
+    record {
+      looks = looks_both g.D.Disk.seen g.D.Disk.moment g.D.Disk.may_leave _ _ _ first c.look_behind.ensures.looks;
+      faults = search rules;
+      old = ap (λ (f : Found). f.old) later ∙ c.loop-here.invariant.old;
+      at = told_four seen (λ image. c.args.len ≡ length image) (λ image. c.in_ok-gate.gate ≡ get_or image here.gate 0) (Stands Mark) (λ image. IsAt id job image here) (λ image. IsAt id job image c.past_mark-here.result)
+          (λ image is byte behind walked.
+          subst (λ (f : Found). IsAt id job image f) (sym later)
+          (step_mark id job image here walked p c.in-Some.is (omega (arith, c.loop-here-test.true)) (sym byte ∙ c.if-gate-ne1.false) behind))
+          c.requires.length
+          (told_again _ _ (λ image. c.in_ok-gate.gate ≡ get_or image here.gate 0) (sym c.loop-here.invariant.looks.same) c.in_ok-gate.ensures.byte)
+          found
+          c.loop-here.invariant.at;
+      place = subst (λ (f : Found). IfSome f.next (λ q. IsPlace job (place_at q))) (sym later) c.loop-here.invariant.place;
+      many = subst (λ (f : Found). f.kept ≤ f.gate) (sym later) (omega (arith, c.loop-here.invariant.many));
+      behind = subst (λ (f : Found). 1 + length id ≤ f.gate) (sym later) (omega (arith, c.loop-here.invariant.behind));
+    }
+
+pub returns-in-Fault-clause-finds : goal.returns-in-Fault-clause-finds
+returns-in-Fault-clause-finds g c =
+    let id = c.args.id.now in
+    let job = c.args.plan.now in
+    let here = c.loop-here.here in
+    let p = c.in-Some.place in
+    let d = c.in-Fault.d in
+    let seen = g.D.Disk.seen c.args.disk.now in
+    let Stands : Behind → List ℕ → Type 0 = λ (b : Behind). λ (image : List ℕ). IsBehind job here.ranged (place_at p) (drop (here.gate + 1) image) (here.gate + 1) b in
+    let first = looks_both g.D.Disk.seen g.D.Disk.moment g.D.Disk.may_leave _ _ _ c.loop-here.invariant.looks c.byte_at.ensures.looks in
+    let found = told_again seen (g.D.Disk.seen c.byte_at.new.disk) (Stands (Fault d)) (sym first.same) (subst (λ (b : Behind). WhereTold (g.D.Disk.seen c.byte_at.new.disk) (Stands b)) c.in-Fault.is c.in_ok-e.ensures.behind) in
+    told_both seen (λ image. take (1 + length id) image ≡ begin id c.args.old) (λ image. take (1 + length id) image ≡ begin id c.args.old → IsOther id job image d) (λ image. IsOther id job image d)
+    (λ image begun follows. follows begun)
+    c.requires.begun
+    (told_four seen (λ image. c.args.len ≡ length image) (λ image. c.in_ok-gate.gate ≡ get_or image here.gate 0) (Stands (Fault d)) (λ image. IsAt id job image here)
+    (λ image. take (1 + length id) image ≡ begin id c.args.old → IsOther id job image d)
+    (λ image is byte behind walked begun.
+    step_fault id job image here walked p c.in-Some.is (omega (arith, c.loop-here-test.true)) (sym byte ∙ c.if-gate-ne1.false) d c.requires.identity c.requires.job (rw c.loop-here.invariant.old begun) behind)
+    c.requires.length
+    (told_again _ _ (λ image. c.in_ok-gate.gate ≡ get_or image here.gate 0) (sym c.loop-here.invariant.looks.same) c.in_ok-gate.ensures.byte)
+    found
+    c.loop-here.invariant.at)
+
+pub returns-clause-finds : goal.returns-clause-finds
+returns-clause-finds g c =
+    let id = c.args.id.now in
+    let job = c.args.plan.now in
+    let here = c.loop-here.here in
+    told_three _ (λ image. c.args.len ≡ length image) (λ image. take (1 + length id) image ≡ begin id c.args.old) (λ image. IsAt id job image here) (λ image. IsOther id job image (end_of c.args.len))
+    (λ image is begun walked. step_past id job image here walked c.args.len c.requires.identity c.requires.job (rw c.loop-here.invariant.old begun) is c.loop-here-test.false)
+    c.requires.length c.requires.begun c.loop-here.invariant.at

@@ -1,0 +1,6 @@
+use Rattle.journal_cases.specs.Standing.{StandsIn}
+use Rattle.journal_cases.proofs.reading.mixed_words.Given as goal
+
+-- the journal stands on the disk
+abbrev pub invariant-loop : goal.invariant-loop
+invariant-loop l = StandsIn l.job.plan l.journal l.disk

@@ -1,6 +1,0 @@
-use Rattle.ranged_cases.specs.Standing.{StandsIn}
-use Rattle.ranged_cases.proofs.reading.retry.Given as goal
-
--- the journal stands on the disk
-abbrev pub invariant-loop : goal.invariant-loop
-invariant-loop l = StandsIn l.job.plan l.journal l.disk

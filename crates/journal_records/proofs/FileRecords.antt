@@ -11,10 +11,10 @@ use Rattle.plan_places.specs.Places.{place_at}
 use Rattle.job_plan.specs.declared.plan.Plan.{Plan}
 use Rattle.job_plan.specs.Output.{head_of}
 use Rattle.job_epochs.specs.Sizes.{sizes_of}
-use Rattle.ranged_journal.specs.declared.fault.ReadFault.{ReadFault}
-use Rattle.ranged_journal.specs.declared.fault.ReadFault.TheVariants.{Disk}
+use Rattle.checkpoint_journal.specs.declared.fault.ReadFault.{ReadFault}
+use Rattle.checkpoint_journal.specs.declared.fault.ReadFault.TheVariants.{Disk}
 use Rattle.journal_image.specs.Image.{KeptEpoch, records, Keeps}
-use Rattle.ranged_journal.specs.Standing.{JournalState, Knows}
+use Rattle.checkpoint_journal.specs.Standing.{JournalState, Knows}
 use Rattle.vis_records.specs.declared.writer.SinkFault.{SinkFault}
 use Rattle.vis_writer.specs.declared.fault.WriteFault.{WriteFault}
 use Rattle.vis_writer.specs.declared.fault.WriteFault.TheVariants.{Source, Sink}

@@ -3,7 +3,7 @@ use Rattle.std.proofs.Common.{◌≡◌, ◌∙◌, sym, ap, refl, subst, ℕ, L
 use Rattle.dev_traits.specs.Told.{more, PrefixMore}
 use Rattle.dev_traits.proofs.Appended.{more-more, more-nil, PrefixMore-after, PrefixMore-none}
 use Rattle.sink_text.specs.Appends.{Appends}
-use Rattle.ranged_journal.specs.declared.fault.ReadFault.{ReadFault}
+use Rattle.checkpoint_journal.specs.declared.fault.ReadFault.{ReadFault}
 use Rattle.vis_records.specs.declared.writer.SinkFault.{SinkFault}
 use Rattle.vis_records.specs.declared.writer.SinkFault.TheVariants.{Sink}
 use Rattle.vis_writer.specs.Writes.{of_sink}

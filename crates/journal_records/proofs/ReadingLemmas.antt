@@ -15,9 +15,9 @@ use Rattle.checkpoint_journal.specs.Cells.{body_cells}
 use Rattle.journal_image.specs.Image.{Due, Thing, Kept, Turn, next, ThingsGo, KeptEpoch, records, start, Reading, Keeps}
 use Rattle.journal_image.proofs.KeptLemmas.{reads_in_order}
 use Rattle.journal_image.proofs.ReadingLemmas.{keeps_one}
-use Rattle.ranged_journal.specs.Finding.{due_of}
-use Rattle.ranged_journal.specs.Kept.{ReadsNext}
-use Rattle.ranged_journal.specs.Standing.{JournalState, Knows, IsNext}
+use Rattle.checkpoint_journal.specs.Finding.{due_of}
+use Rattle.checkpoint_journal.specs.Kept.{ReadsNext}
+use Rattle.checkpoint_journal.specs.Standing.{JournalState, Knows, IsNext}
 use Rattle.journal_records.specs.Kept.{added_kept}
 use Rattle.journal_records.specs.Places.{place_from, place_of_integration, IsIntegration}
 use Rattle.journal_records.specs.Reading.{AddsOne, AddsNext, IsAdded}

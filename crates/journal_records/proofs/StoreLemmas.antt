@@ -25,9 +25,9 @@ use Rattle.job_epochs.specs.Sizes.{size_of, sizes_of}
 use Rattle.job_epochs.specs.Added.{width_of}
 use Rattle.journal_image.specs.Image.{Due, KeptEpoch}
 use Rattle.checkpoint_journal.proofs.RunLemmas.{looks_none, looks_both}
-use Rattle.ranged_journal.specs.declared.fault.ReadFault.{ReadFault}
-use Rattle.ranged_journal.specs.declared.finding.Found.{Found}
-use Rattle.ranged_journal.specs.Standing.{JournalState, Stands, StandsAtRest}
+use Rattle.checkpoint_journal.specs.declared.fault.ReadFault.{ReadFault}
+use Rattle.checkpoint_journal.specs.declared.finding.Found.{Found}
+use Rattle.checkpoint_journal.specs.Standing.{JournalState, Stands, StandsAtRest}
 use Rattle.vis_records.specs.declared.writer.SinkFault.{SinkFault}
 use Rattle.vis_writer.specs.declared.fault.WriteFault.{WriteFault}
 use Rattle.vis_writer.specs.declared.fault.WriteFault.TheVariants.{Source, Sink}

@@ -1,7 +1,7 @@
 -- The answer of a call that wrote a record file from a journal.
 use Rattle.std.specs.Prelude.{ℕ, Result, Ok, Err}
-use Rattle.ranged_journal.specs.declared.fault.ReadFault.{ReadFault}
-use Rattle.ranged_journal.specs.declared.fault.ReadFault.TheVariants.{Disk as DiskFault}
+use Rattle.checkpoint_journal.specs.declared.fault.ReadFault.{ReadFault}
+use Rattle.checkpoint_journal.specs.declared.fault.ReadFault.TheVariants.{Disk as DiskFault}
 use Rattle.vis_writer.specs.declared.fault.WriteFault.{WriteFault}
 use Rattle.vis_writer.specs.declared.fault.WriteFault.TheVariants.{Source, Sink as SinkFault}
 use Rattle.journal_records.specs.declared.fault.EmitFault.{EmitFault}

@@ -9,7 +9,7 @@ use Rattle.plan_places.specs.Places.{place_at}
 use Rattle.job_epochs.specs.Added.{add_cells}
 use Rattle.checkpoint_journal.specs.Cells.{body_cells}
 use Rattle.journal_image.specs.Image.{KeptEpoch}
-use Rattle.ranged_journal.specs.Standing.{JournalState}
+use Rattle.checkpoint_journal.specs.Standing.{JournalState}
 use Rattle.journal_records.specs.Kept.{added_kept}
 use Rattle.journal_records.specs.Places.{place_from}
 

@@ -12,8 +12,8 @@ use Rattle.job_plan.specs.Output.{head_of}
 use Rattle.job_epochs.specs.Sizes.{sizes_of}
 use Rattle.journal_image.specs.Image.{KeptEpoch, Keeps}
 use Rattle.checkpoint_journal.specs.Runs.{Looks}
-use Rattle.ranged_journal.specs.declared.fault.ReadFault.{ReadFault}
-use Rattle.ranged_journal.specs.Standing.{JournalState, Stands}
+use Rattle.checkpoint_journal.specs.declared.fault.ReadFault.{ReadFault}
+use Rattle.checkpoint_journal.specs.Standing.{JournalState, Stands}
 use Rattle.vis_writer.specs.declared.fault.WriteFault.{WriteFault}
 use Rattle.vis_writer.specs.Cells.{CellsOf}
 use Rattle.vis_writer.specs.Writes.{Writes}

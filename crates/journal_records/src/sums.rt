@@ -9,17 +9,17 @@ ghost use Rattle.piece_plan.specs.Order.{Place};
 ghost use Rattle.job_epochs.specs.Sizes.{size_of};
 ghost use Rattle.job_epochs.specs.Added.{add_cells, plus_wrapped, width_of};
 ghost use Rattle.journal_image.specs.Image.{KeptEpoch};
-ghost use Rattle.ranged_journal.specs.Standing.{StandsOn};
+ghost use Rattle.checkpoint_journal.specs.Standing.{StandsOn};
 ghost use Rattle.journal_records.specs.Kept.{kept_cells};
 ghost use Rattle.journal_records.specs.Places.{IsIntegration, place_from, place_of_integration};
 ghost use Rattle.journal_records.specs.Reading.{AddsNext, IsAdded};
 ghost use Rattle.journal_records.specs.Store.{store, IsCut, IsRoom, Tells, Reaches, Rests};
 
+use checkpoint_journal::{Journal, ReadFault};
 use corr_model::Cell;
 use dev_traits::Disk;
 use job_plan::{Plan, ScanPlan};
 use piece_plan::JobPlan;
-use ranged_journal::{Journal, ReadFault};
 
 // Sets `sums` to the cells of integration `m` of a scan: what those of its epochs add up to. The journal is read up to its first
 // epoch, and then up to its end. `body` has room for the cells of any epoch, and then has any cells.

@@ -7,7 +7,7 @@ ghost use Rattle.job_plan.specs.Output.{head_of, integrations_of};
 ghost use Rattle.job_epochs.specs.Sizes.{size_of};
 ghost use Rattle.job_epochs.specs.Added.{width_of};
 ghost use Rattle.checkpoint_journal.specs.Runs.{Looks};
-ghost use Rattle.ranged_journal.specs.Standing.{Stands, StandsOn};
+ghost use Rattle.checkpoint_journal.specs.Standing.{Stands, StandsOn};
 ghost use Rattle.vis_writer.specs.Cells.{all_cells, widest};
 ghost use Rattle.vis_writer.specs.Texts.{integration_at, scans_text, text_at};
 ghost use Rattle.journal_records.specs.Answer.{answer_with, fault_of};
@@ -19,11 +19,11 @@ ghost use Rattle.journal_records.specs.Store.{store, IsCut, IsRoom, Reaches, Wri
 
 use crate::EmitFault;
 use crate::sums::{sum_integration, width_of};
+use checkpoint_journal::{Journal, ReadFault};
 use corr_model::Cell;
 use dev_traits::{Disk, Sink};
 use job_plan::{Plan, ScanPlan};
 use piece_plan::JobPlan;
-use ranged_journal::{Journal, ReadFault};
 use ready_job::Ready;
 use std::alloc::Global;
 use vis_records::{VisHead, write_end, write_head};

@@ -1,27 +1,19 @@
 -- What is summed and read ahead, one round after another.
 use Rattle.std.specs.Prelude.{is_some, IfSome}
-use Rattle.std.proofs.Common.{◌≡◌, ◌∙◌, ℕ, ◌+◌, ◌-◌, ◌*◌, ◌<◌, ◌≤◌, true, false, List, length, Option, None, Some, option_map, sym, ap, subst, arith}
-use Rattle.dev_traits.specs.Told.{WhereTold}
-use Rattle.corr_model.specs.declared.cell.Pair.{Pair}
+use Rattle.std.proofs.Common.{◌≡◌, ◌∙◌, ℕ, ◌+◌, ◌-◌, ◌*◌, ◌<◌, ◌≤◌, true, false, Option, None, Some, option_map, sym, ap, subst, arith}
 use Rattle.corr_model.specs.Files.{Files}
 use Rattle.piece_plan.specs.declared.epoch.EpochPlan.{EpochPlan}
-use Rattle.piece_plan.specs.Epochs.{JobSizes, IsEpoch, IsOfPlan, cell_count}
+use Rattle.piece_plan.specs.Epochs.{JobSizes}
 use Rattle.piece_plan.specs.Order.{Place, place_of}
 use Rattle.plan_places.specs.declared.place.Place.{Place as Spot}
 use Rattle.plan_places.specs.Places.{place_at, IsPlace}
 use Rattle.plan_places.specs.Walk.{AreLeft, next_epoch}
-use Rattle.job_plan.specs.declared.plan.ScanPlan.{ScanPlan}
-use Rattle.job_plan.specs.declared.plan.Plan.{Plan}
-use Rattle.job_epochs.specs.Sums.{epoch_sums}
-use Rattle.epoch_run.specs.Planes.{planed}
-use Rattle.epoch_run.specs.Sums.{IsSummed, cells_in_epoch}
 use Rattle.ready_job.specs.declared.ready.Ready.{Ready}
 use Rattle.journal_rounds.specs.declared.values.Held.{Held}
 use Rattle.journal_rounds.specs.declared.sums.Summed.{Summed}
 use Rattle.journal_rounds.specs.declared.ahead.Ahead.{Ahead}
-use Rattle.journal_rounds.specs.Epochs.{IsOfScan, IsNext, behind}
+use Rattle.journal_rounds.specs.Epochs.{IsNext, behind}
 use Rattle.journal_rounds.specs.Ahead.{IsHeld, AreSumsOf, IsCut, IsAhead, epoch_read, epoch_summed, steps_done, steps_kept, kept_with}
-use Rattle.journal_rounds.proofs.EpochLemmas.{scan-one, groups-held, count-summed, cells-summed}
 use Rattle.journal_rounds.proofs.WalkLemmas.{left-behind}
 
 -- values of an epoch, whether the files are told or not
@@ -37,7 +29,7 @@ held-untold told ready (Some h) are = record {
 -- and sums
 pub sums-untold : (told : Option Files) (ready : Ready) (summed : Option Summed) → IfSome summed (AreSumsOf told ready) → IfSome summed (AreSumsOf None ready)
 sums-untold told ready None are = tt
-sums-untold told ready (Some s) are = record { fits = are.fits; of_plan = are.of_plan; count = are.count; cells = tt }
+sums-untold told ready (Some s) are = record { fits = are.fits; of_plan = are.of_plan; sums = record { count = are.sums.count; cells = tt } }
 
 -- the epoch that is summed begins at the place that is due
 pub begins-due : (told : Option Files) (ready : Ready) (epoch : ℕ) (due : Option Place) (summed : Option Summed) → IsNext ready.epochs epoch due (epoch_summed summed)
@@ -105,40 +97,6 @@ steps-fall None more None other left less some count on = omega (arith, done-mos
     done-most (Some a) b = omega arith
 steps-fall None more (Some h) other left less some count on = omega arith
 steps-fall (Some s) more held other left less some count on = omega arith
-
--- ---- the sums of the epoch that is read
-
--- its values are those from which it can be summed
-pub held-summed : (told : Option Files) (ready : Ready) (held : Held) (plan : Plan) (scan : ScanPlan) (pairs : List Pair) (piece : ℕ) → IsHeld told ready held → plan ≡ ready.plan
-    → IsOfScan plan scan held.epoch → pairs ≡ held.values.pairs.items → 64 ≤ piece → piece ≤ 4194304 → IsSummed pairs scan.samples held.epoch piece
-held-summed told ready held plan scan pairs piece is same of_scan pairs_are some most = record {
-  epoch = of_scan.of_scan.of_plan;
-  inside = of_scan.of_scan.inside;
-  scan = of_scan.ranges.samples;
-  groups = ap length pairs_are ∙ groups-held told ready.plan is.scan held.epoch held.values is.of_scan is.values;
-  some = some;
-  most = most;
-}
-
--- and the sums are those of the definition
-pub summed-held : (told : Option Files) (ready : Ready) (held : Held) (plan : Plan) (scan : ScanPlan) (pairs : List Pair) (s : Summed) → plan ≡ ready.plan → IsOfScan plan scan held.epoch
-    → pairs ≡ held.values.pairs.items → s.epoch ≡ held.epoch → s.sums.cells ≡ cells_in_epoch (planed held.values.planes) pairs scan.samples held.epoch
-    → IsHeld told ready held → AreSumsOf told ready s
-summed-held told ready held plan scan pairs s same of_scan pairs_are epoch cells is =
-    let e = held.epoch in
-    let v = held.values in
-    let here : IsOfScan ready.plan scan e = subst (λ (p : Plan). IsOfScan p scan e) same of_scan in
-    let one : scan ≡ is.scan = scan-one ready.plan scan is.scan e here is.of_scan in
-    let are : s.sums.cells ≡ cells_in_epoch (planed v.planes) v.pairs.items is.scan.samples e =
-    cells ∙ ap (λ (l : List Pair). cells_in_epoch (planed v.planes) l scan.samples e) pairs_are
-    ∙ ap (λ (x : ScanPlan). cells_in_epoch (planed v.planes) v.pairs.items x.samples e) one in
-    record {
-      fits = subst (IsEpoch ready.epochs) (sym epoch) is.fits;
-      of_plan = subst IsOfPlan (sym epoch) here.of_scan.of_plan;
-      count = count-summed told ready.plan is.scan e v s.sums.cells is.of_scan is.values are ∙ ap cell_count (sym epoch);
-      cells = subst (λ (x : EpochPlan). WhereTold told (λ (files : Files). s.sums.cells ≡ epoch_sums ready.plan files x)) (sym epoch)
-          (cells-summed told ready.plan is.scan e v s.sums.cells is.of_scan is.values are);
-    }
 
 -- ---- the first round
 

@@ -12,13 +12,12 @@ use Rattle.piece_plan.specs.Epochs.{JobSizes, IsJob}
 use Rattle.piece_plan.specs.Order.{place_of}
 use Rattle.plan_places.specs.Walk.{cut_at}
 use Rattle.checkpoint_journal.specs.Cells.{body_text}
-use Rattle.checkpoint_journal.specs.Runs.{Changes, StepTold}
+use Rattle.checkpoint_journal.specs.Runs.{Changes, StepTold, KeepsEpochs, AddsEpoch, IsOurs}
 use Rattle.checkpoint_journal.proofs.RunLemmas.{changes_both, runs_wider, told_value}
 use Rattle.journal_image.specs.Image.{KeptEpoch, IsIdentity, records, Keeps}
 use Rattle.journal_image.proofs.ReadingLemmas.{keeps_one}
-use Rattle.ranged_journal.specs.Kept.{kept_epoch, KeepsMany}
-use Rattle.ranged_journal.specs.Runs.{KeepsEpochs, AddsEpoch, IsOurs}
-use Rattle.ranged_journal.specs.Standing.{JournalState, Knows, Stands}
+use Rattle.checkpoint_journal.specs.Kept.{kept_epoch, KeepsMany}
+use Rattle.checkpoint_journal.specs.Standing.{JournalState, Knows, Stands}
 use Rattle.journal_rounds.specs.Extended.{BodyOf, IsSummed, Extends}
 
 module _ (Is : BodyOf) (id : List ℕ) (job : JobSizes) where

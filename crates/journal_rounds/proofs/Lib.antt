@@ -2,8 +2,6 @@ pub mod GateLemmas
 pub mod KeptLemmas
 pub mod WalkLemmas
 pub mod AheadLemmas
-pub mod CellsLemmas
-pub mod EpochLemmas
 pub mod ExtendLemmas
 pub mod RefusedLemmas
 pub mod RoomLemmas

@@ -2,7 +2,7 @@
 use Rattle.std.proofs.Common.{◌≡◌, inl, inr, ℕ, List, Option, None, Some, subst}
 use Rattle.dev_traits.specs.Told.{WhereTold}
 use Rattle.piece_plan.specs.Epochs.{JobSizes}
-use Rattle.ranged_journal.specs.Runs.{IsOurs}
+use Rattle.checkpoint_journal.specs.Runs.{IsOurs}
 use Rattle.journal_rounds.specs.declared.fault.ResumeFault.{ResumeFault}
 use Rattle.journal_rounds.specs.declared.fault.ResumeFault.TheVariants.{Memory, Other, Read, Journal}
 use Rattle.journal_rounds.specs.Counted.{CountsJournalFault}

@@ -8,14 +8,13 @@ use Rattle.piece_plan.specs.Order.{Place}
 use Rattle.plan_places.specs.Places.{place_at}
 use Rattle.plan_places.specs.Walk.{AreLeft, IsWalk}
 use Rattle.journal_rounds.proofs.WalkLemmas.{walk-alone}
-use Rattle.checkpoint_journal.specs.Runs.{StepTold}
+use Rattle.checkpoint_journal.specs.Runs.{StepTold, KeepsEpochs}
 use Rattle.journal_image.specs.Image.{Due, KeptEpoch, IsIdentity, records, Keeps, gate_of}
 use Rattle.journal_image.proofs.ReadingLemmas.{keeps_one}
-use Rattle.ranged_journal.specs.declared.fault.OpenFault.{OpenFault}
-use Rattle.ranged_journal.specs.declared.fault.OpenFault.TheVariants.{Disk, Other as OtherJob, Memory as NoMemory}
-use Rattle.ranged_journal.specs.Faults.{HasNoRoom, LacksRoom, CountsFault}
-use Rattle.ranged_journal.specs.Runs.{KeepsEpochs}
-use Rattle.ranged_journal.specs.Standing.{JournalState, Knows}
+use Rattle.checkpoint_journal.specs.declared.fault.OpenFault.{OpenFault}
+use Rattle.checkpoint_journal.specs.declared.fault.OpenFault.TheVariants.{Disk, Other as OtherJob, Memory as NoMemory}
+use Rattle.checkpoint_journal.specs.Faults.{HasNoRoom, LacksRoom, CountsFault}
+use Rattle.checkpoint_journal.specs.Standing.{JournalState, Knows}
 use Rattle.journal_rounds.specs.Counted.{IsFull, CountsJournalFault}
 use Rattle.journal_rounds.specs.Extended.{BodyOf, Extends}
 use Rattle.journal_rounds.specs.Room.{IsLong, HasNoPlace}

@@ -1,20 +1,20 @@
 -- What is summed and read ahead of the epochs that are kept.
-use Rattle.std.specs.Prelude.{◌≡◌, ℕ, ◌+◌, ◌*◌, ◌-◌, length, option_map, Option, None, Some, IfSome}
-use Rattle.dev_traits.specs.Told.{WhereTold}
+use Rattle.std.specs.Prelude.{◌≡◌, ℕ, ◌+◌, ◌*◌, ◌-◌, option_map, Option, None, Some, IfSome}
 use Rattle.corr_model.specs.Files.{Files}
 use Rattle.piece_plan.specs.declared.epoch.EpochPlan.{EpochPlan}
-use Rattle.piece_plan.specs.Epochs.{JobSizes, IsEpoch, IsOfPlan, cell_count}
+use Rattle.piece_plan.specs.Epochs.{JobSizes, IsEpoch, IsOfPlan}
 use Rattle.piece_plan.specs.Order.{Place, place_of}
 use Rattle.plan_places.specs.Places.{place_at, IsPlace}
 use Rattle.plan_places.specs.Walk.{cut_at}
 use Rattle.job_plan.specs.declared.plan.ScanPlan.{ScanPlan}
-use Rattle.job_epochs.specs.Sums.{epoch_sums}
 use Rattle.ready_job.specs.declared.ready.Ready.{Ready}
+use Rattle.run_sums.specs.Found.{IsOfScan}
 use Rattle.run_sums.specs.Reach.{HoldsEpoch}
+use Rattle.run_sums.specs.Sums.{AreSums}
 use Rattle.journal_rounds.specs.declared.values.Held.{Held}
 use Rattle.journal_rounds.specs.declared.sums.Summed.{Summed}
 use Rattle.journal_rounds.specs.declared.ahead.Ahead.{Ahead}
-use Rattle.journal_rounds.specs.Epochs.{IsOfScan, IsNext, behind}
+use Rattle.journal_rounds.specs.Epochs.{IsNext, behind}
 
 -- values of an epoch of the job, at the samples that its lags reach where the files are told
 pub record IsHeld (told : Option Files) (ready : Ready) (held : Held) : Type 0 where
@@ -23,12 +23,11 @@ pub record IsHeld (told : Option Files) (ready : Ready) (held : Held) : Type 0 w
   pub of_scan : IsOfScan ready.plan scan held.epoch
   pub values : HoldsEpoch told ready.plan scan held.epoch held.values
 
--- sums of an epoch of the job: a cell for each of its cells, and where the files are told, the cells of the definition
+-- sums of an epoch of the job
 pub record AreSumsOf (told : Option Files) (ready : Ready) (s : Summed) : Type 0 where
   pub fits : IsEpoch ready.epochs s.epoch
   pub of_plan : IsOfPlan s.epoch
-  pub count : length s.sums.cells ≡ cell_count s.epoch
-  pub cells : WhereTold told (λ files. s.sums.cells ≡ epoch_sums ready.plan files s.epoch)
+  pub sums : AreSums told ready.plan s.epoch s.sums
 
 -- the epoch of sums is the one of this length that begins where it does
 abbrev pub IsCut : JobSizes → ℕ → Summed → Type 0

@@ -3,7 +3,7 @@ use Rattle.std.specs.Prelude.{◌≡◌, ◌⊎◌, ℕ, ◌+◌, ◌*◌, ◌�
 use Rattle.dev_traits.specs.Fault.{HasRisen}
 use Rattle.piece_plan.specs.Epochs.{JobSizes}
 use Rattle.journal_image.specs.Image.{Reading, Reads, gate_of}
-use Rattle.ranged_journal.specs.Faults.{HasNoRoom}
+use Rattle.checkpoint_journal.specs.Faults.{HasNoRoom}
 use Rattle.journal_rounds.specs.declared.fault.ResumeFault.{ResumeFault}
 use Rattle.journal_rounds.specs.declared.fault.ResumeFault.TheVariants.{Memory, Other, Read, Journal}
 

@@ -1,25 +1,9 @@
 -- The epochs of the rest of a job, one behind another.
-use Rattle.std.specs.Prelude.{◌≡◌, ⊤, ℕ, Option, None, Some, slice_get}
+use Rattle.std.specs.Prelude.{◌≡◌, ⊤, ℕ, Option, None, Some}
 use Rattle.piece_plan.specs.declared.epoch.EpochPlan.{EpochPlan}
-use Rattle.piece_plan.specs.Epochs.{JobSizes, IsEpoch}
+use Rattle.piece_plan.specs.Epochs.{JobSizes}
 use Rattle.piece_plan.specs.Order.{Place, place_of, place_after}
 use Rattle.plan_places.specs.Walk.{next_epoch}
-use Rattle.job_plan.specs.declared.plan.ScanPlan.{ScanPlan}
-use Rattle.job_plan.specs.declared.plan.Plan.{Plan}
-use Rattle.job_plan.specs.Ranges.{IsScanPlan}
-use Rattle.run_sums.specs.Found.{IsEpochOf}
-
--- an epoch of this scan, which is the one of that number in the plan
-pub record IsOfScan (plan : Plan) (scan : ScanPlan) (e : EpochPlan) : Type 0 where
-  pub there : slice_get plan.scans e.scan ≡ Some scan
-  pub of_scan : IsEpochOf plan scan e
-  pub ranges : IsScanPlan plan scan
-
--- an epoch of the job, of some scan of its plan
-pub record IsOfJob (plan : Plan) (job : JobSizes) (e : EpochPlan) : Type 0 where
-  pub fits : IsEpoch job e
-  pub scan : ScanPlan
-  pub of_scan : IsOfScan plan scan e
 
 -- an epoch is the next one of a walk that stands at its first sample
 pub record IsNextAt (job : JobSizes) (epoch : ℕ) (due : Option Place) (e : EpochPlan) : Type 0 where

@@ -11,7 +11,7 @@ use Rattle.job_plan.specs.declared.plan.Plan.{Plan}
 use Rattle.job_epochs.specs.Sums.{epoch_sums}
 use Rattle.checkpoint_journal.specs.Cells.{body_text}
 use Rattle.journal_image.specs.Image.{KeptEpoch, Keeps}
-use Rattle.ranged_journal.specs.Runs.{KeepsEpochs}
+use Rattle.checkpoint_journal.specs.Runs.{KeepsEpochs}
 
 -- what the body of an epoch may be
 abbrev pub BodyOf : Type 1

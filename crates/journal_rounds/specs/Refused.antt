@@ -2,11 +2,10 @@
 use Rattle.std.specs.Prelude.{◌≡◌, ◌⊎◌, ⊤, ℕ, ◌+◌, List, Option, None, Some}
 use Rattle.dev_traits.specs.Told.{WhereTold}
 use Rattle.piece_plan.specs.Epochs.{JobSizes}
-use Rattle.checkpoint_journal.specs.Runs.{StepTold}
+use Rattle.checkpoint_journal.specs.Runs.{StepTold, KeepsEpochs, IsOurs}
 use Rattle.journal_image.specs.declared.difference.Differs.{Differs}
-use Rattle.ranged_journal.specs.Finding.{IsOther}
-use Rattle.ranged_journal.specs.Runs.{KeepsEpochs, IsOurs}
-use Rattle.ranged_journal.specs.Kept.{KeepsMany}
+use Rattle.checkpoint_journal.specs.Finding.{IsOther}
+use Rattle.checkpoint_journal.specs.Kept.{KeepsMany}
 use Rattle.journal_rounds.specs.declared.fault.ResumeFault.{ResumeFault}
 use Rattle.journal_rounds.specs.declared.fault.ResumeFault.TheVariants.{Memory, Other, Read, Journal}
 

@@ -5,8 +5,8 @@ use Rattle.piece_plan.specs.Epochs.{JobSizes}
 use Rattle.piece_plan.specs.Order.{Place}
 use Rattle.plan_places.specs.Walk.{AreLeft}
 use Rattle.journal_image.specs.Image.{KeptEpoch, Keeps}
-use Rattle.ranged_journal.specs.declared.fault.OpenFault.{OpenFault}
-use Rattle.ranged_journal.specs.declared.fault.OpenFault.TheVariants.{Disk, Other as OtherJob, Memory as NoMemory}
+use Rattle.checkpoint_journal.specs.declared.fault.OpenFault.{OpenFault}
+use Rattle.checkpoint_journal.specs.declared.fault.OpenFault.TheVariants.{Disk, Other as OtherJob, Memory as NoMemory}
 use Rattle.journal_rounds.specs.declared.fault.ResumeFault.{ResumeFault}
 use Rattle.journal_rounds.specs.declared.fault.ResumeFault.TheVariants.{Memory, Other, Read, Journal}
 use Rattle.journal_rounds.specs.Counted.{IsFull}

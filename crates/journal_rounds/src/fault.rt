@@ -2,8 +2,8 @@
 ghost use Rattle.std.specs.Prelude.{◌≡◌};
 ghost use Rattle.journal_rounds.specs.Steps.{opening_fault};
 
+use checkpoint_journal::OpenFault;
 use journal_image::Differs;
-use ranged_journal::OpenFault;
 use thiserror::Error;
 
 /// Why a journal is not brought to its job's end.

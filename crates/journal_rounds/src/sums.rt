@@ -3,13 +3,12 @@ ghost use Rattle.std.specs.Prelude.{◌≡◌, ◌≤◌, IfOk, IfSome, None, Op
 ghost use Rattle.corr_model.specs.Files.{Files};
 ghost use Rattle.journal_rounds.specs.Ahead.{AreSumsOf, IsHeld, epoch_read, epoch_summed};
 
-use crate::epochs::scan_of;
 use crate::values::Held;
 use atomic_sums::EpochSums;
 use dev_traits::Gate;
-use epoch_run::sum_planes;
 use piece_plan::EpochPlan;
 use ready_job::Ready;
+use run_sums::sum;
 use std::alloc::{AllocError, Global};
 use std::thread::Threads;
 
@@ -20,7 +19,7 @@ pub(crate) struct Summed {
     pub(crate) sums: EpochSums,
 }
 
-/// The sums of the epoch that is read, where one is. `workers` and `piece` are as for `sum_planes`.
+/// The sums of the epoch that is read, where one is. `workers` and `piece` are as for `sum`.
 pub(crate) fn sum_held<R: Threads + Sync, G: Gate + Sync>(
     rt: &R,
     alloc: Global,
@@ -60,17 +59,6 @@ fn sum_epoch<R: Threads + Sync, G: Gate + Sync>(
     ensures sums { IfOk result (λ s. (told : Option Files) → IsHeld told ready.now held.now → AreSumsOf told ready.now s) }
 {
     let epoch = held.epoch;
-    let scan = scan_of(ready.plan.plan(), &epoch);
-    let sums = sum_planes(
-        rt,
-        alloc,
-        &held.values.planes,
-        &held.values.pairs,
-        scan.samples,
-        &epoch,
-        piece,
-        workers,
-        gate,
-    )?;
+    let sums = sum(rt, alloc, ready, &held.values, &epoch, workers, piece, gate)?;
     Ok(Summed { epoch, sums })
 }

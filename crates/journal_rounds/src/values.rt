@@ -4,15 +4,16 @@ ghost use Rattle.dev_traits.specs.Told.{WhereTold};
 ghost use Rattle.station_stream.specs.Faults.{CountsReads};
 ghost use Rattle.station_stream.specs.Recorded.{AreRecorded};
 ghost use Rattle.plan_places.specs.Places.{place_at, IsPlace};
-ghost use Rattle.journal_rounds.specs.Epochs.{IsOfJob, IsNext};
+ghost use Rattle.run_sums.specs.Found.{IsOfJob};
+ghost use Rattle.journal_rounds.specs.Epochs.{IsNext};
 ghost use Rattle.journal_rounds.specs.Ahead.{IsHeld, epoch_read};
 
-use crate::epochs::{epoch_from, scan_of};
+use crate::epochs::epoch_from;
 use dev_traits::Shelf;
 use piece_plan::EpochPlan;
 use plan_places::Place;
 use ready_job::Ready;
-use run_sums::{EpochValues, Spare, reach_epoch};
+use run_sums::{EpochValues, Spare, reach_epoch, scan_of};
 use station_stream::StreamFault;
 use std::alloc::Global;
 

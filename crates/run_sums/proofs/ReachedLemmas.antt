@@ -1,6 +1,5 @@
 -- Planes that are filled at the samples that the lags of an epoch reach are those from which it is summed.
-use Rattle.std.specs.Prelude.{IfOk, Result, Ok, Err}
-use Rattle.std.proofs.Common.{◌≡◌, ℕ, ℤ, List, length, Option, subst, ◌∙◌}
+use Rattle.std.proofs.Common.{◌≡◌, ℕ, List, length, Option, subst}
 use Rattle.std.proofs.lemmas.Option.{slice_get_within}
 use Rattle.dev_traits.specs.Told.{WhereTold}
 use Rattle.corr_model.specs.Files.{Files}
@@ -9,14 +8,10 @@ use Rattle.bit_planes.specs.Planes.{PlanesFields}
 use Rattle.piece_plan.specs.declared.epoch.EpochPlan.{EpochPlan}
 use Rattle.job_plan.specs.declared.plan.ScanPlan.{ScanPlan}
 use Rattle.job_plan.specs.declared.plan.Plan.{Plan}
-use Rattle.station_stream.specs.declared.fault.StreamFault.{StreamFault}
-use Rattle.epoch_run.specs.Planes.{planed}
-use Rattle.ready_job.specs.declared.ready.Ready.{Ready}
 use Rattle.run_sums.specs.declared.values.EpochValues.{EpochValues}
-use Rattle.run_sums.specs.Found.{IsFound}
 use Rattle.run_sums.specs.Pairs.{pairs_in}
 use Rattle.run_sums.specs.Parts.{HoldParts}
-use Rattle.run_sums.specs.Reach.{reach_from, reach_to, AreReached, HoldsEpoch, IsReached}
+use Rattle.run_sums.specs.Reach.{reach_from, reach_to, AreReached, HoldsEpoch}
 
 -- the planes of all stations
 AreReached-filled : (plan : Plan) (scan : ScanPlan) (e : EpochPlan) (planes : List (List PlanesFields)) (files : Files)
@@ -40,21 +35,3 @@ HoldsEpoch-filled told plan plan' e scan from to v same begin end pairs count ho
       count = count;
       values = subst (λ (p : Plan). WhereTold told (AreReached p scan e v.planes)) same reached;
     }
-
--- values of the epoch with a number
-IsReached-held : (told : Option Files) (ready : Ready) (plan : Plan) (i : ℕ) (e : EpochPlan) (scan : ScanPlan) (v : EpochValues)
-    → plan ≡ ready.plan → IsFound plan ready.epochs i e scan → HoldsEpoch told ready.plan scan e v → IsReached told ready i v
-IsReached-held told ready plan i e scan v same found holds = record {
-  epoch = e;
-  scan = scan;
-  found = subst (λ (p : Plan). IsFound p ready.epochs i e scan) same found;
-  pairs = holds.pairs;
-  count = holds.count;
-  values = holds.values;
-}
-
--- the same of what a read gives
-pub IsReached-result : (told : Option Files) (ready : Ready) (plan : Plan) (i : ℕ) (e : EpochPlan) (scan : ScanPlan) (r : Result EpochValues StreamFault)
-    → plan ≡ ready.plan → IsFound plan ready.epochs i e scan → IfOk r (λ v. HoldsEpoch told ready.plan scan e v) → IfOk r (λ v. IsReached told ready i v)
-IsReached-result told ready plan i e scan (Ok v) same found holds = IsReached-held told ready plan i e scan v same found holds
-IsReached-result told ready plan i e scan (Err fault) same found holds = tt

@@ -1,14 +1,14 @@
 -- The sums of an epoch from the planes of its scan's stations are those of the plan's definition.
-use Rattle.std.specs.Prelude.{flat_map, option_map, slice_get, IfSome}
+use Rattle.std.specs.Prelude.{flat_map}
 use Rattle.std.specs.List.{range_with_len}
 use Rattle.std.specs.Option.{option_map_or}
-use Rattle.std.proofs.Common.{◌≡◌, ℕ, ◌*◌, ◌<◌, ◌≤◌, pos, ◌+ℤ◌, true, List, [], ◌∷◌, ◌++◌, length, map, Option, Some, None, refl, sym, ap, subst, ◌∙◌, arith}
+use Rattle.std.proofs.Common.{◌≡◌, ℕ, ◌*◌, ◌<◌, ◌≤◌, pos, ◌+ℤ◌, true, List, [], ◌∷◌, ◌++◌, length, map, Option, refl, sym, ap, ◌∙◌, arith}
 use Rattle.std.proofs.lemmas.List.{length-append, length-map}
 use Rattle.std.proofs.lemmas.List.Concat.{flat_map-append}
 use Rattle.std.proofs.lemmas.List.Folds.{flat_map-map}
 use Rattle.std.proofs.lemmas.List.FromFn.{length-map-range_with_len, get_or-map-range_with_len, fill_by_all}
-use Rattle.std.proofs.lemmas.Option.{same_Some, slice_get_within}
 use Rattle.dev_traits.specs.Told.{WhereTold}
+use Rattle.atomic_sums.specs.Sums.{EpochCells}
 use Rattle.bit_planes.specs.Planes.{PlanesFields}
 use Rattle.frame_index.proofs.ToldLemmas.{WhereTold-weaker}
 use Rattle.corr_model.specs.declared.cell.Cell.{Cell}
@@ -18,24 +18,22 @@ use Rattle.corr_model.specs.Files.{Files}
 use Rattle.corr_model.specs.Lags.{lag_of}
 use Rattle.corr_model.proofs.CellLemmas.{cell_in-values}
 use Rattle.piece_plan.specs.declared.epoch.EpochPlan.{EpochPlan}
-use Rattle.piece_plan.specs.Epochs.{JobSizes, epochs_of, cell_count}
-use Rattle.checkpoint_journal.specs.Image.{cells_of_epoch}
+use Rattle.piece_plan.specs.Epochs.{cell_count}
 use Rattle.job_plan.specs.declared.plan.ProductPlan.{ProductPlan}
 use Rattle.job_plan.specs.declared.plan.BaselinePlan.{BaselinePlan}
 use Rattle.job_plan.specs.declared.plan.ScanPlan.{ScanPlan}
 use Rattle.job_plan.specs.declared.plan.Plan.{Plan}
 use Rattle.job_plan.specs.Values.{rotated}
-use Rattle.job_epochs.specs.Sums.{pair_of, lag_cells, baseline_cells, range_cells, epoch_sums, sums_of}
-use Rattle.job_epochs.specs.Sizes.{sizes_of}
+use Rattle.job_epochs.specs.Sums.{pair_of, lag_cells, baseline_cells, range_cells, epoch_sums}
 use Rattle.epoch_run.specs.Planes.{planed}
-use Rattle.epoch_run.specs.Sums.{pair_cells, cells_in_epoch}
-use Rattle.run_sums.specs.Found.{IsEpochOf, IsFound}
-use Rattle.ready_job.specs.declared.ready.Ready.{Ready}
+use Rattle.epoch_run.specs.Sums.{IsSummed, pair_cells, cells_in_epoch}
+use Rattle.run_sums.specs.Found.{IsEpochOf, IsOfScan}
 use Rattle.run_sums.specs.declared.values.EpochValues.{EpochValues}
-use Rattle.run_sums.specs.Reach.{AreReached, HaveGroups, IsReached}
+use Rattle.run_sums.specs.Reach.{AreReached, HoldsEpoch}
+use Rattle.run_sums.specs.Sums.{AreSums}
 use Rattle.run_sums.specs.Pairs.{place_in, placed_pair, pairs_in}
 use Rattle.run_sums.proofs.PlaceLemmas.{planed-place}
-use Rattle.run_sums.proofs.FoundLemmas.{same-epoch, same-scan}
+use Rattle.run_sums.proofs.FoundLemmas.{scan-one}
 use Rattle.run_sums.proofs.ReachLemmas.{inside-epoch, inside-lagged}
 
 -- ---- lists of lists
@@ -130,60 +128,53 @@ range_cells-reached plan scan e planes files is count are =
     ∙ flat_map-same (λ b. cells (placed_pair scan p b)) (lag_cells plan z scan e.from e.to p) scan.baselines
     (λ b. pair_cells-reached plan scan e planes files p b is count are))
 
--- ---- the epoch with a number
+-- ---- the sums of an epoch
 
-pub sums_of-reached : (plan : Plan) (job : JobSizes) (i : ℕ) (e : EpochPlan) (scan : ScanPlan) (planes : List (List PlanesFields)) (files : Files) (sums : List Cell)
-    → IsFound plan job i e scan → job ≡ sizes_of plan → length planes ≡ length scan.stays
-    → sums ≡ cells_in_epoch (planed planes) (pairs_in plan scan) scan.samples e
-    → AreReached plan scan e planes files → sums ≡ sums_of plan files i
-sums_of-reached plan job i e scan planes files sums found cut count are_cells are =
-    let at : slice_get (epochs_of (sizes_of plan)) i ≡ Some e = ap (λ (j : JobSizes). slice_get (epochs_of j) i) (sym cut) ∙ found.at in
-    are_cells ∙ range_cells-reached plan scan e planes files found.of_scan count are
-    ∙ sym (ap (λ o. option_map_or (epoch_sums plan files) o []) at
-    ∙ ap (λ o. option_map_or (λ (s : ScanPlan). range_cells plan (rotated plan files s) s e.from e.to) o []) found.there)
-
--- the same of planes from which the epoch is summed, whichever way the epoch is found
-pub sums_of-values : (told : Option Files) (ready : Ready) (plan : Plan) (i : ℕ) (e : EpochPlan) (scan : ScanPlan) (v : EpochValues) (sums : List Cell)
-    → plan ≡ ready.plan → IsFound plan ready.epochs i e scan
-    → sums ≡ cells_in_epoch (planed v.planes) v.pairs.items scan.samples e
-    → IsReached told ready i v → WhereTold told (λ (files : Files). sums ≡ sums_of ready.plan files i)
-sums_of-values told ready plan i e scan v sums same found are_cells reached =
-    let z : Samples = planed v.planes in
-    let pairs : List Pair = pairs_in ready.plan reached.scan in
-    let here : IsFound ready.plan ready.epochs i e scan = subst (λ (p : Plan). IsFound p ready.epochs i e scan) same found in
-    let epoch = same-epoch ready.plan ready.epochs i e reached.epoch scan reached.scan here reached.found in
-    let of = same-scan ready.plan ready.epochs i e reached.epoch scan reached.scan here reached.found in
-    let cells : sums ≡ cells_in_epoch z pairs reached.scan.samples reached.epoch =
-    are_cells ∙ ap (λ (ps : List Pair). cells_in_epoch z ps scan.samples e) reached.pairs
-    ∙ ap (λ (s : ScanPlan). cells_in_epoch z pairs s.samples e) of
-    ∙ ap (λ (x : EpochPlan). cells_in_epoch z pairs reached.scan.samples x) epoch in
-    WhereTold-weaker told (AreReached ready.plan reached.scan reached.epoch v.planes) (λ (files : Files). sums ≡ sums_of ready.plan files i)
-    (λ files are. sums_of-reached ready.plan ready.epochs i reached.epoch reached.scan v.planes files sums reached.found ready.cut reached.count cells are)
-    reached.values
+-- a pair for each group
+groups-held : (told : Option Files) (plan : Plan) (scan : ScanPlan) (e : EpochPlan) (v : EpochValues) → IsOfScan plan scan e → HoldsEpoch told plan scan e v
+    → length v.pairs.items ≡ e.products * e.baselines
+groups-held told plan scan e v is holds = ap length holds.pairs ∙ length-pairs_in_epoch plan scan e is.of_scan
 
 -- a cell for each lag of each group
-pub cells_of_epoch-found : (job : JobSizes) (i : ℕ) (e : EpochPlan) (z : Samples) (pairs : List Pair) (samples : ℕ) (sums : List Cell)
-    → slice_get (epochs_of job) i ≡ Some e → length pairs ≡ e.products * e.baselines → sums ≡ cells_in_epoch z pairs samples e
-    → cells_of_epoch job i ≡ Some (length sums)
-cells_of_epoch-found job i e z pairs samples sums at groups are_cells =
-    ap (option_map cell_count) at
-    ∙ ap Some (sym (ap length are_cells ∙ length-cells_in_epoch z pairs samples e ∙ ap (λ n. n * e.lags) groups))
+count-summed : (told : Option Files) (plan : Plan) (scan : ScanPlan) (e : EpochPlan) (v : EpochValues) (cells : List Cell) → IsOfScan plan scan e → HoldsEpoch told plan scan e v
+    → cells ≡ cells_in_epoch (planed v.planes) v.pairs.items scan.samples e → length cells ≡ cell_count e
+count-summed told plan scan e v cells is holds are =
+    ap length are ∙ length-cells_in_epoch (planed v.planes) v.pairs.items scan.samples e ∙ ap (λ (n : ℕ). n * e.lags) (groups-held told plan scan e v is holds)
 
--- ---- the pairs of the epoch that is read
+-- the cells of the definition
+cells-summed : (told : Option Files) (plan : Plan) (scan : ScanPlan) (e : EpochPlan) (v : EpochValues) (cells : List Cell) → IsOfScan plan scan e → HoldsEpoch told plan scan e v
+    → cells ≡ cells_in_epoch (planed v.planes) v.pairs.items scan.samples e → WhereTold told (λ (files : Files). cells ≡ epoch_sums plan files e)
+cells-summed told plan scan e v cells is holds are =
+    WhereTold-weaker told (AreReached plan scan e v.planes) (λ (files : Files). cells ≡ epoch_sums plan files e)
+    (λ files reached.
+    are ∙ ap (λ pairs. cells_in_epoch (planed v.planes) pairs scan.samples e) holds.pairs
+    ∙ range_cells-reached plan scan e v.planes files is.of_scan holds.count reached
+    ∙ sym (ap (λ (o : Option ScanPlan). option_map_or (λ (s : ScanPlan). range_cells plan (rotated plan files s) s e.from e.to) o []) is.there))
+    holds.values
 
-pub groups-reached : (told : Option Files) (ready : Ready) (i : ℕ) (v : EpochValues) → IsReached told ready i v → HaveGroups ready i v
-groups-reached told ready i v reached e at =
-    let same : reached.epoch ≡ e = same_Some reached.epoch e (sym reached.found.at ∙ at) in
-    ap length reached.pairs ∙ length-pairs_in_epoch ready.plan reached.scan reached.epoch reached.found.of_scan
-    ∙ ap (λ (x : EpochPlan). x.products * x.baselines) same
+-- an epoch can be summed from values that it is held by
+pub held-summed : (told : Option Files) (plan : Plan) (scan held : ScanPlan) (e : EpochPlan) (v : EpochValues) (pairs : List Pair) (piece : ℕ)
+    → IsOfScan plan scan e → IsOfScan plan held e → HoldsEpoch told plan held e v → pairs ≡ v.pairs.items
+    → 64 ≤ piece → piece ≤ 4194304 → IsSummed pairs scan.samples e piece
+held-summed told plan scan held e v pairs piece of_scan is holds pairs_are some most = record {
+  epoch = of_scan.of_scan.of_plan;
+  inside = of_scan.of_scan.inside;
+  scan = of_scan.ranges.samples;
+  groups = ap length pairs_are ∙ groups-held told plan held e v is holds;
+  some = some;
+  most = most;
+}
 
--- the same where values are there
-pub groups_held : (told : Option Files) (ready : Ready) (i : ℕ) (o : Option EpochValues) → IfSome o (IsReached told ready i) → IfSome o (HaveGroups ready i)
-groups_held told ready i None reached = tt
-groups_held told ready i (Some v) reached = groups-reached told ready i v reached
-
--- an epoch that is read is one of the job
-pub inside_held : (told : Option Files) (ready : Ready) (i : ℕ) (o : Option EpochValues) → IfSome o (IsReached told ready i)
-    → IfSome o (λ v. i < length (epochs_of ready.epochs))
-inside_held told ready i None reached = tt
-inside_held told ready i (Some v) reached = slice_get_within (epochs_of ready.epochs) i reached.epoch reached.found.at
+-- and the sums are those of the definition, whichever way its scan is found
+pub summed-held : (told : Option Files) (plan : Plan) (scan held : ScanPlan) (e : EpochPlan) (v : EpochValues) (pairs : List Pair) (sums : EpochCells)
+    → IsOfScan plan scan e → pairs ≡ v.pairs.items → sums.cells ≡ cells_in_epoch (planed v.planes) pairs scan.samples e
+    → IsOfScan plan held e → HoldsEpoch told plan held e v → AreSums told plan e sums
+summed-held told plan scan held e v pairs sums of_scan pairs_are cells is holds =
+    let one : scan ≡ held = scan-one plan scan held e of_scan is in
+    let are : sums.cells ≡ cells_in_epoch (planed v.planes) v.pairs.items held.samples e =
+    cells ∙ ap (λ (l : List Pair). cells_in_epoch (planed v.planes) l scan.samples e) pairs_are
+    ∙ ap (λ (x : ScanPlan). cells_in_epoch (planed v.planes) v.pairs.items x.samples e) one in
+    record {
+      count = count-summed told plan held e v sums.cells is holds are;
+      cells = cells-summed told plan held e v sums.cells is holds are;
+    }

@@ -2,4 +2,4 @@ pub mod Found
 pub mod Pairs
 pub mod Parts
 pub mod Reach
-pub mod Ahead
+pub mod Sums

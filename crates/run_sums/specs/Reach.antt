@@ -1,18 +1,15 @@
 -- The samples that the lags of an epoch reach, and planes of their values.
-use Rattle.std.specs.Prelude.{◌≡◌, ℕ, ◌+◌, ◌*◌, ◌-◌, ◌/◌, min, length, List, Option, Some, slice_get, ℤ, pos, ◌≤ℤ◌, ◌<ℤ◌}
+use Rattle.std.specs.Prelude.{◌≡◌, ℕ, ◌+◌, ◌-◌, ◌/◌, min, length, List, Option, Some, slice_get, ℤ, pos, ◌≤ℤ◌, ◌<ℤ◌}
 use Rattle.dev_traits.specs.Told.{WhereTold}
 use Rattle.corr_model.specs.Files.{Files}
 use Rattle.bit_planes.specs.Planes.{PlanesFields}
 use Rattle.piece_plan.specs.declared.epoch.EpochPlan.{EpochPlan}
-use Rattle.piece_plan.specs.Epochs.{epochs_of}
 use Rattle.job_plan.specs.declared.plan.StayPlan.{StayPlan}
 use Rattle.job_plan.specs.declared.plan.ScanPlan.{ScanPlan}
 use Rattle.job_plan.specs.declared.plan.Plan.{Plan}
 use Rattle.job_plan.specs.Values.{stay_value}
 use Rattle.epoch_run.specs.Planes.{planed}
-use Rattle.ready_job.specs.declared.ready.Ready.{Ready}
 use Rattle.run_sums.specs.declared.values.EpochValues.{EpochValues}
-use Rattle.run_sums.specs.Found.{IsFound}
 use Rattle.run_sums.specs.Pairs.{pairs_in}
 
 -- the first of them, not before the scan: the least lag is half their number below 0
@@ -29,23 +26,9 @@ AreReached plan scan e planes files =
     (place chan : ℕ) (stay : StayPlan) (n : ℤ) → slice_get scan.stays place ≡ Some stay → pos (reach_from e) ≤ℤ n → n <ℤ pos (reach_to e scan.samples)
     → planed planes place chan n ≡ stay_value plan files scan stay chan n
 
--- a pair for each group of epoch i
-abbrev pub HaveGroups : Ready → ℕ → EpochValues → Type 0
-HaveGroups ready i v = (e : EpochPlan) → slice_get (epochs_of ready.epochs) i ≡ Some e → length v.pairs.items ≡ e.products * e.baselines
-
 -- Values from which an epoch of a scan is summed: the pairs of the scan, and planes for each of its stations. Where the files are
 -- told, these hold the values of the scan at the samples that the epoch's lags reach.
 pub record HoldsEpoch (told : Option Files) (plan : Plan) (scan : ScanPlan) (e : EpochPlan) (v : EpochValues) : Type 0 where
   pub pairs : v.pairs.items ≡ pairs_in plan scan
   pub count : length v.planes ≡ length scan.stays
   pub values : WhereTold told (AreReached plan scan e v.planes)
-
--- Values from which epoch i of the job is summed: the pairs of its scan, and planes for each of the scan's stations. Where the
--- files are told, these hold the values of the scan at the samples that the epoch's lags reach.
-pub record IsReached (told : Option Files) (ready : Ready) (i : ℕ) (v : EpochValues) : Type 0 where
-  pub epoch : EpochPlan
-  pub scan : ScanPlan
-  pub found : IsFound ready.plan ready.epochs i epoch scan
-  pub pairs : v.pairs.items ≡ pairs_in ready.plan scan
-  pub count : length v.planes ≡ length scan.stays
-  pub values : WhereTold told (AreReached ready.plan scan epoch v.planes)

@@ -1,14 +1,12 @@
 //! The epoch that is read.
-ghost use Rattle.std.specs.Prelude.{◌≡◌, ◌<◌, ◌≤◌, IfOk, Some, length, slice_get};
+ghost use Rattle.std.specs.Prelude.{◌≡◌, IfOk, Some, slice_get};
 ghost use Rattle.dev_traits.specs.Told.{WhereTold};
-ghost use Rattle.piece_plan.specs.Epochs.{epochs_of};
 ghost use Rattle.station_stream.specs.Faults.{CountsReads};
 ghost use Rattle.station_stream.specs.Recorded.{AreRecorded};
 ghost use Rattle.job_plan.specs.Ranges.{IsScanPlan};
 ghost use Rattle.run_sums.specs.Found.{IsEpochOf};
-ghost use Rattle.run_sums.specs.Reach.{HoldsEpoch, IsReached};
+ghost use Rattle.run_sums.specs.Reach.{HoldsEpoch};
 
-use crate::epochs::found;
 use crate::pairs::pairs_of;
 use crate::parts::{fill_stations, room_for};
 use crate::spare::Spare;
@@ -21,29 +19,9 @@ use ready_job::Ready;
 use station_stream::StreamFault;
 use std::alloc::Global;
 
-/// Reads the values of the samples that the lags of epoch `i` reach, part by part, and makes their planes, in room of `spare` where
-/// there is such. Epochs are counted from 0 through all scans and integrations of the job. The memory for pairs and planes is taken
-/// before the first read, and that for frames and codes as they are read.
-pub fn reach<F: Shelf>(
-    alloc: Global,
-    spare: &mut Spare,
-    ready: &Ready,
-    shelf: &mut F,
-    i: u64,
-) -> Result<EpochValues, StreamFault>
-    requires recorded { WhereTold (F.told shelf.old) (λ files. AreRecorded files ready.now.plan.stations ready.now.recordings.items) }
-    requires inside { i < length (epochs_of ready.now.epochs) }
-    ensures same { F.told shelf.new ≡ F.told shelf.old }
-    ensures values { IfOk result (λ v. IsReached (F.told shelf.old) ready.now i v) }
-    ensures counts { CountsReads (F.faults shelf.old) (F.faults shelf.new) result }
-{
-    let plan = ready.plan.plan();
-    let (e, scan) = found(plan, &ready.epochs, i);
-    reach_epoch(alloc, spare, ready, shelf, scan, &e)
-}
-
-/// Reads the values of the samples that the lags of an epoch of a scan reach, as `reach` does. The epoch may be any range of the
-/// scan's samples.
+/// Reads the values of the samples that the lags of an epoch of a scan reach, part by part, and makes their planes, in room of `spare`
+/// where there is such. The epoch may be any range of the scan's samples. The memory for pairs and planes is taken before the first
+/// read, and that for frames and codes as they are read.
 pub fn reach_epoch<F: Shelf>(
     alloc: Global,
     spare: &mut Spare,

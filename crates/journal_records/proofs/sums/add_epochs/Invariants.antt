@@ -1,7 +1,7 @@
 use Rattle.std.proofs.Common.{◌≡◌, ◌-◌, ℕ, List}
 use Rattle.piece_plan.specs.declared.job.ScanSize.{ScanSize}
 use Rattle.journal_image.specs.Image.{KeptEpoch}
-use Rattle.ranged_journal.specs.Standing.{StandsOn}
+use Rattle.checkpoint_journal.specs.Standing.{StandsOn}
 use Rattle.journal_records.specs.Places.{IsIntegration, place_from}
 use Rattle.journal_records.specs.Reading.{IsAdded}
 use Rattle.journal_records.specs.Store.{store, Tells, Rests}

@@ -2,8 +2,8 @@ use Rattle.std.proofs.Common.{◌∙◌, ap, take, Option, Some, None, subst}
 use Rattle.job_epochs.specs.Added.{add_cells}
 use Rattle.piece_plan.specs.declared.epoch.EpochPlan.{EpochPlan}
 use Rattle.dev_traits.specs.Told.{WhereTold}
-use Rattle.ranged_journal.specs.Kept.{ReadsNext}
-use Rattle.ranged_journal.specs.Standing.{IsNext}
+use Rattle.checkpoint_journal.specs.Kept.{ReadsNext}
+use Rattle.checkpoint_journal.specs.Standing.{IsNext}
 use Rattle.journal_records.specs.Store.{store}
 use Rattle.journal_records.proofs.ReadingLemmas.{next-added}
 use Rattle.journal_records.proofs.sums.add_next.Goals as goal

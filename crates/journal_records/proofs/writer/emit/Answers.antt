@@ -6,7 +6,7 @@ use Rattle.job_plan.specs.declared.plan.Plan.{Plan}
 use Rattle.job_plan.specs.Ranges.{IsPlan}
 use Rattle.job_plan.specs.Output.{head_of}
 use Rattle.job_epochs.specs.Sizes.{sizes_of}
-use Rattle.ranged_journal.specs.Standing.{JournalState}
+use Rattle.checkpoint_journal.specs.Standing.{JournalState}
 use Rattle.journal_records.specs.declared.fault.EmitFault.{EmitFault}
 use Rattle.journal_records.specs.declared.fault.EmitFault.TheVariants.{Memory}
 use Rattle.vis_writer.specs.Cells.{widest}

@@ -1,7 +1,7 @@
 use Rattle.std.specs.Prelude.{OnOk}
 use Rattle.std.proofs.Common.{arith, subst, sym, Result, Ok, Err}
 use Rattle.std.proofs.lemmas.List.{length-take}
-use Rattle.ranged_journal.specs.declared.fault.ReadFault.{ReadFault}
+use Rattle.checkpoint_journal.specs.declared.fault.ReadFault.{ReadFault}
 use Rattle.vis_writer.specs.declared.fault.WriteFault.{WriteFault}
 use Rattle.vis_writer.specs.Cells.{CellsOf}
 use Rattle.vis_writer.specs.Texts.{integration_at}

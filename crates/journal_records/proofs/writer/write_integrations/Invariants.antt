@@ -1,7 +1,7 @@
 use Rattle.std.proofs.Common.{Ok}
 use Rattle.std.specs.List.{flat_map, range_with_len}
 use Rattle.job_epochs.specs.Sizes.{size_of}
-use Rattle.ranged_journal.specs.Standing.{StandsOn}
+use Rattle.checkpoint_journal.specs.Standing.{StandsOn}
 use Rattle.vis_writer.specs.Texts.{integration_at}
 use Rattle.journal_records.specs.Places.{place_of_integration}
 use Rattle.journal_records.specs.Store.{store, Reaches, WritesCells}

@@ -1,6 +1,6 @@
 use Rattle.std.proofs.Common.{Ok}
 use Rattle.std.specs.List.{flat_map, range_with_len}
-use Rattle.ranged_journal.specs.Standing.{StandsOn}
+use Rattle.checkpoint_journal.specs.Standing.{StandsOn}
 use Rattle.vis_writer.specs.Texts.{text_at}
 use Rattle.journal_records.specs.Places.{place_of_scan}
 use Rattle.journal_records.specs.Store.{store, Reaches, WritesCells}

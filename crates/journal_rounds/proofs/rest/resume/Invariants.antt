@@ -2,9 +2,8 @@ use Rattle.std.proofs.Common.{◌≡◌, ◌+◌, option_map}
 use Rattle.dev_traits.specs.Told.{WhereTold}
 use Rattle.plan_places.specs.Places.{place_at}
 use Rattle.plan_places.specs.Walk.{AreLeft}
-use Rattle.checkpoint_journal.specs.Runs.{Changes}
-use Rattle.ranged_journal.specs.Runs.{IsOurs}
-use Rattle.ranged_journal.specs.Standing.{Stands}
+use Rattle.checkpoint_journal.specs.Runs.{Changes, IsOurs}
+use Rattle.checkpoint_journal.specs.Standing.{Stands}
 use Rattle.journal_rounds.specs.Ahead.{IsAhead, steps_left}
 use Rattle.journal_rounds.specs.Extended.{IsSummed, Extends}
 use Rattle.journal_rounds.specs.Steps.{Begins}

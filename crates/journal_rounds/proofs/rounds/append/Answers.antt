@@ -10,14 +10,14 @@ returns-in-Ok-clause-changes g c told are =
     let ready = c.args.ready.now in
     let summed = c.args.summed.now in
     goes_more g.D.Disk.seen g.D.Disk.moment g.D.Disk.may_leave told ready.plan c.args._id.now ready.epochs c.args.journal.now.end.kept summed.epoch summed.sums.cells c.args._epoch _ _
-    are.cells c.requires.cut (c.append.ensures.changes c.args._id.now c.requires.stands)
+    are.sums.cells c.requires.cut (c.append.ensures.changes c.args._id.now c.requires.stands)
 
 pub returns-in-Err-Disk-clause-changes : goal.returns-in-Err-Disk-clause-changes
 returns-in-Err-Disk-clause-changes g c told are =
     let ready = c.args.ready.now in
     let summed = c.args.summed.now in
     goes_more g.D.Disk.seen g.D.Disk.moment g.D.Disk.may_leave told ready.plan c.args._id.now ready.epochs c.args.journal.now.end.kept summed.epoch summed.sums.cells c.args._epoch _ _
-    are.cells c.requires.cut (c.append.ensures.changes c.args._id.now c.requires.stands)
+    are.sums.cells c.requires.cut (c.append.ensures.changes c.args._id.now c.requires.stands)
 
 pub returns-in-Err-Disk-clause-named : goal.returns-in-Err-Disk-clause-named
 returns-in-Err-Disk-clause-named g c =
@@ -28,4 +28,4 @@ pub returns-in-Err-Disk-clause-counts : goal.returns-in-Err-Disk-clause-counts
 returns-in-Err-Disk-clause-counts g c =
     let summed = c.args.summed.now in
     append_counts c.args._id.now c.args.ready.now.epochs c.args.journal.now summed.epoch _ _ _ _ _ c.requires.stands.image
-    c.requires.sums.count c.requires.sums.of_plan.cells c.in-Err-Disk.ensures.fault c.in-Err-Disk.ensures.unwritten
+    c.requires.sums.sums.count c.requires.sums.of_plan.cells c.in-Err-Disk.ensures.fault c.in-Err-Disk.ensures.unwritten

@@ -1,13 +1,11 @@
-use Rattle.journal_rounds.proofs.AheadLemmas.{held-summed, summed-held}
-use Rattle.std.proofs.Common.{None, refl}
 use Rattle.journal_rounds.proofs.sums.sum_epoch.Goals as goal
 
-pub sum_planes-requires-clause-epoch : goal.sum_planes-requires-clause-epoch
-sum_planes-requires-clause-epoch g c κs within =
-    held-summed None c.args.ready.now c.args.held.now c.plan.result.now c.scan_of-scan.result.now c.deref.result.now c.args.piece c.requires.held c.plan.ensures.same
-    c.scan_of-scan.ensures c.deref.ensures.value c.requires.piece.0 c.requires.piece.1
+pub sum-requires-clause-held : goal.sum-requires-clause-held
+sum-requires-clause-held g c κs within = (c.requires.held.scan, c.requires.held.of_scan, c.requires.held.values)
 
 pub returns-clause-sums : goal.returns-clause-sums
-returns-clause-sums g c told held =
-    summed-held told c.args.ready.now c.args.held.now c.plan.result.now c.scan_of-scan.result.now c.deref.result.now _ c.plan.ensures.same
-    c.scan_of-scan.ensures c.deref.ensures.value refl c.in_ok-sums.ensures.cells held
+returns-clause-sums g c told held = record {
+  fits = held.fits;
+  of_plan = held.of_scan.of_scan.of_plan;
+  sums = c.in_ok-sums.ensures.sums told held.scan held.of_scan held.values;
+}

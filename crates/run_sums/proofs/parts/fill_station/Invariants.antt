@@ -1,4 +1,4 @@
-use Rattle.std.proofs.Common.{◌≡◌, ◌<◌, ◌≤◌, ◌-◌, pos, length}
+use Rattle.std.proofs.Common.{◌≡◌, ◌≤◌, ◌-◌, pos, length}
 use Rattle.dev_traits.specs.Told.{WhereTold}
 use Rattle.epoch_run.specs.Planes.{HaveRange}
 use Rattle.run_sums.specs.Parts.{HoldPart, HaveNone, AreSameBeside}

@@ -1,6 +1,3 @@
-use Rattle.std.proofs.Common.{subst, sym, ◌∙◌}
-use Rattle.job_plan.specs.declared.plan.Plan.{Plan}
-use Rattle.job_plan.specs.Ranges.{IsScanPlan}
 use Rattle.run_sums.proofs.PlaceLemmas.{stays-few}
 use Rattle.run_sums.proofs.ReachedLemmas.{HoldsEpoch-filled}
 use Rattle.run_sums.proofs.reached.reach_epoch.Goals as goal

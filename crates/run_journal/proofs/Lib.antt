@@ -1,3 +1,0 @@
-pub mod ExtendLemmas
-pub mod RoomLemmas
-pub mod RefusedLemmas

@@ -1,4 +1,0 @@
-pub mod Extended
-pub mod Refused
-pub mod Steps
-pub mod Counted

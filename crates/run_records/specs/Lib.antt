@@ -1,4 +1,0 @@
-pub mod Counted
-pub mod Kept
-pub mod Refused
-pub mod Store

@@ -78,10 +78,10 @@ module _ (job : JobFields) (p : Place) (held : visit_of p ≡ visit_in job p.sca
   pub cells-held : held_cells job p ≡ length (baselines_in job p.scan.now) * length job.products * job.lags
   cells-held = ap (λ bs. length bs * length job.products * job.lags) baselines-held
 
-  pub epochs-held : (rate : ℕ) → held_epochs job rate p ≡ scan_epochs job rate p.scan.now
-  epochs-held rate =
-      ap (λ bs. cond (length bs == 0) 0 (epochs_in job (held_samples rate p))) baselines-held
-      ∙ ap (λ n. cond (length (baselines_in job p.scan.now) == 0) 0 (epochs_in job n)) (samples-held rate)
+  pub epochs-held : (epoch rate : ℕ) → held_epochs job epoch rate p ≡ scan_epochs job epoch rate p.scan.now
+  epochs-held epoch rate =
+      ap (λ bs. cond (length bs == 0) 0 (epochs_in job epoch (held_samples rate p))) baselines-held
+      ∙ ap (λ n. cond (length (baselines_in job p.scan.now) == 0) 0 (epochs_in job epoch n)) (samples-held rate)
 
   pub few-held : (most : ℕ) → length job.stations ≤ most → length p.stands.items ≤ most
   few-held most few =

@@ -23,9 +23,9 @@ use Rattle.job_join.proofs.RangesRates.{divided-some}
 use Rattle.job_join.proofs.RangesStations.{frames-whole}
 use Rattle.job_join.proofs.Ranges.{rate_of-some}
 
-module _ (j : Joining) (is : IsJoining j) (are : AreScans (scans_of j)) (none : refusal_of j.job.now (scans_of j) ≡ None) where
+module _ (j : Joining) (is : IsJoining j) (are : AreScans (scans_of j)) (epoch : ℕ) (none : refusal_of j.job.now epoch (scans_of j) ≡ None) where
   pub sizes-within : IsWithin j.job.now j.rate (taken j.job.now (scans_of j))
-  sizes-within = subst (λ rate. IsWithin j.job.now rate (taken j.job.now (scans_of j))) (sym is.rate) (within j.job.now (scans_of j) (accepted j.job.now (scans_of j) none).limits)
+  sizes-within = subst (λ rate. IsWithin j.job.now rate (taken j.job.now (scans_of j))) (sym is.rate) (within j.job.now epoch (scans_of j) (accepted j.job.now epoch (scans_of j) none).limits)
 
   -- a plan can hold each scan
   pub ready-All : All (IsReady j.job.now j.rate) j.places.items
@@ -43,11 +43,11 @@ module _ (j : Joining) (is : IsJoining j) (are : AreScans (scans_of j)) (none : 
   -- some frames of each station come in a second
   pub frames-All : All (λ (s : StationFields). 0 < j.rate / samples_per_frame (shape_of 0 s)) j.job.now.stations
   frames-All =
-      let some : 0 < rate_of j.job.now (scans_of j) = rate_of-some j.job.now (scans_of j) is.job are none in
+      let some : 0 < rate_of j.job.now (scans_of j) = rate_of-some j.job.now epoch (scans_of j) is.job are none in
       subst (λ (rate : ℕ). All (λ (s : StationFields). 0 < rate / samples_per_frame (shape_of 0 s)) j.job.now.stations) (sym is.rate)
       (All-weaker (λ (s : StationFields). rate_of j.job.now (scans_of j) % samples_per_frame (shape_of 0 s) ≡ 0) (λ (s : StationFields). 0 < rate_of j.job.now (scans_of j) / samples_per_frame (shape_of 0 s))
       (λ s whole. divided-some (rate_of j.job.now (scans_of j)) (samples_per_frame (shape_of 0 s)) some whole) j.job.now.stations
-      (frames-whole j.job.now (scans_of j) (accepted j.job.now (scans_of j) none).frames))
+      (frames-whole j.job.now (scans_of j) (accepted j.job.now epoch (scans_of j) none).frames))
 
 -- the plan, from its parts
 pub plan_of-parts : (j : Joining) → IsJoining j → {lags integration epoch rate knot : ℕ} {stations : List StationPlan} {channels : List (List ℕ)} {products : List ProductPlan} {scans : List ScanPlan}

@@ -48,13 +48,13 @@ first_past-append (x ∷ xs) ys = by (past x) (first_past-append xs ys)
     by (Some x) rest = refl
 
 -- a job's limit from its quantities, as they are measured
-pub limit-parts : (job : JobFields) (scans : List Scan) (rate : ℕ) (a b c : Option (Quantity × ℕ)) → rate ≡ rate_of job scans
-    → a ≡ first_past (job_measures job) → b ≡ first_past (length_measures job rate (taken job scans)) → c ≡ first_past (size_measures job rate (taken job scans))
-    → option_or a (option_or b c) ≡ limit job scans
+pub limit-parts : (job : JobFields) (epoch : ℕ) (scans : List Scan) (rate : ℕ) (a b c : Option (Quantity × ℕ)) → rate ≡ rate_of job scans
+    → a ≡ first_past (job_measures job) → b ≡ first_past (length_measures job rate (taken job scans)) → c ≡ first_past (size_measures job epoch rate (taken job scans))
+    → option_or a (option_or b c) ≡ limit job epoch scans
 unfolding limit measures
-limit-parts job scans rate a b c same counts lengths sizes =
+limit-parts job epoch scans rate a b c same counts lengths sizes =
     let long : ℕ → List Measure = λ r. length_measures job r (taken job scans) in
-    let large : ℕ → List Measure = λ r. size_measures job r (taken job scans) in
+    let large : ℕ → List Measure = λ r. size_measures job epoch r (taken job scans) in
     let parts : option_or a (option_or b c) ≡ option_or (first_past (job_measures job)) (option_or (first_past (long rate)) (first_past (large rate))) = cc in
     parts ∙ ap (λ r. option_or (first_past (job_measures job)) (option_or (first_past (long r)) (first_past (large r)))) same
     ∙ sym (first_past-append (job_measures job) (long (rate_of job scans) ++ large (rate_of job scans))

@@ -26,13 +26,13 @@ rate_of-known job scans is are known =
     (λ scan its. All-weaker IsPass (λ p. 0 < p.rate) (λ p pass. pass.rate) scan.passes its.passes) scans are.each)
 
 -- nor that of a job that is not refused
-pub rate_of-some : (job : JobFields) (scans : List Scan) → IsJob job → AreScans scans → refusal_of job scans ≡ None → 0 < rate_of job scans
-rate_of-some job scans is are none = rate_of-known job scans is are (accepted job scans none).stations
+pub rate_of-some : (job : JobFields) (epoch : ℕ) (scans : List Scan) → IsJob job → AreScans scans → refusal_of job epoch scans ≡ None → 0 < rate_of job scans
+rate_of-some job epoch scans is are none = rate_of-known job scans is are (accepted job epoch scans none).stations
 
-scans-taken : (job : JobFields) (scans : List Scan) → AreScans scans → refusal_of job scans ≡ None → All (IsTaken job (rate_of job scans)) (taken job scans)
-scans-taken job scans are none = λ k d less.
-    let its : IsAccepted job scans = accepted job scans none in
-    let sizes : IsWithin job (rate_of job scans) (taken job scans) = within job scans its.limits in
+scans-taken : (job : JobFields) (epoch : ℕ) (scans : List Scan) → AreScans scans → refusal_of job epoch scans ≡ None → All (IsTaken job (rate_of job scans)) (taken job scans)
+scans-taken job epoch scans are none = λ k d less.
+    let its : IsAccepted job epoch scans = accepted job epoch scans none in
+    let sizes : IsWithin job (rate_of job scans) (taken job scans) = within job epoch scans its.limits in
     record {
       sound = taken-All IsScan job scans are.each k d less;
       samples = sizes.samples k d less;
@@ -54,12 +54,12 @@ module _ (job : JobFields) (rate : ℕ) (channels : List (List ℕ)) (scans : Li
       All-map (IsProductPlan (plan_by job rate channels scans)) (product_plan channels) job.products
       (λ k d less. product-there job rate channels scans (get_or job.products k d) some)
 
-pub IsPlan-joined : (job : JobFields) (scans : List Scan) → IsJob job → AreScans scans → rate_of job scans < 2 ^ 32 → refusal_of job scans ≡ None → IsPlan (plan_of job scans)
+pub IsPlan-joined : (job : JobFields) (epoch : ℕ) (scans : List Scan) → IsJob job → AreScans scans → rate_of job scans < 2 ^ 32 → refusal_of job epoch scans ≡ None → IsPlan (plan_of job scans)
 unfolding plan_of
-IsPlan-joined job scans is are bounded none =
-    let its : IsAccepted job scans = accepted job scans none in
-    let sizes : IsWithin job (rate_of job scans) (taken job scans) = within job scans its.limits in
-    let some : 0 < rate_of job scans = rate_of-some job scans is are none in
+IsPlan-joined job epoch scans is are bounded none =
+    let its : IsAccepted job epoch scans = accepted job epoch scans none in
+    let sizes : IsWithin job (rate_of job scans) (taken job scans) = within job epoch scans its.limits in
+    let some : 0 < rate_of job scans = rate_of-some job epoch scans is are none in
     let stations : length (map (station_plan (rate_of job scans) (channels_of job)) job.stations) ≡ length job.stations = length-map job.stations (station_plan (rate_of job scans) (channels_of job)) in
     let products : length (map (product_plan (channels_of job)) job.products) ≡ length job.products = length-map job.products (product_plan (channels_of job)) in
     record {
@@ -82,6 +82,5 @@ IsPlan-joined job scans is are bounded none =
       some_product = rw products is.some_product;
       few_products = rw products sizes.products;
       products = products-there job (rate_of job scans) (channels_of job) (taken job scans) (channels_of-some job is.some_product);
-      scans = scans-there job (rate_of job scans) (channels_of job) (taken job scans) some sizes.stations (scans-taken job scans are none);
-      load = rw stations sizes.load;
+      scans = scans-there job (rate_of job scans) (channels_of job) (taken job scans) some sizes.stations (scans-taken job epoch scans are none);
     }

@@ -23,12 +23,12 @@ nothing-there (None ∷ xs) none = All-cons (λ x. x ≡ None) None xs refl (not
 nothing-there (Some fault ∷ xs) none = absurd cc
 
 -- the causes of which a plan's ranges speak
-pub record IsAccepted (job : JobFields) (scans : List Scan) : Type 0 where
+pub record IsAccepted (job : JobFields) (epoch : ℕ) (scans : List Scan) : Type 0 where
   pub stations : unknown_station job scans ≡ None
   pub frames : frame_rate job scans ≡ None
   pub models : no_model job scans ≡ None
   pub clocks : no_clock job scans ≡ None
-  pub limits : limit job scans ≡ None
+  pub limits : limit job epoch scans ≡ None
 
 parts-none : (a b c d e f g h i : Option JoinFault) → first_there (a ∷ b ∷ c ∷ d ∷ e ∷ f ∷ g ∷ h ∷ i ∷ []) ≡ None
     → (b ≡ None) × (f ≡ None) × (g ≡ None) × (h ≡ None) × (i ≡ None)
@@ -36,9 +36,9 @@ parts-none a b c d e f g h i none =
     let each : All (λ x. x ≡ None) (a ∷ b ∷ c ∷ d ∷ e ∷ f ∷ g ∷ h ∷ i ∷ []) = nothing-there (a ∷ b ∷ c ∷ d ∷ e ∷ f ∷ g ∷ h ∷ i ∷ []) none in
     (each 1 None (omega arith), each 5 None (omega arith), each 6 None (omega arith), each 7 None (omega arith), each 8 None (omega arith))
 
-pub accepted : (job : JobFields) (scans : List Scan) → refusal_of job scans ≡ None → IsAccepted job scans
+pub accepted : (job : JobFields) (epoch : ℕ) (scans : List Scan) → refusal_of job epoch scans ≡ None → IsAccepted job epoch scans
 unfolding refusal_of
-accepted job scans none =
+accepted job epoch scans none =
     let parts = parts-none _ _ _ _ _ _ _ _ _ none in
     record {
       stations = option_map-none _ _ parts.0;
@@ -56,7 +56,6 @@ pub record IsWithin (job : JobFields) (rate : ℕ) (scans : List Scan) : Type 0 
   pub samples : All (λ scan. samples_of job rate scan ≤ 2 ^ 40) scans
   pub seconds : All (λ scan. div_ceil (samples_of job rate scan) rate ≤ 2 ^ 27) scans
   pub cells : All (λ scan. length (baselines_in job scan) * length job.products * job.lags ≤ 4194304) scans
-  pub load : length job.stations * length (channels_of job) * job.epoch ≤ 268435456
 
 abbrev pub IsHeld : Measure → Type 0
 IsHeld m = All (λ value. value ≤ m.most) m.values
@@ -70,10 +69,10 @@ pub held : (ms : List Measure) → slice_get (filter_map past ms) 0 ≡ None →
 held ms none =
     All-weaker (λ m. past m ≡ None) IsHeld not_past ms (filter_map-none past ms (first-none (filter_map past ms) none))
 
-pub within : (job : JobFields) (scans : List Scan) → limit job scans ≡ None → IsWithin job (rate_of job scans) (taken job scans)
+pub within : (job : JobFields) (epoch : ℕ) (scans : List Scan) → limit job epoch scans ≡ None → IsWithin job (rate_of job scans) (taken job scans)
 unfolding limit measures
-within job scans none =
-    let each : All IsHeld (measures job (rate_of job scans) (taken job scans)) = held (measures job (rate_of job scans) (taken job scans)) none in
+within job epoch scans none =
+    let each : All IsHeld (measures job epoch (rate_of job scans) (taken job scans)) = held (measures job epoch (rate_of job scans) (taken job scans)) none in
     let other : Measure = measure Stations 0 [] in
     record {
       stations = each 0 other (omega arith) 0 0 (omega arith);
@@ -82,5 +81,4 @@ within job scans none =
       samples = All-from_map (λ value. value ≤ 2 ^ 40) (samples_of job (rate_of job scans)) (taken job scans) (each 3 other (omega arith));
       seconds = All-from_map (λ value. value ≤ 2 ^ 27) (λ scan. div_ceil (samples_of job (rate_of job scans) scan) (rate_of job scans)) (taken job scans) (each 4 other (omega arith));
       cells = All-from_map (λ value. value ≤ 4194304) (λ scan. length (baselines_in job scan) * length job.products * job.lags) (taken job scans) (each 5 other (omega arith));
-      load = each 6 other (omega arith) 0 0 (omega arith);
     }

@@ -22,12 +22,12 @@ nine : (a b c d e f g h i : Option JoinFault) → option_or (first_there (a ∷ 
 nine a b c d e f g h i = sym (first_there-append (a ∷ b ∷ c ∷ d ∷ e ∷ f ∷ []) (g ∷ h ∷ i ∷ []))
 
 -- the first cause of all is the first of some, or else that of the others
-pub refusal_of-parts : (job : JobFields) (scans : List Scan) → option_or (early_of job scans) (late_of job scans) ≡ refusal_of job scans
+pub refusal_of-parts : (job : JobFields) (epoch : ℕ) (scans : List Scan) → option_or (early_of job scans) (late_of job epoch scans) ≡ refusal_of job epoch scans
 unfolding refusal_of
-refusal_of-parts job scans =
+refusal_of-parts job epoch scans =
     nine (option_map UnknownScan (unknown_scan job scans)) (option_map UnknownStation (unknown_station job scans)) (option_map RateDiffers (rate_differs job scans))
     (option_map ChannelDiffers (channel_differs job scans)) (option_map ProductDiffers (product_differs job scans)) (option_map FrameRate (frame_rate job scans))
-    (option_map NoModel (no_model job scans)) (option_map NoClock (no_clock job scans)) (option_map (λ (l : Quantity × ℕ). Limit l.0 l.1) (limit job scans))
+    (option_map NoModel (no_model job scans)) (option_map NoClock (no_clock job scans)) (option_map (λ (l : Quantity × ℕ). Limit l.0 l.1) (limit job epoch scans))
 
 -- where none of the early causes is there all stations stand somewhere
 pub early_of-known : (job : JobFields) (scans : List Scan) → is_some (early_of job scans) ≡ false → unknown_station job scans ≡ None

@@ -32,9 +32,9 @@ first_there (None ∷ more) = first_there more
 first_there (Some fault ∷ more) = Some fault
 
 -- why the two do not go together, by the first of these causes: the number is that of the `take` line, of the station
--- in the job, or of the scan in the schedule
-unfoldable pub refusal_of : JobFields → List Scan → Option JoinFault
-refusal_of job scans = first_there (
+-- in the job, or of the scan in the schedule. The quantities are those with epochs of this length.
+unfoldable pub refusal_of : JobFields → ℕ → List Scan → Option JoinFault
+refusal_of job epoch scans = first_there (
     option_map UnknownScan (unknown_scan job scans)
     ∷ option_map UnknownStation (unknown_station job scans)
     ∷ option_map RateDiffers (rate_differs job scans)
@@ -43,7 +43,7 @@ refusal_of job scans = first_there (
     ∷ option_map FrameRate (frame_rate job scans)
     ∷ option_map NoModel (no_model job scans)
     ∷ option_map NoClock (no_clock job scans)
-    ∷ option_map (λ (l : Quantity × ℕ). Limit l.0 l.1) (limit job scans)
+    ∷ option_map (λ (l : Quantity × ℕ). Limit l.0 l.1) (limit job epoch scans)
     ∷ [])
 
 -- where a station records a channel, none where no `chan` line says so
@@ -104,9 +104,9 @@ plan_by job rate channels scans = record {
 unfoldable pub plan_of : JobFields → List Scan → Plan
 plan_of job scans = plan_by job (rate_of job scans) (channels_of job) (taken job scans)
 
--- the refusal, or else the plan
-abbrev pub joined : JobFields → List Scan → Result Plan JoinFault
-joined job scans = by (refusal_of job scans)
+-- the refusal, with epochs of this length, or else the plan, which has the length of the job's own line
+abbrev pub joined : JobFields → ℕ → List Scan → Result Plan JoinFault
+joined job epoch scans = by (refusal_of job epoch scans)
   where
     by : Option JoinFault → Result Plan JoinFault
     by (Some fault) = Err fault

@@ -46,11 +46,11 @@ early_of job scans = first_there (
     ∷ [])
 
 -- the first cause among the others
-abbrev pub late_of : JobFields → List Scan → Option JoinFault
-late_of job scans = first_there (
+abbrev pub late_of : JobFields → ℕ → List Scan → Option JoinFault
+late_of job epoch scans = first_there (
     option_map NoModel (no_model job scans)
     ∷ option_map NoClock (no_clock job scans)
-    ∷ option_map (λ (l : Quantity × ℕ). Limit l.0 l.1) (limit job scans)
+    ∷ option_map (λ (l : Quantity × ℕ). Limit l.0 l.1) (limit job epoch scans)
     ∷ [])
 
 -- as far as the stations of a scan go

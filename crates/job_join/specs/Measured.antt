@@ -32,12 +32,12 @@ length_measures job rate scans =
     ∷ measure Seconds (2 ^ 27) (map (λ scan. div_ceil (samples_of job rate scan) rate) scans)
     ∷ []
 
--- what a correlation keeps of them
-abbrev pub size_measures : JobFields → ℕ → List Scan → List Measure
-size_measures job rate scans =
+-- what a correlation keeps of them, with epochs of this length
+abbrev pub size_measures : JobFields → ℕ → ℕ → List Scan → List Measure
+size_measures job epoch rate scans =
     measure Cells 4194304 (map (λ scan. length (baselines_in job scan) * length job.products * job.lags) scans)
-    ∷ measure Load 268435456 (length job.stations * length (channels_of job) * job.epoch ∷ [])
-    ∷ measure Epochs (2 ^ 32) (fold ◌+◌ 0 (map (scan_epochs job rate) scans) ∷ [])
+    ∷ measure Load 268435456 (length job.stations * length (channels_of job) * epoch ∷ [])
+    ∷ measure Epochs (2 ^ 32) (fold ◌+◌ 0 (map (scan_epochs job epoch rate) scans) ∷ [])
     ∷ []
 
 -- the whole seconds that hold a scan
@@ -53,5 +53,5 @@ abbrev pub held_cells : JobFields → Place → ℕ
 held_cells job p = length (held_baselines job.auto p) * length job.products * job.lags
 
 -- the epochs of a scan: none without a baseline
-abbrev pub held_epochs : JobFields → ℕ → Place → ℕ
-held_epochs job rate p = if length (held_baselines job.auto p) == 0 then 0 else epochs_in job (held_samples rate p)
+abbrev pub held_epochs : JobFields → ℕ → ℕ → Place → ℕ
+held_epochs job epoch rate p = if length (held_baselines job.auto p) == 0 then 0 else epochs_in job epoch (held_samples rate p)

@@ -1,5 +1,5 @@
 //! A job and a schedule, joined.
-ghost use Rattle.std.specs.Prelude.{◌≡◌, None, IfOk};
+ghost use Rattle.std.specs.Prelude.{◌≡◌, ◌≤◌, ℕ, None, IfOk, IfSome, unwrap_or};
 ghost use Rattle.scan_list.specs.Sound.{AreScans};
 ghost use Rattle.job_join.specs.Joined.{refusal_of, plan_of, joined, Gives};
 ghost use Rattle.job_join.specs.Joining.{scans_of, IsJoining};
@@ -7,7 +7,7 @@ ghost use Rattle.job_join.specs.Joining.{scans_of, IsJoining};
 use crate::fault::JoinFault;
 use crate::joining::Joining;
 use crate::lists::{product_plans, station_plans};
-use crate::parts::{epoch, integration, knot, lags};
+use crate::parts::{epoch, in_force, integration, knot, lags};
 use crate::plans::{channel_names, channel_numbers};
 use crate::refusal::go_together;
 use crate::scans::scan_plans;
@@ -28,7 +28,7 @@ fn rate_in(j: &Joining) -> u32
 fn plan_of(alloc: Global, j: &Joining) -> Result<Plan0, AllocError>
     requires joining { IsJoining j.now }
     requires scans { AreScans (scans_of j.now) }
-    requires accepted { refusal_of j.now.job.now (scans_of j.now) ≡ None }
+    requires accepted { (epoch : ℕ) × (refusal_of j.now.job.now epoch (scans_of j.now) ≡ None) }
     ensures { IfOk result (λ plan. plan ≡ plan_of j.now.job.now (scans_of j.now)) }
 {
     let stations = station_plans(alloc, j)?;
@@ -54,12 +54,20 @@ fn plan_of(alloc: Global, j: &Joining) -> Result<Plan0, AllocError>
 /// scan (its place among the takes); a station in no scan that is taken (its place in the job); a scan in which a
 /// station's sample rate, a channel's band at two stations, or the bands of a product's two channels differ (its place
 /// in the schedule); a station whose frames do not go into a second, that has no delay model, or no clock, at some
-/// sample of a scan (its place in the job); a quantity past its greatest (with its value). `Memory` comes where memory
-/// runs out, whatever else holds. Stations, takes and scans are counted from 0.
-pub fn join_job(alloc: Global, job: &Job, schedule: &ScanList) -> Result<Plan0, JoinFault>
-    ensures { Gives result (joined job.now schedule.now.scans) }
+/// sample of a scan (its place in the job); a quantity past its greatest (with its value). The samples of an epoch, of which
+/// two quantities are made, are `epoch`, 1 to 4,194,304, where there is such, and else those of the job's own line, which are
+/// the plan's in any case. `Memory` comes where memory runs out, whatever else holds. Stations, takes and scans are counted
+/// from 0.
+pub fn join_job(
+    alloc: Global,
+    job: &Job,
+    schedule: &ScanList,
+    epoch: Option<u64>,
+) -> Result<Plan0, JoinFault>
+    requires { IfSome epoch (λ e. (1 ≤ e) × (e ≤ 4194304)) }
+    ensures { Gives result (joined job.now (unwrap_or epoch job.now.epoch) schedule.now.scans) }
 {
     let j = Joining::new(alloc, job, schedule.scans.items())?;
-    go_together(&j)?;
+    go_together(&j, in_force(epoch, job))?;
     Ok(plan_of(alloc, &j)?)
 }

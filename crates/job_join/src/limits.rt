@@ -12,7 +12,7 @@ ghost use Rattle.job_join.specs.Measured.{first_past, job_measures, length_measu
 use crate::fault::Quantity;
 use crate::joining::Joining;
 use crate::measures::{all_epochs, cells_over, samples_over, seconds_over};
-use crate::parts::{epoch, products, stations};
+use crate::parts::{products, stations};
 
 // A quantity with its value, where that is past its greatest.
 fn past(quantity: Quantity, most: u128, value: u128) -> Option<(Quantity, u128)>
@@ -85,26 +85,27 @@ fn cells_past(j: &Joining) -> Option<(Quantity, u128)>
 }
 
 // The samples of all channels of all stations in an epoch, past their greatest number.
-fn load_past(j: &Joining) -> Option<(Quantity, u128)>
+fn load_past(j: &Joining, epoch: u64) -> Option<(Quantity, u128)>
     requires joining { IsJoining j.now }
     requires stations { length j.now.job.now.stations ≤ 32 }
     requires channels { length (channels_of j.now.job.now) ≤ 64 }
-    ensures { result ≡ past (measure Quantity.Load 268435456 (length j.now.job.now.stations * length (channels_of j.now.job.now) * j.now.job.now.epoch ∷ [])) }
+    ensures { result ≡ past (measure Quantity.Load 268435456 (length j.now.job.now.stations * length (channels_of j.now.job.now) * epoch ∷ [])) }
 {
     let stations = stations(j.job).len() as u128;
     let channels = j.channels.len() as u128;
-    let load = stations * channels * u128::from(epoch(j.job));
+    let load = stations * channels * u128::from(epoch);
     past(Quantity::Load, 268_435_456, load)
 }
 
 // The epochs of all scans, past their greatest number.
-fn epochs_past(j: &Joining) -> Option<(Quantity, u128)>
+fn epochs_past(j: &Joining, epoch: u64) -> Option<(Quantity, u128)>
     requires joining { IsJoining j.now }
     requires stations { length j.now.job.now.stations ≤ 32 }
     requires samples { All (λ scan. samples_of j.now.job.now j.now.rate scan ≤ 2 ^ 40) (taken j.now.job.now (scans_of j.now)) }
-    ensures { result ≡ past (measure Quantity.Epochs (2 ^ 32) (fold ◌+◌ 0 (map (scan_epochs j.now.job.now j.now.rate) (taken j.now.job.now (scans_of j.now))) ∷ [])) }
+    requires epoch { 0 < epoch }
+    ensures { result ≡ past (measure Quantity.Epochs (2 ^ 32) (fold ◌+◌ 0 (map (scan_epochs j.now.job.now epoch j.now.rate) (taken j.now.job.now (scans_of j.now))) ∷ [])) }
 {
-    let epochs = all_epochs(&j.places, j.job, j.rate);
+    let epochs = all_epochs(&j.places, j.job, epoch, j.rate);
     past(Quantity::Epochs, 1 << 32, epochs)
 }
 
@@ -126,20 +127,24 @@ fn lengths(j: &Joining) -> Option<(Quantity, u128)>
 }
 
 // The first of the sizes that a correlation keeps that is past its greatest.
-fn sizes(j: &Joining) -> Option<(Quantity, u128)>
+fn sizes(j: &Joining, epoch: u64) -> Option<(Quantity, u128)>
     requires joining { IsJoining j.now }
     requires counts { first_past (job_measures j.now.job.now) ≡ None }
     requires lengths { first_past (length_measures j.now.job.now j.now.rate (taken j.now.job.now (scans_of j.now))) ≡ None }
-    ensures { result ≡ first_past (size_measures j.now.job.now j.now.rate (taken j.now.job.now (scans_of j.now))) }
+    requires epoch { 0 < epoch }
+    ensures { result ≡ first_past (size_measures j.now.job.now epoch j.now.rate (taken j.now.job.now (scans_of j.now))) }
 {
-    cells_past(j).or(load_past(j)).or(epochs_past(j))
+    cells_past(j)
+        .or(load_past(j, epoch))
+        .or(epochs_past(j, epoch))
 }
 
-/// The first quantity that is past its greatest, with its value.
-pub(crate) fn limit(j: &Joining) -> Option<(Quantity, u128)>
+/// The first quantity that is past its greatest, with its value. Epochs have `epoch` samples.
+pub(crate) fn limit(j: &Joining, epoch: u64) -> Option<(Quantity, u128)>
     requires joining { IsJoining j.now }
     requires rate { 0 < j.now.rate }
-    ensures { result ≡ limit j.now.job.now (scans_of j.now) }
+    requires epoch { 0 < epoch }
+    ensures { result ≡ limit j.now.job.now epoch (scans_of j.now) }
 {
     let counts = counts(j);
     if counts.is_some() {
@@ -149,5 +154,5 @@ pub(crate) fn limit(j: &Joining) -> Option<(Quantity, u128)>
     if lengths.is_some() {
         return lengths;
     }
-    sizes(j)
+    sizes(j, epoch)
 }

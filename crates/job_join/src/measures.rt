@@ -11,7 +11,7 @@ ghost use Rattle.job_join.specs.Planned.{is_pair, pairs_in};
 ghost use Rattle.job_join.specs.Measured.{held_seconds, held_cells, held_epochs};
 
 use crate::joining::Joining;
-use crate::parts::{auto, epoch, integration, lags, products};
+use crate::parts::{auto, integration, lags, products};
 use crate::places::Place;
 use crate::spans::samples_of;
 use crate::stands::Here;
@@ -132,22 +132,24 @@ pub(crate) fn cells_over(places: &[Place], job: &Job, most: u128) -> Option<u128
     None
 }
 
-// The epochs of so many samples.
-fn epochs_in(samples: u128, job: &Job) -> u128
-    requires { samples ≤ 2 ^ 40 }
-    ensures count { result ≡ epochs_in job.now samples }
+// The epochs of so many samples, of `epoch` each.
+fn epochs_in(samples: u128, job: &Job, epoch: u64) -> u128
+    requires samples { samples ≤ 2 ^ 40 }
+    requires epoch { 0 < epoch }
+    ensures count { result ≡ epochs_in job.now epoch samples }
     ensures most { result ≤ 2 ^ 40 }
 {
     let integration = u128::from(integration(job));
-    let epoch = u128::from(epoch(job));
+    let epoch = u128::from(epoch);
     samples / integration * integration.div_ceil(epoch) + (samples % integration).div_ceil(epoch)
 }
 
 // The epochs of a scan, 0 where it is not taken.
-fn epochs_taken(place: &Place, job: &Job, rate: u32) -> u128
+fn epochs_taken(place: &Place, job: &Job, epoch: u64, rate: u32) -> u128
     requires stations { length place.now.stands.items ≤ 32 }
     requires samples { place.now.taken ≡ true → held_samples rate place.now ≤ 2 ^ 40 }
-    ensures count { result ≡ (if place.now.taken then held_epochs job.now rate place.now else 0) }
+    requires epoch { 0 < epoch }
+    ensures count { result ≡ (if place.now.taken then held_epochs job.now epoch rate place.now else 0) }
     ensures most { result ≤ 2 ^ 40 }
 {
     if !place.taken {
@@ -156,18 +158,19 @@ fn epochs_taken(place: &Place, job: &Job, rate: u32) -> u128
     if count_in(&place.stands, auto(job)) == 0 {
         return 0;
     }
-    epochs_in(samples_of(&place.stands, rate), job)
+    epochs_in(samples_of(&place.stands, rate), job, epoch)
 }
 
-/// The epochs of all scans that are taken.
-pub(crate) fn all_epochs(places: &[Place], job: &Job, rate: u32) -> u128
+/// The epochs of all scans that are taken, of `epoch` samples each.
+pub(crate) fn all_epochs(places: &[Place], job: &Job, epoch: u64, rate: u32) -> u128
     requires stations { All (λ (p : Place). length p.stands.items ≤ 32) places.now }
     requires samples { All (λ (p : Place). p.taken ≡ true → held_samples rate p ≤ 2 ^ 40) places.now }
-    ensures { result ≡ fold ◌+◌ 0 (map (held_epochs job.now rate) (filter (λ (p : Place). p.taken) places.now)) }
+    requires epoch { 0 < epoch }
+    ensures { result ≡ fold ◌+◌ 0 (map (held_epochs job.now epoch rate) (filter (λ (p : Place). p.taken) places.now)) }
 {
     let mut all = 0;
     for place in places {
-        all += epochs_taken(place, job, rate);
+        all += epochs_taken(place, job, epoch, rate);
     }
     all
 }

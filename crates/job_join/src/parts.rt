@@ -1,5 +1,5 @@
 //! The parts of a job.
-ghost use Rattle.std.specs.Prelude.{◌≡◌, ◌<◌};
+ghost use Rattle.std.specs.Prelude.{◌≡◌, ◌<◌, ◌≤◌, IfSome, unwrap_or};
 ghost use Rattle.named_list.specs.Named.{names};
 ghost use Rattle.job_text.specs.Ranges.{IsJob};
 
@@ -40,8 +40,22 @@ pub(crate) fn knot(job: &Job) -> u32
 pub(crate) fn epoch(job: &Job) -> u32
     ensures value { result ≡ job.now.epoch }
     ensures some { 0 < result }
+    ensures short { result ≤ 4194304 }
 {
     job.epoch
+}
+
+/// The samples in an epoch, by what is asked for or else by the job's own line.
+pub(crate) fn in_force(asked: Option<u64>, job: &Job) -> u64
+    requires { IfSome asked (λ e. (1 ≤ e) × (e ≤ 4194304)) }
+    ensures value { result ≡ unwrap_or asked job.now.epoch }
+    ensures some { 0 < result }
+    ensures short { result ≤ 4194304 }
+{
+    match asked {
+        Some(epoch) => epoch,
+        None => u64::from(epoch(job)),
+    }
 }
 
 /// The samples in an integration.

@@ -10,11 +10,12 @@ use crate::limits::limit;
 use crate::modelled::{no_clock, no_model};
 
 // The first cause among those that ask for delays and for sizes.
-fn late(j: &Joining) -> Option<JoinFault>
+fn late(j: &Joining, epoch: u64) -> Option<JoinFault>
     requires joining { IsJoining j.now }
     requires scans { AreScans (scans_of j.now) }
     requires rate { 0 < j.now.rate }
-    ensures { result ≡ late_of j.now.job.now (scans_of j.now) }
+    requires epoch { 0 < epoch }
+    ensures { result ≡ late_of j.now.job.now epoch (scans_of j.now) }
 {
     if let Some(station) = no_model(j) {
         return Some(JoinFault::NoModel(station));
@@ -22,33 +23,36 @@ fn late(j: &Joining) -> Option<JoinFault>
     if let Some(station) = no_clock(j) {
         return Some(JoinFault::NoClock(station));
     }
-    match limit(j) {
+    match limit(j, epoch) {
         None => None,
         Some((quantity, value)) => Some(JoinFault::Limit(quantity, value)),
     }
 }
 
 // The first cause for which a job and the scans of a schedule do not go together.
-fn refusal(j: &Joining) -> Option<JoinFault>
+fn refusal(j: &Joining, epoch: u64) -> Option<JoinFault>
     requires joining { IsJoining j.now }
     requires scans { AreScans (scans_of j.now) }
-    ensures { result ≡ refusal_of j.now.job.now (scans_of j.now) }
+    requires epoch { 0 < epoch }
+    ensures { result ≡ refusal_of j.now.job.now epoch (scans_of j.now) }
 {
     let early = j.early();
     if early.is_some() {
         return early;
     }
-    late(j)
+    late(j, epoch)
 }
 
-/// Whether a job and the scans of a schedule go together, or the first cause for which they do not. It takes no memory.
-pub(crate) fn go_together(j: &Joining) -> Result<(), JoinFault>
+/// Whether a job and the scans of a schedule go together, with epochs of this length, or the first cause for which they do not. It
+/// takes no memory.
+pub(crate) fn go_together(j: &Joining, epoch: u64) -> Result<(), JoinFault>
     requires joining { IsJoining j.now }
     requires scans { AreScans (scans_of j.now) }
-    ensures accepted { OnOk result (refusal_of j.now.job.now (scans_of j.now) ≡ None) }
-    ensures refused { IfErr result (λ fault. refusal_of j.now.job.now (scans_of j.now) ≡ Some fault) }
+    requires epoch { 0 < epoch }
+    ensures accepted { OnOk result (refusal_of j.now.job.now epoch (scans_of j.now) ≡ None) }
+    ensures refused { IfErr result (λ fault. refusal_of j.now.job.now epoch (scans_of j.now) ≡ Some fault) }
 {
-    match refusal(j) {
+    match refusal(j, epoch) {
         None => Ok(()),
         Some(fault) => Err(fault),
     }

@@ -1,5 +1,5 @@
 -- A job and a text of phases come to one outcome.
-use Rattle.std.proofs.Common.{ℕ, List, Option}
+use Rattle.std.proofs.Common.{ℕ, List, Option, None}
 use Rattle.corr_model.specs.Files.{Files}
 use Rattle.job_plan.specs.declared.plan.Plan.{Plan}
 use Rattle.pulsar_bins.specs.Answer.{bins_in}
@@ -18,9 +18,9 @@ BinsUnder-one files name plan =
     (λ text. Then-one (Is (answered bins_answer (bins_in text))) (λ bins. Is (unless (uncovered plan bins) bins))
     (Is-one (answered bins_answer (bins_in text))) (λ bins. Is-one (unless (uncovered plan bins) bins)))
 
-pub BinsOf-one : (files : Files) (job : List ℕ) (vex : Option (List ℕ)) (phase : List ℕ) → AreOne (JoinOf files job vex) → AreOne (BinsOf files job vex phase)
+pub BinsOf-one : (files : Files) (job : List ℕ) (vex : Option (List ℕ)) (phase : List ℕ) → AreOne (JoinOf files job vex None) → AreOne (BinsOf files job vex phase)
 BinsOf-one files job vex phase joined =
-    Then-one (JoinOf files job vex)
+    Then-one (JoinOf files job vex None)
     (λ plan. Then (BinsUnder files phase plan)
     (λ bins. Then (Is (unless (too_many_cells plan bins) bins)) (λ within. Is (unless (recordings_answer files plan.stations) (record { plan = plan; bins = within })))))
     joined

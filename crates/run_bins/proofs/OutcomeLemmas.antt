@@ -78,45 +78,45 @@ abbrev phase_behind : Files → List ℕ → Plan → Outcomes BinPlan
 phase_behind files phase plan = Then (BinsUnder files phase plan) (limit_behind files plan)
 
 module _ (job : List ℕ) (vex : Option (List ℕ)) (phase : List ℕ) (r : Refusal) (stage : IsOfFiles r) where
-  pub job-refused : (told : Option Files) → WhereTold told (λ files. IsCause r (JoinOf files job vex))
+  pub job-refused : (told : Option Files) → WhereTold told (λ files. IsCause r (JoinOf files job vex None))
       → WhereTold told (λ files. IsCause r (BinsOf files job vex phase))
   job-refused None cause = tt
-  job-refused (Some files) cause = IsCause-first r (JoinOf files job vex) (phase_behind files phase) stage cause
+  job-refused (Some files) cause = IsCause-first r (JoinOf files job vex None) (phase_behind files phase) stage cause
 
-  pub phase-refused : (told : Option Files) (plan : Plan) → WhereTold told (λ files. JoinOf files job vex (Ok plan))
+  pub phase-refused : (told : Option Files) (plan : Plan) → WhereTold told (λ files. JoinOf files job vex None (Ok plan))
       → WhereTold told (λ files. IsCause r (BinsUnder files phase plan))
       → WhereTold told (λ files. IsCause r (BinsOf files job vex phase))
   phase-refused None plan is cause = tt
   phase-refused (Some files) plan is cause =
-      IsCause-next r (JoinOf files job vex) (phase_behind files phase) plan stage is
+      IsCause-next r (JoinOf files job vex None) (phase_behind files phase) plan stage is
       (IsCause-first r (BinsUnder files phase plan) (limit_behind files plan) stage cause)
 
-  pub limit-refused : (told : Option Files) (plan : Plan) (bins : BinsFields) → WhereTold told (λ files. JoinOf files job vex (Ok plan))
+  pub limit-refused : (told : Option Files) (plan : Plan) (bins : BinsFields) → WhereTold told (λ files. JoinOf files job vex None (Ok plan))
       → WhereTold told (λ files. BinsUnder files phase plan (Ok bins))
       → IsDue r (too_many_cells plan bins)
       → WhereTold told (λ files. IsCause r (BinsOf files job vex phase))
   limit-refused None plan bins is there due = tt
   limit-refused (Some files) plan bins is there due =
-      IsCause-next r (JoinOf files job vex) (phase_behind files phase) plan stage is
+      IsCause-next r (JoinOf files job vex None) (phase_behind files phase) plan stage is
       (IsCause-next r (BinsUnder files phase plan) (limit_behind files plan) bins stage there
       (IsCause-first r (Is (unless (too_many_cells plan bins) bins)) (recordings_behind files plan) stage
       (IsCause-unless r (too_many_cells plan bins) bins due)))
 
-  pub recordings-refused : (told : Option Files) (plan : Plan) (bins : BinsFields) → WhereTold told (λ files. JoinOf files job vex (Ok plan))
+  pub recordings-refused : (told : Option Files) (plan : Plan) (bins : BinsFields) → WhereTold told (λ files. JoinOf files job vex None (Ok plan))
       → WhereTold told (λ files. BinsUnder files phase plan (Ok bins))
       → too_many_cells plan bins ≡ None
       → WhereTold told (λ files. IsDue r (recordings_answer files plan.stations))
       → WhereTold told (λ files. IsCause r (BinsOf files job vex phase))
   recordings-refused None plan bins is there few due = tt
   recordings-refused (Some files) plan bins is there few due =
-      IsCause-next r (JoinOf files job vex) (phase_behind files phase) plan stage is
+      IsCause-next r (JoinOf files job vex None) (phase_behind files phase) plan stage is
       (IsCause-next r (BinsUnder files phase plan) (limit_behind files plan) bins stage there
       (IsCause-next r (Is (unless (too_many_cells plan bins) bins)) (recordings_behind files plan) bins stage
       (sym (ap (λ (o : Option Answer). unless o bins) few))
       (IsCause-unless r (recordings_answer files plan.stations) (record { plan = plan; bins = bins }) due)))
 
 pub job-done : (job : List ℕ) (vex : Option (List ℕ)) (phase : List ℕ) (told : Option Files) (plan : Plan) (bins : BinsFields)
-    → WhereTold told (λ files. JoinOf files job vex (Ok plan))
+    → WhereTold told (λ files. JoinOf files job vex None (Ok plan))
     → WhereTold told (λ files. BinsUnder files phase plan (Ok bins))
     → too_many_cells plan bins ≡ None
     → WhereTold told (λ files. recordings_answer files plan.stations ≡ None)

@@ -1,5 +1,5 @@
 -- What a job and a text of phases come to: the plan and the bins, or the answer of the first thing that is wrong.
-use Rattle.std.specs.Prelude.{⊤, ℕ, nat_lt, Bool, List, [], find, slice_get, Option, option_map}
+use Rattle.std.specs.Prelude.{⊤, ℕ, nat_lt, Bool, List, [], find, slice_get, Option, None, option_map}
 use Rattle.std.specs.Option.{option_map_or}
 use Rattle.corr_model.specs.Files.{Files}
 use Rattle.job_plan.specs.declared.plan.ScanPlan.{ScanPlan}
@@ -40,10 +40,10 @@ BinsUnder files name plan =
     Then (Is (text_under files name Phase 65536))
     (λ text. Then (Is (answered bins_answer (bins_in text))) (λ bins. Is (unless (uncovered plan bins) bins)))
 
--- Behind the job and its schedule comes the text of phases, then the limit on cells, and then the recordings.
+-- Behind the job and its schedule, with epochs of the job's own length, comes the text of phases, then the limit on cells, and then the recordings.
 abbrev pub BinsOf : Files → List ℕ → Option (List ℕ) → List ℕ → Outcomes BinPlan
 BinsOf files job vex phase =
-    Then (JoinOf files job vex)
+    Then (JoinOf files job vex None)
     (λ plan. Then (BinsUnder files phase plan)
     (λ bins. Then (Is (unless (too_many_cells plan bins) bins))
     (λ within. Is (unless (recordings_answer files plan.stations) (record { plan = plan; bins = within })))))

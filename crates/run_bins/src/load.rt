@@ -36,7 +36,7 @@ pub(crate) fn load_job<F: Shelf>(
     ensures stage { IfErr result IsOfFiles }
     ensures counts { CountsReads (F.faults shelf.old) (F.faults shelf.new) result }
 {
-    let joined = join(alloc, job, vex, shelf)?;
+    let joined = join(alloc, job, vex, None, shelf)?;
     let bins = load_bins(alloc, phase, &joined.plan, shelf)?;
     check_cells(&bins, &joined.plan)?;
     let ready = load_recordings(alloc, joined, shelf)?;

@@ -12,7 +12,7 @@ use Rattle.vex_schedule.specs.KindName.{kind_name as schedule_fault_name}
 use Rattle.job_text.specs.declared.fault.JobFault.{JobFault}
 use Rattle.job_text.specs.KindName.{kind_name as job_fault_name}
 use Rattle.job_join.specs.declared.fault.JoinFault.{JoinFault}
-use Rattle.checkpoint_journal.specs.declared.fault.Differs.{Differs}
+use Rattle.journal_image.specs.declared.difference.Differs.{Differs}
 use Rattle.pulsar_bins.specs.declared.fault.BinsFault.{BinsFault}
 use Rattle.pulsar_bins.specs.KindName.{kind_name as bins_fault_name}
 use Rattle.vis_records.specs.declared.fault.VisFault.{VisFault}

@@ -1,5 +1,5 @@
 //! Why a call of the program is refused, the status that it answers then, and its line on the notes. It stands on the crates
-//! whose faults it names (`run_words`, `vex_reader`, `vex_schedule`, `job_text`, `job_join`, `vdif_frame`, `vis_records`, `checkpoint_journal`,
+//! whose faults it names (`run_words`, `vex_reader`, `vex_schedule`, `job_text`, `job_join`, `vdif_frame`, `vis_records`, `journal_image`,
 //! `pulsar_bins`) and on `sink_text` for the line. A refusal is want of memory, a verdict on what the call was given, or the fault of a device; `specs/` says
 //! which status and which line each has. Only the making of a refusal with a name takes memory.
 #![tactic(auto)]

@@ -7,9 +7,9 @@ ghost use Rattle.run_notes.specs.Refusals.{answer_of, due_answer};
 ghost use Rattle.run_notes.specs.Answers.{words_answer, byte_answer, byte_or_none, other_answer};
 
 use crate::refusal::{Due, Refusal};
-use checkpoint_journal::Differs;
 use dev_traits::{Failed, Sink};
 use hex::encode_to_slice;
+use journal_image::Differs;
 use run_words::WordsFault;
 use sink_text::{Piece, Stretch, append_pieces};
 

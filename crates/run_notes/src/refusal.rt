@@ -2,9 +2,9 @@
 ghost use Rattle.std.specs.Prelude.{◌≡◌};
 
 use crate::measure::Measure;
-use checkpoint_journal::Differs;
 use job_join::JoinFault;
 use job_text::JobFault;
+use journal_image::Differs;
 use num_time::Name;
 use pulsar_bins::BinsFault;
 use run_words::WordsFault;

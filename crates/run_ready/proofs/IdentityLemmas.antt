@@ -68,9 +68,9 @@ pub length-identity_of : (schedule job : List ℕ) (stations : List StationPlan)
 length-identity_of schedule job stations sized short few_lines few all =
     let sizes : List ℕ = sizes_in sized in
     let whole =
-    length-pieces (codes "VLBIJRN1") (little_bytes 8 (length schedule)) (little_bytes 8 (length job)) (little_bytes 8 (length sizes))
+    length-pieces (codes "VLBIJRN2") (little_bytes 8 (length schedule)) (little_bytes 8 (length job)) (little_bytes 8 (length sizes))
     (flat_map (little_bytes 8) sizes) schedule job in
-    let mark : length (codes "VLBIJRN1") ≡ 8 = refl in
+    let mark : length (codes "VLBIJRN2") ≡ 8 = refl in
     let first : length (little_bytes 8 (length schedule)) ≡ 8 = refl in
     let second : length (little_bytes 8 (length job)) ≡ 8 = refl in
     let third : length (little_bytes 8 (length sizes)) ≡ 8 = refl in

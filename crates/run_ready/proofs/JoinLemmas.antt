@@ -29,13 +29,13 @@ unfolding plan_of
 few-plan_of job scans few =
     All-map (λ (s : StationPlan). length s.files < 2 ^ 32) (station_plan (rate_of job scans) (channels_of job)) job.stations few
 
-pub few-joined : (job : JobFields) (scans : List Scan) (plan : Plan) → joined job scans ≡ Ok plan → All HasFewFiles job.stations → All (λ (s : StationPlan). length s.files < 2 ^ 32) plan.stations
-few-joined job scans plan is few = by (refusal_of job scans) refl
+pub few-joined : (job : JobFields) (epoch : ℕ) (scans : List Scan) (plan : Plan) → joined job epoch scans ≡ Ok plan → All HasFewFiles job.stations → All (λ (s : StationPlan). length s.files < 2 ^ 32) plan.stations
+few-joined job epoch scans plan is few = by (refusal_of job epoch scans) refl
   where
-    by : (o : Option JoinFault) → refusal_of job scans ≡ o → All (λ (s : StationPlan). length s.files < 2 ^ 32) plan.stations
-    by (Some fault) none = absurd (let e : joined job scans ≡ Err fault = rw none in cc)
+    by : (o : Option JoinFault) → refusal_of job epoch scans ≡ o → All (λ (s : StationPlan). length s.files < 2 ^ 32) plan.stations
+    by (Some fault) none = absurd (let e : joined job epoch scans ≡ Err fault = rw none in cc)
     by None none =
-        let e : joined job scans ≡ Ok (plan_of job scans) = rw none in
+        let e : joined job epoch scans ≡ Ok (plan_of job scans) = rw none in
         let same : plan_of job scans ≡ plan = cc in
         subst (λ (p : Plan). All (λ (s : StationPlan). length s.files < 2 ^ 32) p.stations) same (few-plan_of job scans few)
 
@@ -62,13 +62,13 @@ length-plan_of job scans =
     let c : length (taken job scans) ≤ length scans = length-taken job scans in
     omega (arith, a, b, c)
 
-pub length-joined : (job : JobFields) (scans : List Scan) (plan : Plan) → joined job scans ≡ Ok plan → length plan.scans ≤ length scans
-length-joined job scans plan is = by (refusal_of job scans) refl
+pub length-joined : (job : JobFields) (epoch : ℕ) (scans : List Scan) (plan : Plan) → joined job epoch scans ≡ Ok plan → length plan.scans ≤ length scans
+length-joined job epoch scans plan is = by (refusal_of job epoch scans) refl
   where
-    by : (o : Option JoinFault) → refusal_of job scans ≡ o → length plan.scans ≤ length scans
-    by (Some fault) none = absurd (let e : joined job scans ≡ Err fault = rw none in cc)
+    by : (o : Option JoinFault) → refusal_of job epoch scans ≡ o → length plan.scans ≤ length scans
+    by (Some fault) none = absurd (let e : joined job epoch scans ≡ Err fault = rw none in cc)
     by None none =
-        let e : joined job scans ≡ Ok (plan_of job scans) = rw none in
+        let e : joined job epoch scans ≡ Ok (plan_of job scans) = rw none in
         let same : plan_of job scans ≡ plan = cc in
         subst (λ (p : Plan). length p.scans ≤ length scans) same (length-plan_of job scans)
 

@@ -1,4 +1,5 @@
 -- What a job comes to where more may be wrong: its files besides its texts, and its recordings besides its files.
+use Rattle.std.specs.Prelude.{unwrap_or}
 use Rattle.std.proofs.Common.{◌≡◌, ℕ, true, false, List, Option, None, Some, Result, Ok, Err, refl, sym, ap, subst, inl, inr}
 use Rattle.corr_model.specs.Files.{Files}
 use Rattle.scan_list.specs.declared.scan.Scan.{Scan}
@@ -35,21 +36,22 @@ Then-turn first next other (Err e) (Err d) stays turn (inr p) = inr (p.0, p.1, t
 abbrev Turns : Wrong → Wrong → Result Plan Answer → Result Plan Answer → Type 0
 Turns w v x y = (plan : Plan) → x ≡ unless (w plan.stations) plan → y ≡ unless (v plan.stations) plan
 
-Joins-turn : (w v : Wrong) (job : JobFields) (scans : List Scan) (x y : Result Plan Answer) → Stays x y → Turns w v x y → Joins w job scans x → Joins v job scans y
-Joins-turn w v job scans x y stays turns p =
-    Then-turn (Is (answered (cause_answer job scans) (joined job scans)))
+Joins-turn : (w v : Wrong) (job : JobFields) (epoch : Option ℕ) (scans : List Scan) (x y : Result Plan Answer)
+    → Stays x y → Turns w v x y → Joins w job epoch scans x → Joins v job epoch scans y
+Joins-turn w v job epoch scans x y stays turns p =
+    Then-turn (Is (answered (cause_answer job scans) (joined job (unwrap_or epoch job.epoch) scans)))
     (λ (plan : Plan). Is (unless (w plan.stations) plan)) (λ (plan : Plan). Is (unless (v plan.stations) plan)) x y stays turns p
 
-PlanUnder-turn : (files : Files) (w v : Wrong) (job : List ℕ) (vex : Option (List ℕ)) (x y : Result Plan Answer)
-    → Stays x y → Turns w v x y → PlanUnder files w job vex x → PlanUnder files v job vex y
-PlanUnder-turn files w v job None x y stays turns p =
-    Then-turn (JobOf files job true) (λ fields. Joins w fields (scans_of fields)) (λ fields. Joins v fields (scans_of fields)) x y stays
-    (λ fields. Joins-turn w v fields (scans_of fields) x y stays turns) p
-PlanUnder-turn files w v job (Some vex) x y stays turns p =
+PlanUnder-turn : (files : Files) (w v : Wrong) (job : List ℕ) (vex : Option (List ℕ)) (epoch : Option ℕ) (x y : Result Plan Answer)
+    → Stays x y → Turns w v x y → PlanUnder files w job vex epoch x → PlanUnder files v job vex epoch y
+PlanUnder-turn files w v job None epoch x y stays turns p =
+    Then-turn (JobOf files job true) (λ fields. Joins w fields epoch (scans_of fields)) (λ fields. Joins v fields epoch (scans_of fields)) x y stays
+    (λ fields. Joins-turn w v fields epoch (scans_of fields) x y stays turns) p
+PlanUnder-turn files w v job (Some vex) epoch x y stays turns p =
     Then-turn (ScheduleOf files vex)
-    (λ scans. Then (JobOf files job false) (λ fields. Joins w fields scans)) (λ scans. Then (JobOf files job false) (λ fields. Joins v fields scans)) x y stays
-    (λ scans. Then-turn (JobOf files job false) (λ fields. Joins w fields scans) (λ fields. Joins v fields scans) x y stays
-    (λ fields. Joins-turn w v fields scans x y stays turns)) p
+    (λ scans. Then (JobOf files job false) (λ fields. Joins w fields epoch scans)) (λ scans. Then (JobOf files job false) (λ fields. Joins v fields epoch scans)) x y stays
+    (λ scans. Then-turn (JobOf files job false) (λ fields. Joins w fields epoch scans) (λ fields. Joins v fields epoch scans) x y stays
+    (λ fields. Joins-turn w v fields epoch scans x y stays turns)) p
 
 -- a plan that the texts give becomes what else is found
 turns-found : (w : Wrong) (plan : Plan) (o : Option Answer) → w plan.stations ≡ o → Turns (λ stations. None) w (Ok plan) (unless o plan)
@@ -61,33 +63,33 @@ turns-found w plan o found other is =
 turns-none : (w : Wrong) (answer : Answer) → Turns (λ stations. None) w (Err answer) (Err answer)
 turns-none w answer other is = absurd (let given : Err answer ≡ Ok other = is in cc)
 
-pub PlanUnder-found : (files : Files) (w : Wrong) (job : List ℕ) (vex : Option (List ℕ)) (plan : Plan) (o : Option Answer) → w plan.stations ≡ o
-    → JoinOf files job vex (Ok plan) → PlanUnder files w job vex (unless o plan)
-PlanUnder-found files w job vex plan o found is =
-    PlanUnder-turn files (λ stations. None) w job vex (Ok plan) (unless o plan) (λ answer e. absurd (cc)) (turns-found w plan o found) is
+pub PlanUnder-found : (files : Files) (w : Wrong) (job : List ℕ) (vex : Option (List ℕ)) (epoch : Option ℕ) (plan : Plan) (o : Option Answer) → w plan.stations ≡ o
+    → JoinOf files job vex epoch (Ok plan) → PlanUnder files w job vex epoch (unless o plan)
+PlanUnder-found files w job vex epoch plan o found is =
+    PlanUnder-turn files (λ stations. None) w job vex epoch (Ok plan) (unless o plan) (λ answer e. absurd (cc)) (turns-found w plan o found) is
 
 -- the cause that texts are refused for
-pub IsCause-texts : (files : Files) (w : Wrong) (job : List ℕ) (vex : Option (List ℕ)) (r : Refusal) → IsOfFiles r
-    → IsCause r (JoinOf files job vex) → IsCause r (PlanUnder files w job vex)
-IsCause-texts files w job vex Memory stage cause = tt
-IsCause-texts files w job vex (Words fault) stage cause = absurd stage
-IsCause-texts files w job vex (DueRefusal due) stage cause =
-    PlanUnder-turn files (λ stations. None) w job vex (Err (due_answer due)) (Err (due_answer due)) (λ answer e. e) (turns-none w (due_answer due)) cause
-IsCause-texts files w job vex (Other d) stage cause = absurd stage
-IsCause-texts files w job vex Read stage cause = tt
-IsCause-texts files w job vex (Journal kept) stage cause = absurd stage
-IsCause-texts files w job vex Write stage cause = absurd stage
+pub IsCause-texts : (files : Files) (w : Wrong) (job : List ℕ) (vex : Option (List ℕ)) (epoch : Option ℕ) (r : Refusal) → IsOfFiles r
+    → IsCause r (JoinOf files job vex epoch) → IsCause r (PlanUnder files w job vex epoch)
+IsCause-texts files w job vex epoch Memory stage cause = tt
+IsCause-texts files w job vex epoch (Words fault) stage cause = absurd stage
+IsCause-texts files w job vex epoch (DueRefusal due) stage cause =
+    PlanUnder-turn files (λ stations. None) w job vex epoch (Err (due_answer due)) (Err (due_answer due)) (λ answer e. e) (turns-none w (due_answer due)) cause
+IsCause-texts files w job vex epoch (Other d) stage cause = absurd stage
+IsCause-texts files w job vex epoch Read stage cause = tt
+IsCause-texts files w job vex epoch (Journal kept) stage cause = absurd stage
+IsCause-texts files w job vex epoch Write stage cause = absurd stage
 
 -- and the one that is found behind them
-pub IsCause-found : (files : Files) (w : Wrong) (job : List ℕ) (vex : Option (List ℕ)) (plan : Plan) (r : Refusal) → JoinOf files job vex (Ok plan)
-    → IsDue r (w plan.stations) → IsCause r (PlanUnder files w job vex)
-IsCause-found files w job vex plan Memory is due = tt
-IsCause-found files w job vex plan (Words fault) is due = PlanUnder-found files w job vex plan (Some (words_answer fault)) due is
-IsCause-found files w job vex plan (DueRefusal d) is due = PlanUnder-found files w job vex plan (Some (due_answer d)) due is
-IsCause-found files w job vex plan (Other x) is due = PlanUnder-found files w job vex plan (Some (other_answer x)) due is
-IsCause-found files w job vex plan Read is due = tt
-IsCause-found files w job vex plan (Journal kept) is due = absurd due
-IsCause-found files w job vex plan Write is due = absurd due
+pub IsCause-found : (files : Files) (w : Wrong) (job : List ℕ) (vex : Option (List ℕ)) (epoch : Option ℕ) (plan : Plan) (r : Refusal) → JoinOf files job vex epoch (Ok plan)
+    → IsDue r (w plan.stations) → IsCause r (PlanUnder files w job vex epoch)
+IsCause-found files w job vex epoch plan Memory is due = tt
+IsCause-found files w job vex epoch plan (Words fault) is due = PlanUnder-found files w job vex epoch plan (Some (words_answer fault)) due is
+IsCause-found files w job vex epoch plan (DueRefusal d) is due = PlanUnder-found files w job vex epoch plan (Some (due_answer d)) due is
+IsCause-found files w job vex epoch plan (Other x) is due = PlanUnder-found files w job vex epoch plan (Some (other_answer x)) due is
+IsCause-found files w job vex epoch plan Read is due = tt
+IsCause-found files w job vex epoch plan (Journal kept) is due = absurd due
+IsCause-found files w job vex epoch plan Write is due = absurd due
 
 -- a plan whose files stand becomes what its recordings come to
 turns-plan : (files : Files) (plan : Plan) (o : Option Answer) → first_foreign files plan.stations ≡ o
@@ -110,31 +112,31 @@ turns-answer files answer other is = by (files_answer files other.stations) is
     by None e = absurd cc
     by (Some told) e = e
 
-pub PlanOf-plan : (files : Files) (job : List ℕ) (vex : Option (List ℕ)) (plan : Plan) (o : Option Answer) → first_foreign files plan.stations ≡ o
-    → SurveyOf files job vex (Ok plan) → PlanOf files job vex (unless o plan)
-PlanOf-plan files job vex plan o held is =
-    PlanUnder-turn files (files_answer files) (recordings_answer files) job vex (Ok plan) (unless o plan)
+pub PlanOf-plan : (files : Files) (job : List ℕ) (vex : Option (List ℕ)) (epoch : Option ℕ) (plan : Plan) (o : Option Answer) → first_foreign files plan.stations ≡ o
+    → SurveyOf files job vex epoch (Ok plan) → PlanOf files job vex epoch (unless o plan)
+PlanOf-plan files job vex epoch plan o held is =
+    PlanUnder-turn files (files_answer files) (recordings_answer files) job vex epoch (Ok plan) (unless o plan)
     (λ answer e. absurd (cc)) (turns-plan files plan o held) is
 
 -- the cause that a survey is refused for
-pub IsCause-surveyed : (files : Files) (job : List ℕ) (vex : Option (List ℕ)) (r : Refusal) → IsOfFiles r → IsCause r (SurveyOf files job vex) → IsCause r (PlanOf files job vex)
-IsCause-surveyed files job vex Memory stage cause = tt
-IsCause-surveyed files job vex (Words fault) stage cause = absurd stage
-IsCause-surveyed files job vex (DueRefusal due) stage cause =
-    PlanUnder-turn files (files_answer files) (recordings_answer files) job vex (Err (due_answer due)) (Err (due_answer due))
+pub IsCause-surveyed : (files : Files) (job : List ℕ) (vex : Option (List ℕ)) (epoch : Option ℕ) (r : Refusal) → IsOfFiles r → IsCause r (SurveyOf files job vex epoch) → IsCause r (PlanOf files job vex epoch)
+IsCause-surveyed files job vex epoch Memory stage cause = tt
+IsCause-surveyed files job vex epoch (Words fault) stage cause = absurd stage
+IsCause-surveyed files job vex epoch (DueRefusal due) stage cause =
+    PlanUnder-turn files (files_answer files) (recordings_answer files) job vex epoch (Err (due_answer due)) (Err (due_answer due))
     (λ answer e. e) (turns-answer files (due_answer due)) cause
-IsCause-surveyed files job vex (Other d) stage cause = absurd stage
-IsCause-surveyed files job vex Read stage cause = tt
-IsCause-surveyed files job vex (Journal kept) stage cause = absurd stage
-IsCause-surveyed files job vex Write stage cause = absurd stage
+IsCause-surveyed files job vex epoch (Other d) stage cause = absurd stage
+IsCause-surveyed files job vex epoch Read stage cause = tt
+IsCause-surveyed files job vex epoch (Journal kept) stage cause = absurd stage
+IsCause-surveyed files job vex epoch Write stage cause = absurd stage
 
 -- and the one that its recordings are
-pub IsCause-foreign : (files : Files) (job : List ℕ) (vex : Option (List ℕ)) (plan : Plan) (r : Refusal) → SurveyOf files job vex (Ok plan)
-    → IsDue r (first_foreign files plan.stations) → IsCause r (PlanOf files job vex)
-IsCause-foreign files job vex plan Memory is due = tt
-IsCause-foreign files job vex plan (Words fault) is due = PlanOf-plan files job vex plan (Some (words_answer fault)) due is
-IsCause-foreign files job vex plan (DueRefusal d) is due = PlanOf-plan files job vex plan (Some (due_answer d)) due is
-IsCause-foreign files job vex plan (Other x) is due = PlanOf-plan files job vex plan (Some (other_answer x)) due is
-IsCause-foreign files job vex plan Read is due = tt
-IsCause-foreign files job vex plan (Journal kept) is due = absurd due
-IsCause-foreign files job vex plan Write is due = absurd due
+pub IsCause-foreign : (files : Files) (job : List ℕ) (vex : Option (List ℕ)) (epoch : Option ℕ) (plan : Plan) (r : Refusal) → SurveyOf files job vex epoch (Ok plan)
+    → IsDue r (first_foreign files plan.stations) → IsCause r (PlanOf files job vex epoch)
+IsCause-foreign files job vex epoch plan Memory is due = tt
+IsCause-foreign files job vex epoch plan (Words fault) is due = PlanOf-plan files job vex epoch plan (Some (words_answer fault)) due is
+IsCause-foreign files job vex epoch plan (DueRefusal d) is due = PlanOf-plan files job vex epoch plan (Some (due_answer d)) due is
+IsCause-foreign files job vex epoch plan (Other x) is due = PlanOf-plan files job vex epoch plan (Some (other_answer x)) due is
+IsCause-foreign files job vex epoch plan Read is due = tt
+IsCause-foreign files job vex epoch plan (Journal kept) is due = absurd due
+IsCause-foreign files job vex epoch plan Write is due = absurd due

@@ -29,12 +29,12 @@ use Rattle.run_ready.specs.Steps.{Is, answered}
 use Rattle.run_ready.proofs.FilesLemmas.{foreign_answer-sized}
 
 -- a cause for which a job and a schedule do not go together
-pub IsCause-joined : (job : JobFields) (scans : List Scan) (fault : JoinFault) → (fault ≡ JoinMemory) ⊎ (joined job scans ≡ Err fault)
-    → IsCause (join_refusal fault (cause_name job scans fault)) (Is (answered (cause_answer job scans) (joined job scans)))
-IsCause-joined job scans fault (inl memory) =
-    subst (λ (f : JoinFault). IsCause (join_refusal f (cause_name job scans f)) (Is (answered (cause_answer job scans) (joined job scans)))) (sym memory) tt
-IsCause-joined job scans JoinMemory (inr is) = tt
-IsCause-joined job scans fault (inr is) = sym (ap (answered (cause_answer job scans)) is)
+pub IsCause-joined : (job : JobFields) (epoch : ℕ) (scans : List Scan) (fault : JoinFault) → (fault ≡ JoinMemory) ⊎ (joined job epoch scans ≡ Err fault)
+    → IsCause (join_refusal fault (cause_name job scans fault)) (Is (answered (cause_answer job scans) (joined job epoch scans)))
+IsCause-joined job epoch scans fault (inl memory) =
+    subst (λ (f : JoinFault). IsCause (join_refusal f (cause_name job scans f)) (Is (answered (cause_answer job scans) (joined job epoch scans)))) (sym memory) tt
+IsCause-joined job epoch scans JoinMemory (inr is) = tt
+IsCause-joined job epoch scans fault (inr is) = sym (ap (answered (cause_answer job scans)) is)
 
 pub IsOfTexts-joined : (fault : JoinFault) (name : List ℕ) → IsOfTexts (join_refusal fault name)
 IsOfTexts-joined JoinMemory name = tt

@@ -1,5 +1,5 @@
 -- What a job comes to: its plan, or the answer of the first thing that is wrong.
-use Rattle.std.specs.Prelude.{◌≡◌, ◌⊎◌, ℕ, nat_lt, if◌then◌else◌, Bool, true, false, List, [], length, slice_get, Option, None, Some, Result, Ok, Err}
+use Rattle.std.specs.Prelude.{◌≡◌, ◌⊎◌, ℕ, nat_lt, if◌then◌else◌, Bool, true, false, List, [], length, slice_get, unwrap_or, Option, None, Some, Result, Ok, Err}
 use Rattle.std.specs.Option.{option_map_or}
 use Rattle.corr_model.specs.Files.{Files}
 use Rattle.vex_reader.specs.declared.file.VexFile.{VexFile}
@@ -78,10 +78,11 @@ cause_answer job scans Memory = join_answer Memory []
 abbrev pub Wrong : Type 0
 Wrong = List StationPlan → Option Answer
 
--- the plan of a job and a schedule's scans, unless they do not go together or something is wrong with the files
-abbrev pub Joins : Wrong → JobFields → List Scan → Outcomes Plan
-Joins wrong job scans =
-    Then (Is (answered (cause_answer job scans) (joined job scans)))
+-- The plan of a job and a schedule's scans, unless they do not go together or something is wrong with the files. Its epochs have as
+-- many samples as is asked for, or else as the job's own line says.
+abbrev pub Joins : Wrong → JobFields → Option ℕ → List Scan → Outcomes Plan
+Joins wrong job epoch scans =
+    Then (Is (answered (cause_answer job scans) (joined job (unwrap_or epoch job.epoch) scans)))
     (λ (plan : Plan). Is (unless (wrong plan.stations) plan))
 
 -- the job of a text, read beside a schedule or, inline, without one
@@ -94,19 +95,19 @@ abbrev pub ScheduleOf : Files → List ℕ → Outcomes (List Scan)
 ScheduleOf files name = Then (Is (text_under files name (OfJob Schedule) 8388608)) ScansOf
 
 -- Without a schedule a job states its scans itself; else the schedule comes before the job.
-abbrev pub PlanUnder : Files → Wrong → List ℕ → Option (List ℕ) → Outcomes Plan
-PlanUnder files wrong job None = Then (JobOf files job true) (λ fields. Joins wrong fields (scans_of fields))
-PlanUnder files wrong job (Some vex) =
-    Then (ScheduleOf files vex) (λ scans. Then (JobOf files job false) (λ fields. Joins wrong fields scans))
+abbrev pub PlanUnder : Files → Wrong → List ℕ → Option (List ℕ) → Option ℕ → Outcomes Plan
+PlanUnder files wrong job None epoch = Then (JobOf files job true) (λ fields. Joins wrong fields epoch (scans_of fields))
+PlanUnder files wrong job (Some vex) epoch =
+    Then (ScheduleOf files vex) (λ scans. Then (JobOf files job false) (λ fields. Joins wrong fields epoch scans))
 
 -- the plan of a job, as far as its texts show: nothing is wrong with the files of its stations
-abbrev pub JoinOf : Files → List ℕ → Option (List ℕ) → Outcomes Plan
-JoinOf files job vex = PlanUnder files (λ stations. None) job vex
+abbrev pub JoinOf : Files → List ℕ → Option (List ℕ) → Option ℕ → Outcomes Plan
+JoinOf files job vex epoch = PlanUnder files (λ stations. None) job vex epoch
 
 -- the plan of a job, as far as the lengths of its files show
-abbrev pub SurveyOf : Files → List ℕ → Option (List ℕ) → Outcomes Plan
-SurveyOf files job vex = PlanUnder files (files_answer files) job vex
+abbrev pub SurveyOf : Files → List ℕ → Option (List ℕ) → Option ℕ → Outcomes Plan
+SurveyOf files job vex epoch = PlanUnder files (files_answer files) job vex epoch
 
 -- the plan of a job
-abbrev pub PlanOf : Files → List ℕ → Option (List ℕ) → Outcomes Plan
-PlanOf files job vex = PlanUnder files (recordings_answer files) job vex
+abbrev pub PlanOf : Files → List ℕ → Option (List ℕ) → Option ℕ → Outcomes Plan
+PlanOf files job vex epoch = PlanUnder files (recordings_answer files) job vex epoch

@@ -1,10 +1,10 @@
 //! A job joined with its schedule, before its recordings are looked at.
-ghost use Rattle.std.specs.Prelude.{◌≡◌, ◌≤◌, ◌<◌, ◌^◌, IfOk, IfErr, IfSome, Ok, None, Some, length, option_copied};
+ghost use Rattle.std.specs.Prelude.{◌≡◌, ◌≤◌, ◌<◌, ◌^◌, IfOk, IfErr, IfSome, Ok, None, Some, length, unwrap_or, option_copied};
 ghost use Rattle.std.specs.List.{All};
 ghost use Rattle.std.specs.Str.{IsUtf8};
 ghost use Rattle.dev_traits.specs.Told.{WhereTold};
 ghost use Rattle.corr_model.specs.Files.{bytes_under};
-ghost use Rattle.piece_plan.specs.Epochs.{epochs_of};
+ghost use Rattle.plan_places.specs.Walk.{epochs_by};
 ghost use Rattle.job_epochs.specs.Sizes.{sizes_of};
 ghost use Rattle.run_notes.specs.Refusals.{IsCause};
 ghost use Rattle.run_notes.specs.Counted.{CountsReads};
@@ -22,17 +22,34 @@ use run_notes::Refusal;
 use scan_list::ScanList;
 use std::alloc::Global;
 
-/// The plan of a job, the text of its schedule, empty where there is none, and that of the job.
+/// The plan of a job, the samples of an epoch in force, the text of the job's schedule, empty where there is none, and that of the
+/// job.
 #[derive(Drop)]
 pub struct Joined {
     pub plan: Plan0,
+    pub epoch: u64,
     pub schedule: Vec<u8>,
     pub text: Vec<u8>,
     pub ghost short_schedule: { length schedule.items ≤ 8388608 },
     pub ghost short_text: { length text.items ≤ 4194304 },
     pub ghost few: { All (λ s. length s.files < 2 ^ 32) plan.stations },
     pub ghost few_scans: { length plan.scans ≤ 8388608 },
-    pub ghost few_epochs: { length (epochs_of (sizes_of plan)) ≤ 4294967296 },
+    pub ghost some_epoch: { 1 ≤ epoch },
+    pub ghost short_epoch: { epoch ≤ 4194304 },
+    pub ghost few_epochs: { length (epochs_by (sizes_of plan) epoch) ≤ 4294967296 },
+}
+
+// The samples of an epoch in force: what is asked for, or else what the plan has.
+fn in_force(asked: Option<u64>, plan: &Plan0) -> u64
+    requires { IfSome asked (λ e. (1 ≤ e) × (e ≤ 4194304)) }
+    ensures value { result ≡ unwrap_or asked plan.now.epoch }
+    ensures some { 1 ≤ result }
+    ensures short { result ≤ 4194304 }
+{
+    match asked {
+        Some(epoch) => epoch,
+        None => plan.plan().epoch,
+    }
 }
 
 // A job and a schedule with these texts, joined.
@@ -42,40 +59,52 @@ fn joins(
     text: Vec<u8>,
     job: &Job,
     list: &ScanList,
+    epoch: Option<u64>,
 ) -> Result<Joined, Refusal>
     requires short_schedule { length schedule.items ≤ 8388608 }
     requires short_text { length text.items ≤ 4194304 }
     requires few { All HasFewFiles job.now.stations }
     requires few_scans { length list.now.scans ≤ 8388608 }
-    ensures plan { IfOk result (λ j. Joins (λ stations. None) job.now list.now.scans (Ok j.plan)) }
+    requires epoch { IfSome epoch (λ e. (1 ≤ e) × (e ≤ 4194304)) }
+    ensures plan { IfOk result (λ j. Joins (λ stations. None) job.now epoch list.now.scans (Ok j.plan)) }
+    ensures epoch { IfOk result (λ j. j.epoch ≡ unwrap_or epoch j.plan.epoch) }
     ensures schedule { IfOk result (λ j. j.schedule.items ≡ schedule.items) }
     ensures text { IfOk result (λ j. j.text.items ≡ text.items) }
-    ensures cause { IfErr result (λ r. IsCause r (Joins (λ stations. None) job.now list.now.scans)) }
+    ensures cause { IfErr result (λ r. IsCause r (Joins (λ stations. None) job.now epoch list.now.scans)) }
     ensures stage { IfErr result IsOfTexts }
 {
-    let plan = plan_of(alloc, job, list)?;
+    let plan = plan_of(alloc, job, list, epoch)?;
+    let epoch = in_force(epoch, &plan);
     Ok(Joined {
         plan,
+        epoch,
         schedule,
         text,
     })
 }
 
 // A job that states its scans itself, joined.
-fn join_inline<F: Shelf>(alloc: Global, shelf: &mut F, job: &Name) -> Result<Joined, Refusal>
+fn join_inline<F: Shelf>(
+    alloc: Global,
+    shelf: &mut F,
+    job: &Name,
+    epoch: Option<u64>,
+) -> Result<Joined, Refusal>
     requires text { IsUtf8 job.now }
+    requires epoch { IfSome epoch (λ e. (1 ≤ e) × (e ≤ 4194304)) }
     ensures same { F.told shelf.new ≡ F.told shelf.old }
-    ensures plan { IfOk result (λ j. WhereTold (F.told shelf.old) (λ files. JoinOf files job.now None (Ok j.plan))) }
+    ensures plan { IfOk result (λ j. WhereTold (F.told shelf.old) (λ files. JoinOf files job.now None epoch (Ok j.plan))) }
+    ensures epoch { IfOk result (λ j. j.epoch ≡ unwrap_or epoch j.plan.epoch) }
     ensures schedule { IfOk result (λ j. WhereTold (F.told shelf.old) (λ files. j.schedule.items ≡ schedule_text files None)) }
     ensures text { IfOk result (λ j. WhereTold (F.told shelf.old) (λ files. j.text.items ≡ bytes_under files job.now)) }
-    ensures cause { IfErr result (λ r. WhereTold (F.told shelf.old) (λ files. IsCause r (JoinOf files job.now None))) }
+    ensures cause { IfErr result (λ r. WhereTold (F.told shelf.old) (λ files. IsCause r (JoinOf files job.now None epoch))) }
     ensures stage { IfErr result IsOfFiles }
     ensures counts { CountsReads (F.faults shelf.old) (F.faults shelf.new) result }
 {
     let read = load_job(alloc, shelf, job, true)?;
     let list = inline_schedule(alloc, &read.job)?;
     let schedule = Vec::new(alloc);
-    joins(alloc, schedule, read.text, &read.job, &list)
+    joins(alloc, schedule, read.text, &read.job, &list, epoch)
 }
 
 // A job beside a schedule, which is read first, joined.
@@ -84,42 +113,55 @@ fn join_beside<F: Shelf>(
     shelf: &mut F,
     job: &Name,
     vex: &Name,
+    epoch: Option<u64>,
 ) -> Result<Joined, Refusal>
     requires job_text { IsUtf8 job.now }
     requires vex_text { IsUtf8 vex.now }
+    requires epoch { IfSome epoch (λ e. (1 ≤ e) × (e ≤ 4194304)) }
     ensures same { F.told shelf.new ≡ F.told shelf.old }
-    ensures plan { IfOk result (λ j. WhereTold (F.told shelf.old) (λ files. JoinOf files job.now (Some vex.now) (Ok j.plan))) }
+    ensures plan { IfOk result (λ j. WhereTold (F.told shelf.old) (λ files. JoinOf files job.now (Some vex.now) epoch (Ok j.plan))) }
+    ensures epoch { IfOk result (λ j. j.epoch ≡ unwrap_or epoch j.plan.epoch) }
     ensures schedule { IfOk result (λ j. WhereTold (F.told shelf.old) (λ files. j.schedule.items ≡ schedule_text files (Some vex.now))) }
     ensures text { IfOk result (λ j. WhereTold (F.told shelf.old) (λ files. j.text.items ≡ bytes_under files job.now)) }
-    ensures cause { IfErr result (λ r. WhereTold (F.told shelf.old) (λ files. IsCause r (JoinOf files job.now (Some vex.now)))) }
+    ensures cause { IfErr result (λ r. WhereTold (F.told shelf.old) (λ files. IsCause r (JoinOf files job.now (Some vex.now) epoch))) }
     ensures stage { IfErr result IsOfFiles }
     ensures counts { CountsReads (F.faults shelf.old) (F.faults shelf.new) result }
 {
     let schedule = load_schedule(alloc, shelf, vex)?;
     let read = load_job(alloc, shelf, job, false)?;
-    joins(alloc, schedule.text, read.text, &read.job, &schedule.list)
+    joins(
+        alloc,
+        schedule.text,
+        read.text,
+        &read.job,
+        &schedule.list,
+        epoch,
+    )
 }
 
 /// Reads a job beside its schedule or, where there is none, by itself, and joins them: the schedule comes first, then the job, then
-/// both together. Nothing of the recordings is looked at.
+/// both together. Epochs have `epoch` samples, 1 to 4,194,304, or those of the job's own line. Nothing of the recordings is looked at.
 pub fn join<F: Shelf>(
     alloc: Global,
     job: &Name,
     vex: Option<&Name>,
+    epoch: Option<u64>,
     shelf: &mut F,
 ) -> Result<Joined, Refusal>
     requires job_text { IsUtf8 job.now }
     requires vex_text { IfSome vex (λ name. IsUtf8 name.now) }
+    requires epoch { IfSome epoch (λ e. (1 ≤ e) × (e ≤ 4194304)) }
     ensures same { F.told shelf.new ≡ F.told shelf.old }
-    ensures plan { IfOk result (λ j. WhereTold (F.told shelf.old) (λ files. JoinOf files job.now (option_copied vex.entry) (Ok j.plan))) }
+    ensures plan { IfOk result (λ j. WhereTold (F.told shelf.old) (λ files. JoinOf files job.now (option_copied vex.entry) epoch (Ok j.plan))) }
+    ensures epoch { IfOk result (λ j. j.epoch ≡ unwrap_or epoch j.plan.epoch) }
     ensures schedule { IfOk result (λ j. WhereTold (F.told shelf.old) (λ files. j.schedule.items ≡ schedule_text files (option_copied vex.entry))) }
     ensures text { IfOk result (λ j. WhereTold (F.told shelf.old) (λ files. j.text.items ≡ bytes_under files job.now)) }
-    ensures cause { IfErr result (λ r. WhereTold (F.told shelf.old) (λ files. IsCause r (JoinOf files job.now (option_copied vex.entry)))) }
+    ensures cause { IfErr result (λ r. WhereTold (F.told shelf.old) (λ files. IsCause r (JoinOf files job.now (option_copied vex.entry) epoch))) }
     ensures stage { IfErr result IsOfFiles }
     ensures counts { CountsReads (F.faults shelf.old) (F.faults shelf.new) result }
 {
     match vex {
-        None => join_inline(alloc, shelf, job),
-        Some(vex) => join_beside(alloc, shelf, job, vex),
+        None => join_inline(alloc, shelf, job, epoch),
+        Some(vex) => join_beside(alloc, shelf, job, vex, epoch),
     }
 }

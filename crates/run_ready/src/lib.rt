@@ -6,7 +6,7 @@
 //! `load_recordings`.
 //!
 //! `specs/Outcome` says what a job comes to: its plan, or the answer of the first thing that is wrong, in the order of the
-//! steps. A job comes to one of these and no other (`laws`).
+//! steps. A job comes to one of these and no other, and to the same plan whatever length of an epoch is asked for (`laws`).
 #![tactic(auto)]
 
 mod identity;

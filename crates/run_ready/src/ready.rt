@@ -1,5 +1,5 @@
 //! What a command has before its output.
-ghost use Rattle.std.specs.Prelude.{◌≡◌, IfOk, IfErr, IfSome, OnOk, Ok, None, option_copied};
+ghost use Rattle.std.specs.Prelude.{◌≡◌, ◌≤◌, IfOk, IfErr, IfSome, OnOk, Ok, None, unwrap_or, option_copied};
 ghost use Rattle.std.specs.Str.{IsUtf8};
 ghost use Rattle.dev_traits.specs.Told.{WhereTold};
 ghost use Rattle.checkpoint_journal.specs.Identity.{identity_of};
@@ -23,24 +23,28 @@ use run_notes::Refusal;
 use std::alloc::Global;
 
 /// Reads a job beside its schedule or, where there is none, by itself, and joins them: the schedule comes first, then the job, then
-/// both together, then the sizes of all recordings, station by station and file by file, and the number of their slots.
+/// both together, then the sizes of all recordings, station by station and file by file, and the number of their slots. Epochs have
+/// `epoch` samples, 1 to 4,194,304, or those of the job's own line.
 pub fn survey<F: Shelf>(
     alloc: Global,
     job: &Name,
     vex: Option<&Name>,
+    epoch: Option<u64>,
     shelf: &mut F,
 ) -> Result<Survey, Refusal>
     requires job_text { IsUtf8 job.now }
     requires vex_text { IfSome vex (λ name. IsUtf8 name.now) }
+    requires epoch { IfSome epoch (λ e. (1 ≤ e) × (e ≤ 4194304)) }
     ensures same { F.told shelf.new ≡ F.told shelf.old }
-    ensures plan { IfOk result (λ s. WhereTold (F.told shelf.old) (λ files. SurveyOf files job.now (option_copied vex.entry) (Ok s.plan))) }
+    ensures plan { IfOk result (λ s. WhereTold (F.told shelf.old) (λ files. SurveyOf files job.now (option_copied vex.entry) epoch (Ok s.plan))) }
+    ensures epoch { IfOk result (λ s. s.epoch ≡ unwrap_or epoch s.plan.epoch) }
     ensures shelved { IfOk result (λ s. WhereTold (F.told shelf.old) (AreShelved s.files.items)) }
     ensures identity { IfOk result (λ s. WhereTold (F.told shelf.old) (λ files. s.identity ≡ identity_under files job.now (option_copied vex.entry) s.plan)) }
-    ensures cause { IfErr result (λ r. WhereTold (F.told shelf.old) (λ files. IsCause r (SurveyOf files job.now (option_copied vex.entry)))) }
+    ensures cause { IfErr result (λ r. WhereTold (F.told shelf.old) (λ files. IsCause r (SurveyOf files job.now (option_copied vex.entry) epoch))) }
     ensures stage { IfErr result IsOfFiles }
     ensures counts { CountsReads (F.faults shelf.old) (F.faults shelf.new) result }
 {
-    let joined = join(alloc, job, vex, shelf)?;
+    let joined = join(alloc, job, vex, epoch, shelf)?;
     survey_joined(alloc, joined, shelf)
 }
 
@@ -53,6 +57,7 @@ pub fn index_survey<F: Shelf>(
     requires { WhereTold (F.told shelf.old) (AreShelved survey.files.items) }
     ensures same { F.told shelf.new ≡ F.told shelf.old }
     ensures plan { IfOk result (λ ready. ready.plan ≡ survey.plan) }
+    ensures epoch { IfOk result (λ ready. ready.epoch ≡ survey.epoch) }
     ensures identity { IfOk result (λ ready. ready.identity ≡ survey.identity) }
     ensures recorded { IfOk result (λ ready. WhereTold (F.told shelf.old) (λ files. AreRecorded files ready.plan.stations ready.recordings.items)) }
     ensures agrees { OnOk result (WhereTold (F.told shelf.old) (λ files. first_foreign files survey.plan.stations ≡ None)) }
@@ -63,6 +68,7 @@ pub fn index_survey<F: Shelf>(
     let Survey {
         plan,
         epochs,
+        epoch,
         files,
         identity,
     } = survey;
@@ -70,6 +76,7 @@ pub fn index_survey<F: Shelf>(
     Ok(Ready {
         plan,
         epochs,
+        epoch,
         recordings,
         identity,
     })
@@ -83,6 +90,7 @@ pub fn load_recordings<F: Shelf>(
 ) -> Result<Ready, Refusal>
     ensures same { F.told shelf.new ≡ F.told shelf.old }
     ensures plan { IfOk result (λ ready. ready.plan ≡ joined.plan) }
+    ensures epoch { IfOk result (λ ready. ready.epoch ≡ joined.epoch) }
     ensures recorded { IfOk result (λ ready. WhereTold (F.told shelf.old) (λ files. AreRecorded files ready.plan.stations ready.recordings.items)) }
     ensures identity { IfOk result (λ ready. WhereTold (F.told shelf.old) (λ files. ready.identity ≡ identity_of joined.schedule.items joined.text.items (lengths_of files ready.plan.stations))) }
     ensures fit { OnOk result (WhereTold (F.told shelf.old) (λ files. recordings_answer files joined.plan.stations ≡ None)) }
@@ -99,18 +107,21 @@ pub fn prepare<F: Shelf>(
     alloc: Global,
     job: &Name,
     vex: Option<&Name>,
+    epoch: Option<u64>,
     shelf: &mut F,
 ) -> Result<Ready, Refusal>
     requires job_text { IsUtf8 job.now }
     requires vex_text { IfSome vex (λ name. IsUtf8 name.now) }
+    requires epoch { IfSome epoch (λ e. (1 ≤ e) × (e ≤ 4194304)) }
     ensures same { F.told shelf.new ≡ F.told shelf.old }
-    ensures plan { IfOk result (λ ready. WhereTold (F.told shelf.old) (λ files. PlanOf files job.now (option_copied vex.entry) (Ok ready.plan))) }
+    ensures plan { IfOk result (λ ready. WhereTold (F.told shelf.old) (λ files. PlanOf files job.now (option_copied vex.entry) epoch (Ok ready.plan))) }
+    ensures epoch { IfOk result (λ ready. ready.epoch ≡ unwrap_or epoch ready.plan.epoch) }
     ensures recorded { IfOk result (λ ready. WhereTold (F.told shelf.old) (λ files. AreRecorded files ready.plan.stations ready.recordings.items)) }
     ensures identity { IfOk result (λ ready. WhereTold (F.told shelf.old) (λ files. ready.identity ≡ identity_under files job.now (option_copied vex.entry) ready.plan)) }
-    ensures cause { IfErr result (λ r. WhereTold (F.told shelf.old) (λ files. IsCause r (PlanOf files job.now (option_copied vex.entry)))) }
+    ensures cause { IfErr result (λ r. WhereTold (F.told shelf.old) (λ files. IsCause r (PlanOf files job.now (option_copied vex.entry) epoch))) }
     ensures stage { IfErr result IsOfFiles }
     ensures counts { CountsReads (F.faults shelf.old) (F.faults shelf.new) result }
 {
-    let survey = survey(alloc, job, vex, shelf)?;
+    let survey = survey(alloc, job, vex, epoch, shelf)?;
     index_survey(alloc, survey, shelf)
 }

@@ -1,9 +1,9 @@
 //! A schedule, a job, and the plan that comes of both.
-ghost use Rattle.std.specs.Prelude.{◌≡◌, ◌≤◌, ◌<◌, ◌^◌, length, IsTrue, IsSome, IfOk, IfErr, Ok, Some};
+ghost use Rattle.std.specs.Prelude.{◌≡◌, ◌≤◌, ◌<◌, ◌^◌, length, IsTrue, IsSome, IfOk, IfErr, Ok, Some, IfSome, unwrap_or};
 ghost use Rattle.std.specs.List.{All};
 ghost use Rattle.std.specs.Str.{IsUtf8};
 ghost use Rattle.dev_traits.specs.Told.{WhereTold};
-ghost use Rattle.piece_plan.specs.Epochs.{epochs_of};
+ghost use Rattle.plan_places.specs.Walk.{epochs_by};
 ghost use Rattle.job_epochs.specs.Sizes.{sizes_of};
 ghost use Rattle.job_text.specs.Answer.{job_in};
 ghost use Rattle.job_join.specs.Joined.{joined};
@@ -173,18 +173,24 @@ fn cause_name<'a>(job: &'a Job, list: &'a ScanList, fault: JoinFault) -> &'a [u8
     }
 }
 
-/// The plan of a job and a schedule.
-pub fn plan_of(alloc: Global, job: &Job, list: &ScanList) -> Result<Plan0, Refusal>
+/// The plan of a job and a schedule, whose epochs have `epoch` samples, 1 to 4,194,304, or those of the job's own line.
+pub fn plan_of(
+    alloc: Global,
+    job: &Job,
+    list: &ScanList,
+    epoch: Option<u64>,
+) -> Result<Plan0, Refusal>
     requires few { All HasFewFiles job.now.stations }
     requires few_scans { length list.now.scans ≤ 8388608 }
-    ensures plan { IfOk result (λ plan. Is (answered (cause_answer job.now list.now.scans) (joined job.now list.now.scans)) (Ok plan)) }
+    requires epoch { IfSome epoch (λ e. (1 ≤ e) × (e ≤ 4194304)) }
+    ensures plan { IfOk result (λ plan. Is (answered (cause_answer job.now list.now.scans) (joined job.now (unwrap_or epoch job.now.epoch) list.now.scans)) (Ok plan)) }
     ensures few { IfOk result (λ plan. All (λ s. length s.files < 2 ^ 32) plan.stations) }
     ensures few_scans { IfOk result (λ plan. length plan.scans ≤ 8388608) }
-    ensures few_epochs { IfOk result (λ plan. length (epochs_of (sizes_of plan)) ≤ 4294967296) }
-    ensures cause { IfErr result (λ r. IsCause r (Is (answered (cause_answer job.now list.now.scans) (joined job.now list.now.scans)))) }
+    ensures few_epochs { IfOk result (λ plan. length (epochs_by (sizes_of plan) (unwrap_or epoch plan.epoch)) ≤ 4294967296) }
+    ensures cause { IfErr result (λ r. IsCause r (Is (answered (cause_answer job.now list.now.scans) (joined job.now (unwrap_or epoch job.now.epoch) list.now.scans)))) }
     ensures stage { IfErr result IsOfTexts }
 {
-    match join_job(alloc, job, list) {
+    match join_job(alloc, job, list, epoch) {
         Ok(plan) => {
             let _ranges = plan.plan();
             Ok(plan)

@@ -2,7 +2,7 @@
 ghost use Rattle.std.specs.Prelude.{◌≡◌, ◌≤◌, ◌<◌, ◌^◌, IfOk, IfErr, OnOk, None, length};
 ghost use Rattle.std.specs.List.{All, AllZip};
 ghost use Rattle.dev_traits.specs.Told.{WhereTold};
-ghost use Rattle.piece_plan.specs.Epochs.{epochs_of};
+ghost use Rattle.plan_places.specs.Walk.{epochs_by};
 ghost use Rattle.job_epochs.specs.Sizes.{sizes_of};
 ghost use Rattle.checkpoint_journal.specs.Identity.{identity_of};
 ghost use Rattle.run_notes.specs.Refusals.{IsCause};
@@ -26,18 +26,22 @@ use piece_plan::JobPlan;
 use run_notes::Refusal;
 use std::alloc::{AllocError, Global};
 
-/// A plan, its epochs, the files of its stations with their sizes, in the stations' order, and the identity of its job.
+/// A plan, what it is cut by, the samples of an epoch in force, the files of the plan's stations with their sizes, in the stations'
+/// order, and the identity of its job.
 #[derive(Drop)]
 pub struct Survey {
     pub plan: Plan0,
     pub epochs: JobPlan,
+    pub epoch: u64,
     pub files: Vec<StationFiles>,
     pub identity: Identity,
     pub ghost sized: { AllZip IsSizedBy plan.stations files.items } by { AreSized-prop plan.stations files.items },
     pub ghost slots: { All (λ z. z.slots ≤ 2 ^ 26) files.items },
     pub ghost few: { length plan.scans ≤ 8388608 },
     pub ghost cut: { epochs ≡ sizes_of plan },
-    pub ghost few_epochs: { length (epochs_of epochs) ≤ 4294967296 },
+    pub ghost some_epoch: { 1 ≤ epoch },
+    pub ghost short_epoch: { epoch ≤ 4194304 },
+    pub ghost few_epochs: { length (epochs_by epochs epoch) ≤ 4294967296 },
     pub ghost short: { length identity < 2 ^ 62 },
 }
 
@@ -47,16 +51,20 @@ fn survey_of(
     schedule: &[u8],
     job: &[u8],
     plan: Plan0,
+    epoch: u64,
     files: Vec<StationFiles>,
 ) -> Result<Survey, AllocError>
     requires short_schedule { length schedule.now ≤ 8388608 }
     requires short_job { length job.now ≤ 4194304 }
     requires few_scans { length plan.scans ≤ 8388608 }
-    requires few_epochs { length (epochs_of (sizes_of plan)) ≤ 4294967296 }
+    requires some_epoch { 1 ≤ epoch }
+    requires short_epoch { epoch ≤ 4194304 }
+    requires few_epochs { length (epochs_by (sizes_of plan) epoch) ≤ 4294967296 }
     requires few_stations { length plan.stations ≤ 32 }
     requires sized { AllZip IsSizedBy plan.stations files.items }
     requires slots { All (λ z. z.slots ≤ 2 ^ 26) files.items }
     ensures plan { IfOk result (λ s. s.plan ≡ plan) }
+    ensures epoch { IfOk result (λ s. s.epoch ≡ epoch) }
     ensures files { IfOk result (λ s. s.files ≡ files) }
     ensures identity { IfOk result (λ s. s.identity ≡ identity_of schedule.now job.now (sizes_in files.items)) }
 {
@@ -65,6 +73,7 @@ fn survey_of(
     Ok(Survey {
         plan,
         epochs,
+        epoch,
         files,
         identity,
     })
@@ -79,6 +88,7 @@ pub fn survey_joined<F: Shelf>(
 ) -> Result<Survey, Refusal>
     ensures same { F.told shelf.new ≡ F.told shelf.old }
     ensures plan { IfOk result (λ s. s.plan ≡ joined.plan) }
+    ensures epoch { IfOk result (λ s. s.epoch ≡ joined.epoch) }
     ensures shelved { IfOk result (λ s. WhereTold (F.told shelf.old) (AreShelved s.files.items)) }
     ensures identity { IfOk result (λ s. WhereTold (F.told shelf.old) (λ files. s.identity ≡ identity_of joined.schedule.items joined.text.items (lengths_of files s.plan.stations))) }
     ensures fit { OnOk result (WhereTold (F.told shelf.old) (λ files. files_answer files joined.plan.stations ≡ None)) }
@@ -89,9 +99,10 @@ pub fn survey_joined<F: Shelf>(
 {
     let Joined {
         plan,
+        epoch,
         schedule,
         text,
     } = joined;
     let files = files_of(alloc, shelf, plan.plan().stations.items())?;
-    Ok(survey_of(alloc, &schedule, &text, plan, files)?)
+    Ok(survey_of(alloc, &schedule, &text, plan, epoch, files)?)
 }

@@ -13,7 +13,10 @@ use Rattle.frame_index.specs.declared.recording.FileRef.{FileRef}
 use Rattle.job_plan.specs.declared.plan.StationPlan.{StationPlan}
 use Rattle.job_plan.specs.declared.plan.Plan.{Plan}
 use Rattle.job_epochs.specs.Sizes.{sizes_of}
-use Rattle.piece_plan.specs.Epochs.{epochs_of}
+use Rattle.piece_plan.specs.declared.epoch.EpochPlan.{EpochPlan}
+use Rattle.piece_plan.specs.Epochs.{JobSizes}
+use Rattle.piece_plan.specs.Order.{Place, first_place}
+use Rattle.plan_places.specs.Walk.{IsWalk, AreLeft, epochs_by}
 use Rattle.sink_text.specs.Written.{StretchState, Puts}
 use Rattle.sink_text.proofs.WrittenText.{Puts-then, Puts-nothing, flat_map-next}
 use Rattle.station_stream.specs.declared.recording.Recording.{Recording}
@@ -102,11 +105,21 @@ PutsLines-all stations recordings i all lines = record {
       lines.same files recorded ∙ ap (λ (some : List StationPlan). flat_map (station_line files) some) (take_all i stations all);
 }
 
+-- the epochs that are left at the start of a job are those of the whole job
+pub left-whole : (job : JobSizes) (epoch : ℕ) (due : Option Place) (count : ℕ)
+    → ((epochs others : List EpochPlan) → IsWalk job epoch (first_place 0 job.scans) epochs → IsWalk job epoch (first_place 0 job.scans) others → epochs ≡ others)
+    → IsWalk job epoch (first_place 0 job.scans) (epochs_by job epoch)
+    → due ≡ first_place 0 job.scans
+    → AreLeft job epoch due count
+    → count ≡ length (epochs_by job epoch)
+left-whole job epoch due count alone whole first left =
+    left.many ∙ ap length (alone left.epochs (epochs_by job epoch) (subst (λ (d : Option Place). IsWalk job epoch d left.epochs) first left.walk) whole)
+
 -- the head and the stations' lines
-pub check_text-lines : (plan : Plan) (files : Files) (scans epochs : ℕ) (text : List ℕ)
+pub check_text-lines : (plan : Plan) (epoch : ℕ) (files : Files) (scans epochs : ℕ) (text : List ℕ)
     → scans ≡ length plan.scans
-    → epochs ≡ length (epochs_of (sizes_of plan))
+    → epochs ≡ length (epochs_by (sizes_of plan) epoch)
     → text ≡ flat_map (station_line files) plan.stations
-    → codes "scans " ++ decimal scans ++ 10 ∷ [] ++ codes "epochs " ++ decimal epochs ++ 10 ∷ [] ++ text ≡ check_text plan files
+    → codes "scans " ++ decimal scans ++ 10 ∷ [] ++ codes "epochs " ++ decimal epochs ++ 10 ∷ [] ++ text ≡ check_text plan epoch files
 unfolding check_text
-check_text-lines plan files scans epochs text many all lines = rw (many, all, lines) refl
+check_text-lines plan epoch files scans epochs text many all lines = rw (many, all, lines) refl

@@ -2,7 +2,7 @@
 use Rattle.std.specs.Prelude.{ℕ, List, [], ◌∷◌, ◌++◌, length, map, flat_map, codes, decimal}
 use Rattle.corr_model.specs.Files.{Files, bytes_under}
 use Rattle.corr_model.specs.Slots.{station_slots}
-use Rattle.piece_plan.specs.Epochs.{epochs_of}
+use Rattle.plan_places.specs.Walk.{epochs_by}
 use Rattle.frame_index.specs.declared.counts.Counts.{Counts}
 use Rattle.frame_index.specs.Counted.{counts_of}
 use Rattle.job_plan.specs.declared.plan.StationPlan.{StationPlan}
@@ -28,11 +28,11 @@ abbrev pub station_line : Files → StationPlan → List ℕ
 station_line files s =
     counts_line s.key (counts_of s.shape (station_slots s.shape.frame_bytes (map (bytes_under files) s.files)))
 
--- how many scans are correlated, how many epochs they have, and a line for each station
-unfoldable pub check_text : Plan → Files → List ℕ
-check_text plan files =
+-- how many scans are correlated, how many epochs of a length they have, and a line for each station
+unfoldable pub check_text : Plan → ℕ → Files → List ℕ
+check_text plan epoch files =
     codes "scans " ++ decimal (length plan.scans) ++ 10 ∷ []
-    ++ codes "epochs " ++ decimal (length (epochs_of (sizes_of plan))) ++ 10 ∷ []
+    ++ codes "epochs " ++ decimal (length (epochs_by (sizes_of plan) epoch)) ++ 10 ∷ []
     ++ flat_map (station_line files) plan.stations
 
 -- how many epochs are kept, and of how many

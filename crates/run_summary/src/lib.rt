@@ -1,5 +1,6 @@
 //! What the commands say that look at a job: how many scans and epochs it has and the counts of each station's slots, or how many
-//! epochs its journal keeps. It stands on `ready_job` for the job and on `sink_text` for the lines. No call takes memory.
+//! epochs its journal keeps. It stands on `ready_job` for the job, on `plan_places` for the number of its epochs and on `sink_text`
+//! for the lines. No call takes memory.
 #![tactic(auto)]
 
 mod summary;

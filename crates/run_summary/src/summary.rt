@@ -10,21 +10,25 @@ ghost use Rattle.run_summary.specs.Summaries.{check_text, counts_line, kept_line
 use dev_traits::{Failed, Sink};
 use frame_index::Counts;
 use job_plan::StationPlan;
+use plan_places::laws::{epochs_by_length_are_walk, walks_are_alone};
+use plan_places::{left, start};
 use ready_job::Ready;
 use sink_text::{Piece, Stretch, append_pieces};
 use station_stream::Recording;
 
-/// Appends what a job and its recordings hold: the lines `scans N` and `epochs N`, and for each station in order its key and the
-/// counts of its slots.
+/// Appends what a job and its recordings hold: the lines `scans N` and `epochs N`, with epochs of the length in force, and for each
+/// station in order its key and the counts of its slots.
 pub fn write_check<S: Sink>(ready: &Ready, out: &mut S) -> Result<(), Failed>
     ensures { (text : List ℕ) × Appends (S.told out.old) (S.told out.new) text (S.faults out.old) (S.faults out.new) result
-        × ((files : Files) → AreRecorded files ready.now.plan.stations ready.now.recordings.items → text ≡ check_text ready.now.plan files) }
+        × ((files : Files) → AreRecorded files ready.now.plan.stations ready.now.recordings.items → text ≡ check_text ready.now.plan ready.now.epoch files) }
 {
+    epochs_by_length_are_walk();
+    walks_are_alone();
     let plan = ready.plan.plan();
     let mut lines = Stretch::new();
     put_head(
         plan.scans.items().len() as u64,
-        ready.epochs.epochs(),
+        left(&ready.epochs, start(&ready.epochs), ready.epoch),
         &mut lines,
         out,
     );

@@ -21,6 +21,10 @@ number_in least most text = if is_count text then within least most (digits_valu
 abbrev pub workers_in : List ℕ → Result ℕ WordsFault
 workers_in = number_in 1 64
 
+-- the samples of an epoch, from 1 to 4,194,304
+abbrev pub epoch_in : List ℕ → Result ℕ WordsFault
+epoch_in = number_in 1 4194304
+
 -- the samples of a piece, from 64 to 4,194,304
 abbrev pub piece_in : List ℕ → Result ℕ WordsFault
 piece_in = number_in 64 4194304

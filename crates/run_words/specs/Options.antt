@@ -58,6 +58,10 @@ abbrev pub ◌>>=◌ : {A B : Type 0} → Result A WordsFault → (A → Result 
 unfoldable pub needed : Text → List Row → Result Text WordsFault
 needed name rows = option_map_or Ok (first_of name rows) (Err OptionFault)
 
+-- what is read of the text of an option that may be absent, where it is there
+unfoldable pub given : {A : Type 0} → Text → (Text → Result A WordsFault) → List Row → Result (Option A) WordsFault
+given name read rows = option_map_or (λ text. read text >>= λ x. Ok (Some x)) (first_of name rows) (Ok None)
+
 -- what is read of the words that a command takes
 unfoldable pub taken_by : {A : Type 0} → App → (List Row → Result A WordsFault) → List Text → Result A WordsFault
 taken_by app read words = option_map_or read (rows_in app words) (Err OptionFault)

@@ -7,8 +7,8 @@ use Rattle.run_words.specs.declared.fault.WordsFault.{WordsFault}
 use Rattle.run_words.specs.declared.fault.WordsFault.TheVariants.{NoCommand, UnknownCommand, Memory}
 use Rattle.run_words.specs.declared.order.Order.{Order}
 use Rattle.run_words.specs.declared.order.Order.TheVariants.{Run, Plain, Check, Status, Dump, Gen, Fringe, Verify, Bins}
-use Rattle.run_words.specs.Numbers.{number_in, workers_in, piece_in}
-use Rattle.run_words.specs.Options.{◌>>=◌, option_rule, needed_option, needed_word, bare_app, work_app, needed, taken_by}
+use Rattle.run_words.specs.Numbers.{number_in, epoch_in, workers_in, piece_in}
+use Rattle.run_words.specs.Options.{◌>>=◌, option_rule, needed_option, needed_word, bare_app, work_app, needed, given, taken_by}
 
 -- ---- a command on a job, by the names of its file and of the schedule's
 
@@ -22,19 +22,32 @@ job_names_of rows = needed (codes "job") rows >>= λ job. Ok (job, first_of (cod
 abbrev pub job_order : (Text → Option Text → Order) → Text → List Text → Result Order WordsFault
 job_order order command words = taken_by (job_app command) job_names_of words >>= λ names. Ok (order names.0 names.1)
 
+-- ---- a command on a job that may have another length of its epochs than the job's own line says: `check` and `status`
+
+abbrev pub cut_app : Text → App
+cut_app name = with_rule (job_app name) (option_rule (codes "epoch"))
+
+-- the two names, and the length
+unfoldable pub cut_names_of : List Row → Result ((Text × Option Text) × Option ℕ) WordsFault
+cut_names_of rows = job_names_of rows >>= λ names. given (codes "epoch") epoch_in rows >>= λ epoch. Ok (names, epoch)
+
+abbrev pub cut_order : (Text → Option Text → Option ℕ → Order) → Text → List Text → Result Order WordsFault
+cut_order order command words = taken_by (cut_app command) cut_names_of words >>= λ x. Ok (order x.0.0 x.0.1 x.1)
+
 -- ---- `run`
 
 abbrev pub run_app : App
-run_app = work_app (job_app (codes "run"))
+run_app = work_app (cut_app (codes "run"))
 
 unfoldable pub run_of : List Row → Result Order WordsFault
 run_of rows =
     needed (codes "job") rows >>= λ job.
     needed (codes "workers") rows >>= λ workers_text.
     needed (codes "piece") rows >>= λ piece_text.
+    given (codes "epoch") epoch_in rows >>= λ epoch.
     workers_in workers_text >>= λ workers.
     piece_in piece_text >>= λ piece.
-    Ok (Run job (first_of (codes "vex") rows) workers piece)
+    Ok (Run job (first_of (codes "vex") rows) epoch workers piece)
 
 -- ---- `dump`
 
@@ -110,8 +123,8 @@ unfoldable pub order_after : Text → List Text → Result Order WordsFault
 order_after command words =
     if bytes_eq command (codes "run") then taken_by run_app run_of words
     else if bytes_eq command (codes "plain") then job_order Plain (codes "plain") words
-    else if bytes_eq command (codes "check") then job_order Check (codes "check") words
-    else if bytes_eq command (codes "status") then job_order Status (codes "status") words
+    else if bytes_eq command (codes "check") then cut_order Check (codes "check") words
+    else if bytes_eq command (codes "status") then cut_order Status (codes "status") words
     else if bytes_eq command (codes "dump") then taken_by dump_app dump_of words
     else if bytes_eq command (codes "gen") then taken_by gen_app gen_of words
     else if bytes_eq command (codes "fringe") then taken_by fringe_app fringe_of words
@@ -133,6 +146,10 @@ Gives = steps.Gives Memory (λ x. x)
 abbrev pub AreNames : Text → Option Text → Type 0
 AreNames job vex = IsUtf8 job × IfSome vex IsUtf8
 
+-- the samples of an epoch, in their range
+abbrev pub IsCut : Option ℕ → Type 0
+IsCut epoch = IfSome epoch (λ e. (1 ≤ e) × (e ≤ 4194304))
+
 -- the number of workers and the samples of a piece, in their ranges
 pub record IsWork (workers piece : ℕ) : Type 0 where
   pub some : 1 ≤ workers
@@ -153,10 +170,10 @@ pub record IsGrid (rates divide : ℕ) : Type 0 where
 
 -- an order whose names are texts, and whose numbers are in their ranges
 abbrev pub IsOrder : Order → Type 0
-IsOrder (Run job vex workers piece) = AreNames job vex × IsWork workers piece
+IsOrder (Run job vex epoch workers piece) = AreNames job vex × (IsCut epoch × IsWork workers piece)
 IsOrder (Plain job vex) = AreNames job vex
-IsOrder (Check job vex) = AreNames job vex
-IsOrder (Status job vex) = AreNames job vex
+IsOrder (Check job vex epoch) = AreNames job vex × IsCut epoch
+IsOrder (Status job vex epoch) = AreNames job vex × IsCut epoch
 IsOrder (Dump file) = IsUtf8 file
 IsOrder (Gen seed seconds workers piece) = IsSample seconds × IsWork workers piece
 IsOrder (Fringe file rates divide) = IsUtf8 file × IsGrid rates divide

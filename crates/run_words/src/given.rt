@@ -1,10 +1,13 @@
 //! Texts and names that words give for options.
-ghost use Rattle.std.specs.Prelude.{◌≡◌, IfOk, IfErr, IfSome, Ok, Err, option_map};
+ghost use Rattle.std.specs.Prelude.{◌≡◌, IfOk, IfErr, IfSome, Ok, Err, codes, option_map};
 ghost use Rattle.std.specs.Str.{IsUtf8};
 ghost use Rattle.clap.specs.Words.{rows_of, found_of, first_of};
-ghost use Rattle.run_words.specs.Options.{needed};
+ghost use Rattle.run_words.specs.Numbers.{epoch_in};
+ghost use Rattle.run_words.specs.Options.{needed, given};
+ghost use Rattle.run_words.specs.Orders.{IsCut};
 
 use crate::fault::WordsFault;
+use crate::numbers::epoch_in;
 use clap::ArgMatches;
 use num_time::Name;
 use std::alloc::{AllocError, Global};
@@ -25,6 +28,18 @@ pub(crate) fn needed<'a>(matches: &ArgMatches<'a>, name: &str) -> Result<&'a str
     match text_of(matches, name) {
         Some(text) => Ok(text),
         None => Err(WordsFault::Option),
+    }
+}
+
+/// The samples of an epoch, where the option is given.
+#[tactic(auto, unfolding(crate::specs::Options::given))]
+pub(crate) fn epoch_given(matches: &ArgMatches) -> Result<Option<u64>, WordsFault>
+    ensures epoch { result ≡ given (codes "epoch") epoch_in (rows_of (found_of matches.now)) }
+    ensures cut { IfOk result IsCut }
+{
+    match text_of(matches, "epoch") {
+        Some(text) => Ok(Some(epoch_in(text)?)),
+        None => Ok(None),
     }
 }
 

@@ -1,7 +1,7 @@
 //! Numbers among the words.
 ghost use Rattle.std.specs.Prelude.{◌≡◌, ◌≤◌, IfOk};
 ghost use Rattle.num_time.specs.Numerals.{are_digits};
-ghost use Rattle.run_words.specs.Numbers.{is_count, number_in, within, workers_in, piece_in};
+ghost use Rattle.run_words.specs.Numbers.{is_count, number_in, within, epoch_in, workers_in, piece_in};
 
 use crate::fault::WordsFault;
 
@@ -53,6 +53,14 @@ pub(crate) fn workers_in(text: &str) -> Result<u32, WordsFault>
 {
     let workers = number_in(text, 1, 64)?;
     Ok(workers as u32)
+}
+
+/// The samples of an epoch that a text writes.
+pub(crate) fn epoch_in(text: &str) -> Result<u64, WordsFault>
+    ensures number { result ≡ epoch_in text.now }
+    ensures range { IfOk result (λ epoch. (1 ≤ epoch) × (epoch ≤ 4194304)) }
+{
+    number_in(text, 1, 4_194_304)
 }
 
 /// The samples of a piece that a text writes.

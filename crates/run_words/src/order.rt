@@ -2,18 +2,18 @@
 ghost use Rattle.std.specs.Prelude.{◌≡◌, IfOk, map, string_bytes};
 ghost use Rattle.clap.specs.Words.{app_of, rows_of, found_of};
 ghost use Rattle.run_words.specs.Options.{taken_by};
-ghost use Rattle.run_words.specs.Orders.{job_app, job_names_of, run_app, run_of, dump_app, dump_of, gen_app, gen_of, fringe_app, fringe_of, verify_app, verify_of, bins_app, bins_of, order_after, Gives, AreNames, IsOrder};
+ghost use Rattle.run_words.specs.Orders.{job_app, job_names_of, cut_app, cut_names_of, run_app, run_of, dump_app, dump_of, gen_app, gen_of, fringe_app, fringe_of, verify_app, verify_of, bins_app, bins_of, order_after, Gives, AreNames, IsCut, IsOrder};
 
 use crate::fault::WordsFault;
-use crate::given::{name_given, name_of, needed};
+use crate::given::{epoch_given, name_given, name_of, needed};
 use crate::numbers::{number_in, piece_in, workers_in};
 use crate::options::{bare, needed_option, needed_word, option, parsed, with, with_work};
 use clap::{ArgMatches, Command};
 use num_time::Name;
 use std::alloc::{AllocError, Global};
 
-/// What a call asks for, by its command: the name of the job's file and that of the schedule's, where there is one; how many
-/// workers share the work, and the samples of a piece of it; the name of a record file; of a generated job the seed and the
+/// What a call asks for, by its command: the name of the job's file and that of the schedule's, where there is one; the samples
+/// of an epoch, where they are not those of the job's own line; how many workers share the work, and the samples of a piece of it; the name of a record file; of a generated job the seed and the
 /// length in seconds; of a search for fringes how many rates lie on either side of 0, and what divides a rate to steps of a
 /// sixteenth of a turn in an integration; the name of a certificate's file; and that of the file of a pulse's phase.
 #[derive(Debug, Drop)]
@@ -21,6 +21,7 @@ pub enum Order {
     Run {
         job: Name,
         vex: Option<Name>,
+        epoch: Option<u64>,
         workers: u32,
         piece: u64,
     },
@@ -31,10 +32,12 @@ pub enum Order {
     Check {
         job: Name,
         vex: Option<Name>,
+        epoch: Option<u64>,
     },
     Status {
         job: Name,
         vex: Option<Name>,
+        epoch: Option<u64>,
     },
     Dump {
         file: Name,
@@ -79,11 +82,11 @@ pub(crate) fn order_after(
         let (job, vex) = job_names(alloc, "plain", words)?;
         Ok(Order::Plain { job, vex })
     } else if command == "check" {
-        let (job, vex) = job_names(alloc, "check", words)?;
-        Ok(Order::Check { job, vex })
+        let ((job, vex), epoch) = cut_names(alloc, "check", words)?;
+        Ok(Order::Check { job, vex, epoch })
     } else if command == "status" {
-        let (job, vex) = job_names(alloc, "status", words)?;
-        Ok(Order::Status { job, vex })
+        let ((job, vex), epoch) = cut_names(alloc, "status", words)?;
+        Ok(Order::Status { job, vex, epoch })
     } else if command == "dump" {
         dump_order(alloc, words)
     } else if command == "gen" {
@@ -99,7 +102,7 @@ pub(crate) fn order_after(
     }
 }
 
-// ---- a command on a job, by the names of its file and of the schedule's: `plain`, `check` and `status`
+// ---- a command on a job, by the names of its file and of the schedule's: `plain`
 
 /// A command on a job.
 fn job_command<'a>(alloc: Global, name: &'a str) -> Result<Command<'a>, AllocError>
@@ -133,13 +136,52 @@ fn job_names(
     job_names_of(alloc, &matches)
 }
 
-// ---- `run`: a job, the workers that share its work, and the samples of a piece
+// ---- a command on a job that may have another length of its epochs than the job's own line says: `check` and `status`
+
+// A command on such a job.
+fn cut_command<'a>(alloc: Global, name: &'a str) -> Result<Command<'a>, AllocError>
+    ensures { IfOk result (λ command. app_of command ≡ cut_app name.entry.now) }
+{
+    let command = job_command(alloc, name)?;
+    with(command, option(alloc, "epoch"))
+}
+
+// The names, and the samples of an epoch.
+#[tactic(auto, unfolding(crate::specs::Orders::cut_names_of))]
+fn cut_names_of(
+    alloc: Global,
+    matches: &ArgMatches,
+) -> Result<((Name, Option<Name>), Option<u64>), WordsFault>
+    ensures names { Gives result (cut_names_of (rows_of (found_of matches.now))) }
+    ensures texts { IfOk result (λ x. AreNames x.0.0 x.0.1) }
+    ensures cut { IfOk result (λ x. IsCut x.1) }
+{
+    let names = job_names_of(alloc, matches)?;
+    Ok((names, epoch_given(matches)?))
+}
+
+// The names and the samples of an epoch in the words behind a command on such a job.
+#[tactic(auto, unfolding(crate::specs::Options::taken_by))]
+fn cut_names(
+    alloc: Global,
+    command: &str,
+    words: &[String],
+) -> Result<((Name, Option<Name>), Option<u64>), WordsFault>
+    ensures names { Gives result (taken_by (cut_app command.now) cut_names_of (map string_bytes words.now)) }
+    ensures texts { IfOk result (λ x. AreNames x.0.0 x.0.1) }
+    ensures cut { IfOk result (λ x. IsCut x.1) }
+{
+    let matches = parsed(cut_command(alloc, command)?, words)?;
+    cut_names_of(alloc, &matches)
+}
+
+// ---- `run`: a job as of `check`, the workers that share its work, and the samples of a piece
 
 // The command.
 fn run_command<'a>(alloc: Global) -> Result<Command<'a>, AllocError>
     ensures { IfOk result (λ command. app_of command ≡ run_app) }
 {
-    let command = job_command(alloc, "run")?;
+    let command = cut_command(alloc, "run")?;
     with_work(alloc, command)
 }
 
@@ -152,11 +194,13 @@ fn run_of(alloc: Global, matches: &ArgMatches) -> Result<Order, WordsFault>
     let job = needed(matches, "job")?;
     let workers = needed(matches, "workers")?;
     let piece = needed(matches, "piece")?;
+    let epoch = epoch_given(matches)?;
     let workers = workers_in(workers)?;
     let piece = piece_in(piece)?;
     Ok(Order::Run {
         job: name_of(alloc, job)?,
         vex: name_given(alloc, matches, "vex")?,
+        epoch,
         workers,
         piece,
     })

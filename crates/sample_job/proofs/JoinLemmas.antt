@@ -1,6 +1,6 @@
 -- The job of a sample joined with its own scan.
 use Rattle.std.specs.Prelude.{map, max, codes}
-use Rattle.std.proofs.Common.{◌≡◌, ◌≤◌, arith, ℕ, List, [], ◌∷◌, Option, None, Some, Result, Ok, refl}
+use Rattle.std.proofs.Common.{◌≡◌, ◌≤◌, arith, ℕ, List, [], ◌∷◌, None, Ok, refl}
 use Rattle.job_text.specs.Inline.{chan_of, scan_of, scans_of}
 use Rattle.job_join.specs.Standing.{taken, stands_in, rate_of, unknown_scan, unknown_station}
 use Rattle.job_join.specs.Channels.{channels_of, chans_in}
@@ -69,20 +69,20 @@ clocks n =
 
 -- ---- the plan
 
-refusal-none : (job : JobFields) (scans : List Scan) → unknown_scan job scans ≡ None → unknown_station job scans ≡ None → rate_differs job scans ≡ None
+refusal-none : (job : JobFields) (epoch : ℕ) (scans : List Scan) → unknown_scan job scans ≡ None → unknown_station job scans ≡ None → rate_differs job scans ≡ None
     → channel_differs job scans ≡ None → product_differs job scans ≡ None → frame_rate job scans ≡ None → no_model job scans ≡ None → no_clock job scans ≡ None
-    → limit job scans ≡ None → refusal_of job scans ≡ None
+    → limit job epoch scans ≡ None → refusal_of job epoch scans ≡ None
 unfolding refusal_of
-refusal-none job scans a b c d e f g h i = rw (a, b, c, d, e, f, g, h, i) refl
+refusal-none job epoch scans a b c d e f g h i = rw (a, b, c, d, e, f, g, h, i) refl
 
-plan-unless : (job : JobFields) (scans : List Scan) → refusal_of job scans ≡ None → joined job scans ≡ Ok (plan_of job scans)
-plan-unless job scans none = rw none refl
+plan-unless : (job : JobFields) (epoch : ℕ) (scans : List Scan) → refusal_of job epoch scans ≡ None → joined job epoch scans ≡ Ok (plan_of job scans)
+plan-unless job epoch scans none = rw none refl
 
-pub joined-is : (n : ℕ) → n ≤ 9600000 → limit (job_with n) (scans_of (job_with n)) ≡ None
-    → joined (job_with n) (scans_of (job_with n)) ≡ Ok (plan_of (job_with n) (scans_of (job_with n)))
+pub joined-is : (n : ℕ) → n ≤ 9600000 → limit (job_with n) 50000 (scans_of (job_with n)) ≡ None
+    → joined (job_with n) 50000 (scans_of (job_with n)) ≡ Ok (plan_of (job_with n) (scans_of (job_with n)))
 joined-is n few sizes =
-    plan-unless (job_with n) (scans_of (job_with n))
-    (refusal-none (job_with n) (scans_of (job_with n)) (known-scan n) (known-station n) (rates n) (channels n) (products n) (frames n) (models n few) (clocks n) sizes)
+    plan-unless (job_with n) 50000 (scans_of (job_with n))
+    (refusal-none (job_with n) 50000 (scans_of (job_with n)) (known-scan n) (known-station n) (rates n) (channels n) (products n) (frames n) (models n few) (clocks n) sizes)
 
 -- its stations
 abbrev pub station_at : StationFields → StationPlan

@@ -1,16 +1,15 @@
 -- The plan of a sample.
 use Rattle.std.specs.Prelude.{nat_lt, option_map}
-use Rattle.std.proofs.Common.{◌≡◌, ◌∙◌, ◌+◌, ◌*◌, ◌/◌, ◌≤◌, arith, ℕ, false, List, [], ◌∷◌, codes, length, Option, None, Some, Result, Ok, Err, refl, sym, ap}
+use Rattle.std.proofs.Common.{◌≡◌, ◌∙◌, ◌+◌, ◌*◌, ◌/◌, ◌≤◌, arith, ℕ, false, List, [], ◌∷◌, codes, length, Option, None, Result, Ok, Err, refl, sym, ap}
 use Rattle.std.proofs.lemmas.Bool.{le-ltb}
 use Rattle.corr_model.specs.Files.{Files}
-use Rattle.frame_index.specs.Foreign.{foreign_field}
 use Rattle.job_plan.specs.declared.plan.Plan.{Plan}
 use Rattle.job_plan.specs.declared.plan.StationPlan.{StationPlan}
 use Rattle.sample_gen.specs.Frames.{recording_of}
 use Rattle.sample_gen.specs.Job.{job_of}
 use Rattle.job_text.specs.Inline.{scans_of}
 use Rattle.job_join.specs.declared.fault.Quantity.TheVariants.{Job}
-use Rattle.job_join.specs.Joined.{plan_of, station_plan}
+use Rattle.job_join.specs.Joined.{plan_of}
 use Rattle.run_notes.specs.declared.measure.Measure.TheVariants.{Job as OfJob}
 use Rattle.run_notes.specs.Answers.{Answer, job_answer, recording_answer}
 use Rattle.run_ready.specs.Steps.{answered, unless}
@@ -95,8 +94,8 @@ planned seed seconds some few =
 -- a job comes to one outcome
 abbrev pub OneOutcome : Type 0
 OneOutcome =
-    (files : Files) (wrong : Wrong) (job : List ℕ) (vex : Option (List ℕ)) (a b : Result Plan Answer)
-    → PlanUnder files wrong job vex a → PlanUnder files wrong job vex b → a ≡ b
+    (files : Files) (wrong : Wrong) (job : List ℕ) (vex : Option (List ℕ)) (epoch : Option ℕ) (a b : Result Plan Answer)
+    → PlanUnder files wrong job vex epoch a → PlanUnder files wrong job vex epoch b → a ≡ b
 
 pub comes : OneOutcome → (seed seconds : ℕ) → 1 ≤ seconds → seconds ≤ 60 → ComesToAPlan seed seconds
 comes law seed seconds some few = record {
@@ -108,6 +107,6 @@ comes law seed seconds some few = record {
     no_answer : (answer : Answer) → SampleOf seed seconds (Err answer) → ⊥
     no_answer answer there =
         let e : Ok (plan_at (160000 * seconds)) ≡ Err answer =
-        law (sample_shelf seed seconds) (recordings_answer (sample_shelf seed seconds)) (codes "job") None (Ok (plan_at (160000 * seconds))) (Err answer)
+        law (sample_shelf seed seconds) (recordings_answer (sample_shelf seed seconds)) (codes "job") None None (Ok (plan_at (160000 * seconds))) (Err answer)
         (planned seed seconds some few) there in
         cc

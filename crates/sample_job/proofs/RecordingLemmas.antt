@@ -1,8 +1,8 @@
 -- What the recordings of a sample hold.
-use Rattle.std.proofs.Common.{◌≡◌, ◌*◌, ◌+◌, ◌/◌, ◌%◌, ◌^◌, ◌≤◌, ◌<◌, ◌⊎◌, inl, inr, ℕ, zero, suc, Bool, true, false, List, [], ◌∷◌, ◌++◌, length, take, replicate, Option, None, Some, refl, sym, ap, ◌∙◌, subst, arith, append-nil, append_assoc, length-append}
+use Rattle.std.proofs.Common.{◌≡◌, ◌*◌, ◌+◌, ◌/◌, ◌%◌, ◌≤◌, ◌<◌, ◌⊎◌, inl, inr, ℕ, zero, suc, Bool, true, false, List, [], ◌∷◌, ◌++◌, length, take, replicate, None, refl, sym, ap, ◌∙◌, subst, arith, append-nil, append_assoc, length-append}
 use Rattle.std.specs.Prelude.{◌==◌, if◌then◌else◌}
 use Rattle.std.specs.List.{flat_map, range_with_len}
-use Rattle.vdif_frame.specs.Header.{HeaderFields, AreInRange, header_bytes, fields_of}
+use Rattle.vdif_frame.specs.Header.{AreInRange, header_bytes}
 use Rattle.vdif_frame.specs.Shape.{ShapeFields}
 use Rattle.vdif_frame.specs.Agreement.{first_field}
 use Rattle.corr_model.specs.Sample.{agrees_with}

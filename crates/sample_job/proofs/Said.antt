@@ -1,5 +1,5 @@
 -- What the job of a sample says.
-use Rattle.std.specs.Prelude.{ℕ, ◌*◌, ℤ, pos, negsuc, neg_ℤ, false, true, List, [], ◌∷◌, codes, Some}
+use Rattle.std.specs.Prelude.{ℕ, ℤ, pos, negsuc, false, true, List, [], ◌∷◌, codes, Some}
 use Rattle.delay_poly.specs.declared.entry.PolyEntry.{PolyEntry}
 use Rattle.station_clock.specs.declared.entry.ClockEntry.{ClockEntry}
 use Rattle.job_text.specs.declared.places.ChanPlace.{ChanPlace}

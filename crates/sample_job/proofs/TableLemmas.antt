@@ -1,5 +1,5 @@
 -- What holds of each number of seconds, one by one.
-use Rattle.std.proofs.Common.{◌≡◌, ◌*◌, ◌+◌, ◌≤◌, ◌<◌, ◌⊎◌, inl, inr, ⊎_elim, ℕ, zero, suc, Option, None, refl, sym, subst, arith}
+use Rattle.std.proofs.Common.{◌≡◌, ◌*◌, ◌+◌, ◌≤◌, ◌<◌, ⊎_elim, ℕ, zero, suc, None, refl, subst, arith}
 use Rattle.std.specs.Fmt.{digits}
 use Rattle.std.proofs.lemmas.Bool.{cases_lt}
 use Rattle.num_time.specs.Numerals.{decimal_of, is_number, moved_digits, scaled}
@@ -34,7 +34,7 @@ abbrev IsSeen : ℕ → Type 0
 IsSeen seconds = seen_of seconds ≡ wanted_of seconds
 
 abbrev IsWithin : ℕ → Type 0
-IsWithin seconds = limit (job_with (160000 * seconds)) (scans_of (job_with (160000 * seconds))) ≡ None
+IsWithin seconds = limit (job_with (160000 * seconds)) 50000 (scans_of (job_with (160000 * seconds))) ≡ None
 
 all-seen : AreAll IsSeen 1 60
 unfolding job_of digits decimal_of is_number scaled moved_digits

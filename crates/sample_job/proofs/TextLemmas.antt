@@ -1,8 +1,7 @@
 -- The text of a sample's job, line by line.
 use Rattle.std.specs.Prelude.{nat_lt, ℤ, pos, option_to_list, filter_map, map}
 use Rattle.std.specs.List.{list_any}
-use Rattle.std.specs.Fmt.{digits}
-use Rattle.std.proofs.Common.{◌≡◌, ◌∙◌, ◌*◌, ◌+◌, ◌^◌, ◌≤◌, ◌<◌, arith, ℕ, zero, suc, Bool, true, false, List, [], ◌∷◌, ◌++◌, codes, length, Option, None, Some, Result, Ok, Err, refl, sym, ap, subst}
+use Rattle.std.proofs.Common.{◌≡◌, ◌∙◌, ◌*◌, ◌+◌, ◌^◌, ◌≤◌, arith, ℕ, Bool, true, false, List, [], ◌∷◌, ◌++◌, codes, length, Option, None, Some, Result, Ok, refl, sym, ap, subst}
 use Rattle.std.specs.Fmt.{decimal}
 use Rattle.std.specs.Str.Lines.{lines}
 use Rattle.std.proofs.lemmas.Bool.{le-leb}
@@ -15,7 +14,6 @@ use Rattle.job_lines.specs.declared.word.Word.TheVariants.{Lags, Integration, Ep
 use Rattle.job_lines.specs.Words.{are_one}
 use Rattle.job_lines.specs.Rows.{Row, row_of, row_from, is_clean, fields_of}
 use Rattle.sample_gen.specs.Job.{job_of}
-use Rattle.job_text.specs.declared.places.ScanSpan.{ScanSpan}
 use Rattle.job_text.specs.declared.fault.JobFault.{JobFault}
 use Rattle.job_text.specs.Job.{JobFields, StationFields}
 use Rattle.job_text.specs.Values.{field, integration_in, epoch_in, knot_in, rate_in, whole_of, second_of, number_within, lags_in, frame_bytes_in, station_in, chan_in, clock_in, poly_in, scan_in, band_in}

@@ -1,5 +1,5 @@
 -- The job of a generated sample: its files, and what it comes to.
-use Rattle.std.specs.Prelude.{◌≡◌, ℕ, List, [], ◌∷◌, codes, None, Ok, Err}
+use Rattle.std.specs.Prelude.{ℕ, List, [], ◌∷◌, codes, None, Ok, Err}
 use Rattle.corr_model.specs.Files.{Files}
 use Rattle.mem_devices.specs.MemShelfState.{bytes_under}
 use Rattle.job_plan.specs.declared.plan.Plan.{Plan}
@@ -25,7 +25,7 @@ sample_shelf seed seconds = bytes_under (sample_files seed seconds)
 
 -- what the job comes to
 abbrev pub SampleOf : ℕ → ℕ → Outcomes Plan
-SampleOf seed seconds = PlanOf (sample_shelf seed seconds) (codes "job") None
+SampleOf seed seconds = PlanOf (sample_shelf seed seconds) (codes "job") None None
 
 -- the job comes to a plan, and no answer refuses it
 pub record ComesToAPlan (seed seconds : ℕ) : Type 0 where

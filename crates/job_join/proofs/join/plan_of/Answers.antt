@@ -10,17 +10,17 @@ use Rattle.job_join.proofs.Ranges.{IsPlan-joined}
 use Rattle.job_join.proofs.join.plan_of.Goals as goal
 
 pub station_plans-requires : goal.station_plans-requires
-station_plans-requires c = frames-All c.args.j.now c.requires.joining c.requires.scans c.requires.accepted
+station_plans-requires c = frames-All c.args.j.now c.requires.joining c.requires.scans c.requires.accepted.0 c.requires.accepted.1
 
 pub product_plans-requires-clause-few : goal.product_plans-requires-clause-few
 product_plans-requires-clause-few c =
     let j : Joining = c.args.j.now in
-    let few : length (channels_of j.job.now) ≤ 64 = (sizes-within j c.requires.joining c.requires.scans c.requires.accepted).channels in
+    let few : length (channels_of j.job.now) ≤ 64 = (sizes-within j c.requires.joining c.requires.scans c.requires.accepted.0 c.requires.accepted.1).channels in
     let same : length (names j.channels) ≡ length (channels_of j.job.now) = ap length c.requires.joining.channels in
     omega arith
 
 pub scan_plans-requires-clause-ready : goal.scan_plans-requires-clause-ready
-scan_plans-requires-clause-ready c = ready-All c.args.j.now c.requires.joining c.requires.scans c.requires.accepted
+scan_plans-requires-clause-ready c = ready-All c.args.j.now c.requires.joining c.requires.scans c.requires.accepted.0 c.requires.accepted.1
 
 pub new-requires : goal.new-requires
 new-requires c =
@@ -28,7 +28,7 @@ new-requires c =
     let bounded : rate_of j.job.now (scans_of j) < 2 ^ 32 = subst (λ (rate : ℕ). rate < 2 ^ 32) (c.rate_in.ensures ∙ c.requires.joining.rate) c.rate_in.type_inv in
     subst IsPlan (sym (plan_of-parts j c.requires.joining c.lags.ensures c.integration.ensures.value (c.from.ensures ∙ c.epoch.ensures.value) c.rate_in.ensures c.knot.ensures (c.of.ensures ∙ c.in_ok-stations.ensures)
     (c.of-2.ensures ∙ c.in_ok-channels.ensures) (c.of-3.ensures ∙ c.in_ok-products.ensures) (c.of-4.ensures ∙ c.in_ok-scans.ensures)))
-    (IsPlan-joined j.job.now (scans_of j) c.requires.joining.job c.requires.scans bounded c.requires.accepted)
+    (IsPlan-joined j.job.now c.requires.accepted.0 (scans_of j) c.requires.joining.job c.requires.scans bounded c.requires.accepted.1)
 
 pub returns : goal.returns
 returns c =

@@ -25,5 +25,5 @@ unfolding taken
 returns c =
     let j : Joining = c.args.j.now in
     c.past.ensures ∙ ap (λ n. past (measure Epochs (2 ^ 32) (n ∷ []))) (c.all_epochs-epochs.ensures
-    ∙ ap (λ ps. fold ◌+◌ 0 (map (held_epochs j.job.now j.rate) (filter (λ (p : Place). p.taken) ps))) c.deref.ensures.value
-    ∙ ap (fold ◌+◌ 0) (map-taken j.job.now (held_epochs j.job.now j.rate) (scan_epochs j.job.now j.rate) (λ p held. epochs-held j.job.now p held j.rate) j.places.items c.requires.joining.visits))
+    ∙ ap (λ ps. fold ◌+◌ 0 (map (held_epochs j.job.now c.args.epoch j.rate) (filter (λ (p : Place). p.taken) ps))) c.deref.ensures.value
+    ∙ ap (fold ◌+◌ 0) (map-taken j.job.now (held_epochs j.job.now c.args.epoch j.rate) (scan_epochs j.job.now c.args.epoch j.rate) (λ p held. epochs-held j.job.now p held c.args.epoch j.rate) j.places.items c.requires.joining.visits))

@@ -7,6 +7,6 @@ pub returns-clause-most : goal.returns-clause-most
 returns-clause-most c =
     let samples : ℕ = c.args.samples in
     let integration : ℕ = c.from-integration.result in
-    let epoch : ℕ = c.from-epoch.result in
+    let epoch : ℕ = c.args.epoch in
     let same : samples / integration * c.div_ceil.result + c.div_ceil-2.result ≡ samples / integration * div_ceil integration epoch + div_ceil (samples % integration) epoch = cc in
     omega (arith, same, epochs_in-le samples integration epoch (omega arith))

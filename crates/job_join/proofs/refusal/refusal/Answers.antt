@@ -10,8 +10,8 @@ use Rattle.job_join.proofs.refusal.refusal.Goals as goal
 pub returns-then-is_some : goal.returns-then-is_some
 returns-then-is_some c =
     let j : Joining = c.args.j.now in
-    or-first c.early-early.result (late_of j.job.now (scans_of j)) (sym c.is_some.ensures ∙ c.if-is_some.true)
-    ∙ ap (λ o. option_or o (late_of j.job.now (scans_of j))) c.early-early.ensures ∙ refusal_of-parts j.job.now (scans_of j)
+    or-first c.early-early.result (late_of j.job.now c.args.epoch (scans_of j)) (sym c.is_some.ensures ∙ c.if-is_some.true)
+    ∙ ap (λ o. option_or o (late_of j.job.now c.args.epoch (scans_of j))) c.early-early.ensures ∙ refusal_of-parts j.job.now c.args.epoch (scans_of j)
 
 pub late-requires-clause-rate : goal.late-requires-clause-rate
 late-requires-clause-rate c =
@@ -23,4 +23,4 @@ pub returns : goal.returns
 returns c =
     let j : Joining = c.args.j.now in
     or-second c.early-early.result c.late.result (sym c.is_some.ensures ∙ c.if-is_some.false)
-    ∙ ap (λ o. option_or o c.late.result) c.early-early.ensures ∙ ap (option_or (early_of j.job.now (scans_of j))) c.late.ensures ∙ refusal_of-parts j.job.now (scans_of j)
+    ∙ ap (λ o. option_or o c.late.result) c.early-early.ensures ∙ ap (option_or (early_of j.job.now (scans_of j))) c.late.ensures ∙ refusal_of-parts j.job.now c.args.epoch (scans_of j)

@@ -18,7 +18,7 @@ returns-in_err-schedule-clause-cause g c =
     rw (p.1, p.2)
     (Told-first (told c.args.shelf.now) c.in_err-schedule.field-0.0
     (λ files. ScheduleOf files c.args.vex.now)
-    (λ files (scans : List Scan). Then (JobOf files c.args.job.now false) (λ (fields : JobFields). Joins (λ stations. None) fields scans))
+    (λ files (scans : List Scan). Then (JobOf files c.args.job.now false) (λ (fields : JobFields). Joins (λ stations. None) fields c.args.epoch scans))
     c.in_err-schedule.ensures.stage c.in_err-schedule.ensures.cause)
 
 pub returns-in_err-read-clause-cause : goal.returns-in_err-read-clause-cause
@@ -28,10 +28,10 @@ returns-in_err-read-clause-cause g c =
     rw (p.1, p.2)
     (Told-next (told c.args.shelf.now) (told c.load_schedule.new.shelf) c.in_err-read.field-0.0
     (λ files. ScheduleOf files c.args.vex.now)
-    (λ files (scans : List Scan). Then (JobOf files c.args.job.now false) (λ (fields : JobFields). Joins (λ stations. None) fields scans))
+    (λ files (scans : List Scan). Then (JobOf files c.args.job.now false) (λ (fields : JobFields). Joins (λ stations. None) fields c.args.epoch scans))
     c.in_ok-schedule.schedule.list.scans c.load_schedule.ensures.same c.in_err-read.ensures.stage c.in_ok-schedule.ensures.scans
     (Told-first (told c.load_schedule.new.shelf) c.in_err-read.field-0.0
-    (λ files. JobOf files c.args.job.now false) (λ files (fields : JobFields). Joins (λ stations. None) fields c.in_ok-schedule.schedule.list.scans)
+    (λ files. JobOf files c.args.job.now false) (λ files (fields : JobFields). Joins (λ stations. None) fields c.args.epoch c.in_ok-schedule.schedule.list.scans)
     c.in_err-read.ensures.stage c.in_err-read.ensures.cause))
 
 pub returns-clause-plan : goal.returns-clause-plan
@@ -40,10 +40,10 @@ returns-clause-plan g c =
     IfOk-weaker c.joins.result _ _
     (λ j is. Told-done (told c.args.shelf.now) (told c.load_schedule.new.shelf)
     (λ files. ScheduleOf files c.args.vex.now)
-    (λ files (scans : List Scan). Then (JobOf files c.args.job.now false) (λ (fields : JobFields). Joins (λ stations. None) fields scans))
+    (λ files (scans : List Scan). Then (JobOf files c.args.job.now false) (λ (fields : JobFields). Joins (λ stations. None) fields c.args.epoch scans))
     c.in_ok-schedule.schedule.list.scans j.plan c.load_schedule.ensures.same c.in_ok-schedule.ensures.scans
     (Told-done (told c.load_schedule.new.shelf) (told c.load_job.new.shelf)
-    (λ files. JobOf files c.args.job.now false) (λ files (fields : JobFields). Joins (λ stations. None) fields c.in_ok-schedule.schedule.list.scans)
+    (λ files. JobOf files c.args.job.now false) (λ files (fields : JobFields). Joins (λ stations. None) fields c.args.epoch c.in_ok-schedule.schedule.list.scans)
     c.in_ok-read.read.job j.plan c.load_job.ensures.same c.in_ok-read.ensures.job
     (WhereTold-always (told c.load_job.new.shelf) _ (λ files. is))))
     c.joins.ensures.plan
@@ -54,10 +54,10 @@ returns-clause-cause g c =
     IfErr-both c.joins.result _ _ _
     (λ r stage cause. Told-next (told c.args.shelf.now) (told c.load_schedule.new.shelf) r
     (λ files. ScheduleOf files c.args.vex.now)
-    (λ files (scans : List Scan). Then (JobOf files c.args.job.now false) (λ (fields : JobFields). Joins (λ stations. None) fields scans))
+    (λ files (scans : List Scan). Then (JobOf files c.args.job.now false) (λ (fields : JobFields). Joins (λ stations. None) fields c.args.epoch scans))
     c.in_ok-schedule.schedule.list.scans c.load_schedule.ensures.same (IsOfFiles-texts r stage) c.in_ok-schedule.ensures.scans
     (Told-next (told c.load_schedule.new.shelf) (told c.load_job.new.shelf) r
-    (λ files. JobOf files c.args.job.now false) (λ files (fields : JobFields). Joins (λ stations. None) fields c.in_ok-schedule.schedule.list.scans)
+    (λ files. JobOf files c.args.job.now false) (λ files (fields : JobFields). Joins (λ stations. None) fields c.args.epoch c.in_ok-schedule.schedule.list.scans)
     c.in_ok-read.read.job c.load_job.ensures.same (IsOfFiles-texts r stage) c.in_ok-read.ensures.job
     (WhereTold-always (told c.load_job.new.shelf) _ (λ files. cause))))
     c.joins.ensures.stage c.joins.ensures.cause

@@ -1,3 +1,4 @@
+use Rattle.std.specs.Prelude.{unwrap_or}
 use Rattle.std.proofs.Common.{Ok, refl}
 use Rattle.std.proofs.lemmas.Result.{err_from_is_err_and}
 use Rattle.job_plan.specs.declared.plan.Plan.{Plan}
@@ -13,7 +14,7 @@ returns-in_err-plan-clause-cause c =
     let scans = c.args.list.now.scans in
     let p = err_from_is_err_and c.from_residual.result c.from_residual.ensures.1 in
     rw (p.1, p.2)
-    (IsCause-first c.in_err-plan.field-0.0 (Is (answered (cause_answer job scans) (joined job scans))) (λ (plan : Plan). Is (Ok plan))
+    (IsCause-first c.in_err-plan.field-0.0 (Is (answered (cause_answer job scans) (joined job (unwrap_or c.args.epoch job.epoch) scans))) (λ (plan : Plan). Is (Ok plan))
     (IsOfFiles-texts c.in_err-plan.field-0.0 c.in_err-plan.ensures.stage) c.in_err-plan.ensures.cause)
 
 pub returns-clause-plan : goal.returns-clause-plan

@@ -22,6 +22,8 @@ invariant_of-result g c =
           (AreNamed-zip c.items.result.now c.in_ok-recordings.recordings.items c.in_ok-recordings.ensures.named);
       few = c.args.survey.few;
       cut = c.args.survey.cut;
+      some_epoch = c.args.survey.some_epoch;
+      short_epoch = c.args.survey.short_epoch;
       few_epochs = c.args.survey.few_epochs;
       short = c.args.survey.short;
     }

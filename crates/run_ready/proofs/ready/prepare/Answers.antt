@@ -22,7 +22,7 @@ returns-in_err-survey-clause-cause g c =
     let p = err_from_is_err_and c.from_residual.result c.from_residual.ensures.1 in
     rw (p.1, p.2)
     (WhereTold-weaker (g.F.Shelf.told c.args.shelf.now) _ _
-    (λ files cause. IsCause-surveyed files c.args.job.now (option_copied c.args.vex) c.in_err-survey.field-0.0 c.in_err-survey.ensures.stage cause) c.in_err-survey.ensures.cause)
+    (λ files cause. IsCause-surveyed files c.args.job.now (option_copied c.args.vex) c.args.epoch c.in_err-survey.field-0.0 c.in_err-survey.ensures.stage cause) c.in_err-survey.ensures.cause)
 
 pub returns-clause-plan : goal.returns-clause-plan
 returns-clause-plan g c =
@@ -30,7 +30,7 @@ returns-clause-plan g c =
     let plan = c.in_ok-survey.survey.plan in
     IfOk-both c.index_survey.result _ (λ _. WhereTold (told c.survey.new.shelf) (λ files. first_foreign files plan.stations ≡ None)) _
     (λ ready same held. WhereTold-then (told c.args.shelf.now) (told c.survey.new.shelf) _ _ _
-    (λ files is none. subst (λ (p : Plan). PlanOf files c.args.job.now (option_copied c.args.vex) (Ok p)) (sym same) (PlanOf-plan files c.args.job.now (option_copied c.args.vex) plan None none is))
+    (λ files is none. subst (λ (p : Plan). PlanOf files c.args.job.now (option_copied c.args.vex) c.args.epoch (Ok p)) (sym same) (PlanOf-plan files c.args.job.now (option_copied c.args.vex) c.args.epoch plan None none is))
     c.survey.ensures.same c.in_ok-survey.ensures.plan held)
     c.index_survey.ensures.plan c.index_survey.ensures.agrees
 
@@ -53,6 +53,6 @@ returns-clause-cause g c =
     let told = g.F.Shelf.told in
     IfErr-weaker c.index_survey.result _ _
     (λ r due. WhereTold-then (told c.args.shelf.now) (told c.survey.new.shelf) _ _ _
-    (λ files is late. IsCause-foreign files c.args.job.now (option_copied c.args.vex) c.in_ok-survey.survey.plan r is late)
+    (λ files is late. IsCause-foreign files c.args.job.now (option_copied c.args.vex) c.args.epoch c.in_ok-survey.survey.plan r is late)
     c.survey.ensures.same c.in_ok-survey.ensures.plan due)
     c.index_survey.ensures.due

@@ -20,7 +20,7 @@ returns-in_err-joined-clause-cause g c =
     let p = err_from_is_err_and c.from_residual.result c.from_residual.ensures.1 in
     rw (p.1, p.2)
     (WhereTold-weaker (g.F.Shelf.told c.args.shelf.now) _ _
-    (λ files cause. IsCause-texts files (files_answer files) c.args.job.now (option_copied c.args.vex) c.in_err-joined.field-0.0 c.in_err-joined.ensures.stage cause)
+    (λ files cause. IsCause-texts files (files_answer files) c.args.job.now (option_copied c.args.vex) c.args.epoch c.in_err-joined.field-0.0 c.in_err-joined.ensures.stage cause)
     c.in_err-joined.ensures.cause)
 
 pub returns-clause-plan : goal.returns-clause-plan
@@ -30,8 +30,8 @@ returns-clause-plan g c =
     let vex = option_copied c.args.vex in
     IfOk-both c.survey_joined.result _ (λ _. WhereTold (told c.join.new.shelf) (λ files. files_answer files plan.stations ≡ None)) _
     (λ s same fit. WhereTold-then (told c.args.shelf.now) (told c.join.new.shelf) _ _ _
-    (λ files is none. subst (λ (p : Plan). SurveyOf files c.args.job.now vex (Ok p)) (sym same)
-    (PlanUnder-found files (files_answer files) c.args.job.now vex plan None none is))
+    (λ files is none. subst (λ (p : Plan). SurveyOf files c.args.job.now vex c.args.epoch (Ok p)) (sym same)
+    (PlanUnder-found files (files_answer files) c.args.job.now vex c.args.epoch plan None none is))
     c.join.ensures.same c.in_ok-joined.ensures.plan fit)
     c.survey_joined.ensures.plan c.survey_joined.ensures.fit
 
@@ -40,7 +40,7 @@ returns-clause-cause g c =
     let told = g.F.Shelf.told in
     IfErr-weaker c.survey_joined.result _ _
     (λ r due. WhereTold-then (told c.args.shelf.now) (told c.join.new.shelf) _ _ _
-    (λ files is late. IsCause-found files (files_answer files) c.args.job.now (option_copied c.args.vex) c.in_ok-joined.joined.plan r is late)
+    (λ files is late. IsCause-found files (files_answer files) c.args.job.now (option_copied c.args.vex) c.args.epoch c.in_ok-joined.joined.plan r is late)
     c.join.ensures.same c.in_ok-joined.ensures.plan due)
     c.survey_joined.ensures.due
 

@@ -1,5 +1,6 @@
 use Rattle.std.proofs.Common.{◌≡◌, ◌∙◌, ◌≤◌, ◌<◌, ◌^◌, ℕ, List, length, sym, ap, subst}
-use Rattle.piece_plan.specs.Epochs.{JobSizes, epochs_of}
+use Rattle.piece_plan.specs.Epochs.{JobSizes}
+use Rattle.plan_places.specs.Walk.{epochs_by}
 use Rattle.checkpoint_journal.specs.Identity.{identity_of}
 use Rattle.run_ready.specs.Sizes.{sizes_in}
 use Rattle.run_ready.proofs.IdentityLemmas.{length-identity_of}
@@ -14,7 +15,9 @@ invariant_of-result c =
       slots = c.requires.slots;
       few = c.requires.few_scans;
       cut = c.in_ok-epochs.ensures;
-      few_epochs = subst (λ (e : JobSizes). length (epochs_of e) ≤ 4294967296) (sym c.in_ok-epochs.ensures) c.requires.few_epochs;
+      some_epoch = c.requires.some_epoch;
+      short_epoch = c.requires.short_epoch;
+      few_epochs = subst (λ (e : JobSizes). length (epochs_by e c.args.epoch) ≤ 4294967296) (sym c.in_ok-epochs.ensures) c.requires.few_epochs;
       short =
           subst (λ (id : List ℕ). length id < 2 ^ 62) (sym same)
           (length-identity_of c.args.schedule.now c.args.job.now c.args.plan.stations c.args.files.items

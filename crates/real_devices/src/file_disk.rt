@@ -23,7 +23,7 @@ use std::rt::Files;
 pub struct FileDisk<R: Files<File = File> + Drop> {
     rt: R,
     path: String,
-    mark: [u8; 8],
+    mark: [u8; 7],
     output: Option<FileId>,
     file: Option<File>,
     // The file was made here, and its folder does not surely name it yet.
@@ -50,7 +50,7 @@ impl<R: Files<File = File> + Drop> Model for FileDisk<R> {
 
 impl<R: Files<File = File> + Drop> FileDisk<R> {
     /// The file of that path, which is written with this mark, and is not that of the output.
-    pub fn new(rt: R, path: String, mark: [u8; 8], output: Option<FileId>) -> FileDisk<R>
+    pub fn new(rt: R, path: String, mark: [u8; 7], output: Option<FileId>) -> FileDisk<R>
         ensures { result ≡ 0 }
     {
         FileDisk {

@@ -3,7 +3,7 @@ use dev_traits::{Disk, Failed};
 use std::test::Fail;
 use std::{env, fs, process};
 
-const MARK: [u8; 8] = *b"the mark";
+const MARK: [u8; 7] = *b"my mark";
 
 #[test]
 fn a_file_as_a_disk(rt: HostRuntime) -> Result<(), Fail> {

@@ -1,5 +1,5 @@
 -- What each command did.
-use Rattle.std.specs.Prelude.{IfErr, IsSome}
+use Rattle.std.specs.Prelude.{IfErr, unwrap_or}
 use Rattle.std.proofs.Common.{◌≡◌, ◌∙◌, arith, inl, inr, ℕ, Bool, true, false, List, Option, Some, None, Result, Ok, Err, refl, sym, ap, subst}
 use Rattle.dev_traits.specs.Told.{more, PrefixMore, WhereTold}
 use Rattle.sink_text.specs.Appends.{Appends}
@@ -31,12 +31,22 @@ use Rattle.vlbi_core.specs.Faults.{written_with}
 use Rattle.vlbi_core.specs.Steps.{OutcomeFrom, IsOfWords, IsBehindWords, IsUnnumbered, MatchDue, MatchEarly, IsCauseOf, IsPartly, Does, MatchVerdict, Leaves}
 
 -- an order of a job and its journal, by the plans that its files come to
-abbrev pub IsJobOf : Files → Order → Bool → List ℕ → Option (List ℕ) → Outcomes Plan → Type 0
-IsJobOf files order sums job vex plans = (o : Result Task Answer) → JobFor sums job vex plans o → TaskFor files order o
+abbrev pub IsJobOf : Files → Order → Bool → List ℕ → Option (List ℕ) → Option ℕ → Outcomes Plan → Type 0
+IsJobOf files order sums job vex epoch plans = (o : Result Task Answer) → JobFor sums job vex epoch plans o → TaskFor files order o
 
-pub planned : (files : Files) (order : Order) (sums : Bool) (job : List ℕ) (vex : Option (List ℕ)) (plans : Outcomes Plan) (plan : Plan) → IsJobOf files order sums job vex plans → plans (Ok plan)
-    → OutcomeFrom (Ok order) files (Ok (OfJob (call_of sums job vex plan)))
-planned files order sums job vex plans plan of_job there = (order, refl, of_job (Ok (OfJob (call_of sums job vex plan))) (refl, there))
+planned : (files : Files) (order : Order) (sums : Bool) (job : List ℕ) (vex : Option (List ℕ)) (epoch : Option ℕ) (plans : Outcomes Plan) (plan : Plan)
+    → IsJobOf files order sums job vex epoch plans → plans (Ok plan) → OutcomeFrom (Ok order) files (Ok (OfJob (call_of sums job vex epoch plan)))
+planned files order sums job vex epoch plans plan of_job there = (order, refl, of_job (Ok (OfJob (call_of sums job vex epoch plan))) (refl, there))
+
+-- what a call of `run` comes to, and one of `status`
+pub run-planned : (files : Files) (job : List ℕ) (vex : Option (List ℕ)) (epoch : Option ℕ) (workers piece : ℕ) (plan : Plan) → PlanOf files job vex epoch (Ok plan)
+    → OutcomeFrom (Ok (Run job vex epoch workers piece)) files (Ok (OfJob (call_of true job vex epoch plan)))
+run-planned files job vex epoch workers piece plan there =
+    planned files (Run job vex epoch workers piece) true job vex epoch (PlanOf files job vex epoch) plan (λ o p. p) there
+
+pub status-planned : (files : Files) (job : List ℕ) (vex : Option (List ℕ)) (epoch : Option ℕ) (plan : Plan) → SurveyOf files job vex epoch (Ok plan)
+    → OutcomeFrom (Ok (Status job vex epoch)) files (Ok (OfJob (call_of false job vex epoch plan)))
+status-planned files job vex epoch plan there = planned files (Status job vex epoch) false job vex epoch (SurveyOf files job vex epoch) plan (λ o p. p) there
 
 pub not_both : (b : Bool) → b ≡ true → b ≡ false → ⊥
 not_both b first second = cc
@@ -84,9 +94,6 @@ words-unnumbered wanted Read of = absurd of
 words-unnumbered wanted (Journal kept) of = absurd of
 words-unnumbered wanted Write of = absurd of
 
-pub is_some_at : (o : Option (List (List ℕ))) (bodies : List (List ℕ)) → o ≡ Some bodies → IsSome o
-is_some_at o bodies e = subst (λ (q : Option (List (List ℕ))). IsSome q) (sym e) refl
-
 -- ---- causes
 
 words-cause : (wanted : Result Order WordsFault) (files : Files) (images : List ℕ → Type 0) (before after old new : Option (List ℕ)) (r : Refusal)
@@ -99,15 +106,15 @@ words-cause wanted files images before after old new Read of = absurd of
 words-cause wanted files images before after old new (Journal kept) of = absurd of
 words-cause wanted files images before after old new Write of = absurd of
 
-files-cause : (files : Files) (order : Order) (sums : Bool) (job : List ℕ) (vex : Option (List ℕ)) (plans : Outcomes Plan) → IsJobOf files order sums job vex plans → (images : List ℕ → Type 0) (before after old new : Option (List ℕ)) (r : Refusal)
+files-cause : (files : Files) (order : Order) (sums : Bool) (job : List ℕ) (vex : Option (List ℕ)) (epoch : Option ℕ) (plans : Outcomes Plan) → IsJobOf files order sums job vex epoch plans → (images : List ℕ → Type 0) (before after old new : Option (List ℕ)) (r : Refusal)
     → IsOfFiles r → IsCause r plans → IsCauseOf r (OutcomeFrom (Ok order) files) files images before after old new
-files-cause files order sums job vex plans of_job images before after old new Memory stage cause = tt
-files-cause files order sums job vex plans of_job images before after old new (Words fault) stage cause = absurd stage
-files-cause files order sums job vex plans of_job images before after old new (DueRefusal due) stage cause = inr (order, refl, of_job _ cause)
-files-cause files order sums job vex plans of_job images before after old new (Other d) stage cause = absurd stage
-files-cause files order sums job vex plans of_job images before after old new Read stage cause = tt
-files-cause files order sums job vex plans of_job images before after old new (Journal kept) stage cause = absurd stage
-files-cause files order sums job vex plans of_job images before after old new Write stage cause = absurd stage
+files-cause files order sums job vex epoch plans of_job images before after old new Memory stage cause = tt
+files-cause files order sums job vex epoch plans of_job images before after old new (Words fault) stage cause = absurd stage
+files-cause files order sums job vex epoch plans of_job images before after old new (DueRefusal due) stage cause = inr (order, refl, of_job _ cause)
+files-cause files order sums job vex epoch plans of_job images before after old new (Other d) stage cause = absurd stage
+files-cause files order sums job vex epoch plans of_job images before after old new Read stage cause = tt
+files-cause files order sums job vex epoch plans of_job images before after old new (Journal kept) stage cause = absurd stage
+files-cause files order sums job vex epoch plans of_job images before after old new Write stage cause = absurd stage
 
 -- a call that was refused before its output
 abbrev pub NoWrite : Refusal → Type 0
@@ -209,22 +216,22 @@ module _ {D : Type 0} (seen : D → Option (List ℕ)) (moment : D → ℕ) (may
     part = nothing-partly (OutcomeFrom wanted files) files (seen d) (seen d) old r (words-NoWrite wanted r of);
   }
 
-  does-files : (files : Files) (order : Order) (sums : Bool) (job : List ℕ) (vex : Option (List ℕ)) (plans : Outcomes Plan) → IsJobOf files order sums job vex plans → (d : D) (old : Option (List ℕ)) (r : Refusal) → IsOfFiles r → IsCause r plans
+  does-files : (files : Files) (order : Order) (sums : Bool) (job : List ℕ) (vex : Option (List ℕ)) (epoch : Option ℕ) (plans : Outcomes Plan) → IsJobOf files order sums job vex epoch plans → (d : D) (old : Option (List ℕ)) (r : Refusal) → IsOfFiles r → IsCause r plans
       → Does (Ok order) files seen moment may_leave d d old old (Err r)
-  does-files files order sums job vex plans of_job d old r stage cause = record {
+  does-files files order sums job vex epoch plans of_job d old r stage cause = record {
     goes = inl (looks_none seen moment may_leave d);
     done = tt;
-    cause = files-cause files order sums job vex plans of_job (may_leave d (moment d)) (seen d) (seen d) old old r stage cause;
+    cause = files-cause files order sums job vex epoch plans of_job (may_leave d (moment d)) (seen d) (seen d) old old r stage cause;
     part = nothing-partly (OutcomeFrom (Ok order) files) files (seen d) (seen d) old r (files-NoWrite r stage);
   }
 
-  pub run-files : (files : Files) (job : List ℕ) (vex : Option (List ℕ)) (workers piece : ℕ) (d : D) (old : Option (List ℕ)) (r : Refusal) → IsOfFiles r → IsCause r (PlanOf files job vex)
-      → Does (Ok (Run job vex workers piece)) files seen moment may_leave d d old old (Err r)
-  run-files files job vex workers piece = does-files files (Run job vex workers piece) true job vex (PlanOf files job vex) (λ o p. p)
+  pub run-files : (files : Files) (job : List ℕ) (vex : Option (List ℕ)) (epoch : Option ℕ) (workers piece : ℕ) (d : D) (old : Option (List ℕ)) (r : Refusal) → IsOfFiles r
+      → IsCause r (PlanOf files job vex epoch) → Does (Ok (Run job vex epoch workers piece)) files seen moment may_leave d d old old (Err r)
+  run-files files job vex epoch workers piece = does-files files (Run job vex epoch workers piece) true job vex epoch (PlanOf files job vex epoch) (λ o p. p)
 
-  pub status-files : (files : Files) (job : List ℕ) (vex : Option (List ℕ)) (d : D) (old : Option (List ℕ)) (r : Refusal) → IsOfFiles r → IsCause r (SurveyOf files job vex)
-      → Does (Ok (Status job vex)) files seen moment may_leave d d old old (Err r)
-  status-files files job vex = does-files files (Status job vex) false job vex (SurveyOf files job vex) (λ o p. p)
+  pub status-files : (files : Files) (job : List ℕ) (vex : Option (List ℕ)) (epoch : Option ℕ) (d : D) (old : Option (List ℕ)) (r : Refusal) → IsOfFiles r
+      → IsCause r (SurveyOf files job vex epoch) → Does (Ok (Status job vex epoch)) files seen moment may_leave d d old old (Err r)
+  status-files files job vex epoch = does-files files (Status job vex epoch) false job vex epoch (SurveyOf files job vex epoch) (λ o p. p)
 
   -- ---- commands that leave the journal alone
 
@@ -323,17 +330,22 @@ module _ {D : Type 0} (seen : D → Option (List ℕ)) (moment : D → ℕ) (may
 
 -- ---- summaries
 
-pub check-tells : {E : Type 0} (told : Option Files) (job : List ℕ) (vex : Option (List ℕ)) (plan : Plan) (recordings : List StationRecording) (old new : Option (List ℕ)) (before now : ℕ) (text : List ℕ) (r : Result (Unit {0}) E)
-    → WhereTold told (λ files. PlanOf files job vex (Ok plan)) → WhereTold told (λ files. AreRecorded files plan.stations recordings)
-    → Appends old new text before now r → ((files : Files) → AreRecorded files plan.stations recordings → text ≡ check_text plan files)
-    → WhereTold told (λ files. Tells (PlanOf files job vex) (λ plan. check_text plan files) old new (written_with r))
-check-tells None job vex plan recordings old new before now text r there recorded appends is = tt
-check-tells {E} (Some files) job vex plan recordings old new before now text r there recorded appends is = by r appends
+pub check-tells : {E : Type 0} (told : Option Files) (job : List ℕ) (vex : Option (List ℕ)) (epoch : Option ℕ) (plan : Plan) (samples : ℕ) (recordings : List StationRecording)
+    (old new : Option (List ℕ)) (before now : ℕ) (text : List ℕ) (r : Result (Unit {0}) E)
+    → samples ≡ unwrap_or epoch plan.epoch → WhereTold told (λ files. PlanOf files job vex epoch (Ok plan)) → WhereTold told (λ files. AreRecorded files plan.stations recordings)
+    → Appends old new text before now r → ((files : Files) → AreRecorded files plan.stations recordings → text ≡ check_text plan samples files)
+    → WhereTold told (λ files. Tells (PlanOf files job vex epoch) (λ plan. check_text plan (unwrap_or epoch plan.epoch) files) old new (written_with r))
+check-tells None job vex epoch plan samples recordings old new before now text r in_force there recorded appends is = tt
+check-tells {E} (Some files) job vex epoch plan samples recordings old new before now text r in_force there recorded appends is = by r appends
   where
-    by : (q : Result (Unit {0}) E) → Appends old new text before now q → Tells (PlanOf files job vex) (λ plan. check_text plan files) old new (written_with q)
-    by (Ok x) appends = record { done = (plan, there, appends.ok ∙ ap (more old) (is files recorded)); cause = tt; part = tt }
+    same : text ≡ check_text plan (unwrap_or epoch plan.epoch) files
+    same = is files recorded ∙ ap (λ (n : ℕ). check_text plan n files) in_force
+
+    by : (q : Result (Unit {0}) E) → Appends old new text before now q
+        → Tells (PlanOf files job vex epoch) (λ plan. check_text plan (unwrap_or epoch plan.epoch) files) old new (written_with q)
+    by (Ok x) appends = record { done = (plan, there, appends.ok ∙ ap (more old) same); cause = tt; part = tt }
     by (Err e) appends = record {
       done = tt;
       cause = (plan, there);
-      part = (plan, there, subst (λ (t : List ℕ). PrefixMore old t new) (is files recorded) appends.prefix);
+      part = (plan, there, subst (λ (t : List ℕ). PrefixMore old t new) same appends.prefix);
     }

@@ -1,6 +1,6 @@
 -- What the engine's parts say of their faults holds of the refusals that these become.
 use Rattle.std.specs.Prelude.{IfOk, IfErr, IfSome}
-use Rattle.std.proofs.Common.{◌≡◌, ℕ, ◌≤◌, List, Option, None, Some, Result, Ok, Err, ap, subst}
+use Rattle.std.proofs.Common.{◌≡◌, ℕ, List, Option, None, Some, Result, Ok, Err, ap, subst}
 use Rattle.dev_traits.specs.Fault.{HasRisen}
 use Rattle.dev_traits.specs.Told.{WhereTold}
 use Rattle.dev_traits.proofs.ToldLemmas.{WhereTold-weaker}
@@ -10,20 +10,21 @@ use Rattle.station_stream.specs.declared.fault.StreamFault.TheVariants.{Read as 
 use Rattle.station_stream.specs.Faults.{CountsReads as CountsStream}
 use Rattle.checkpoint_journal.specs.declared.fault.OpenFault.{OpenFault}
 use Rattle.checkpoint_journal.specs.declared.fault.OpenFault.TheVariants.{Disk as OpenDisk, Other as OpenOther, Memory as OpenMemory}
-use Rattle.checkpoint_journal.specs.Faults.{IsRefused, CountsFault}
-use Rattle.run_journal.specs.declared.fault.ResumeFault.{ResumeFault}
-use Rattle.run_journal.specs.declared.fault.ResumeFault.TheVariants.{Memory as ResumeMemory, Other as ResumeOther, Read as ResumeRead, Journal as ResumeJournal}
-use Rattle.run_journal.specs.Refused.{IsRefusedFor as IsResumeFaultFor, KeepsNamed as KeepsFaultNamed}
-use Rattle.run_journal.specs.Counted.{CountsReadsBeside as CountsResumeReads, CountsJournal as CountsResumeJournal}
-use Rattle.run_records.specs.declared.fault.EmitFault.{EmitFault}
-use Rattle.run_records.specs.declared.fault.EmitFault.TheVariants.{Memory as EmitMemory, Journal as EmitJournal, Write as EmitWrite}
-use Rattle.run_records.specs.Kept.{WritesKept, Grows}
-use Rattle.run_records.specs.Refused.{IsOfRecords as IsEmitFaultOf}
-use Rattle.run_records.specs.Counted.{CountsJournal as CountsEmitJournal, CountsWrites as CountsEmitWrites}
+use Rattle.checkpoint_journal.specs.Faults.{IsRefused, CountsLook}
+use Rattle.piece_plan.specs.Epochs.{JobSizes}
+use Rattle.journal_rounds.specs.declared.fault.ResumeFault.{ResumeFault}
+use Rattle.journal_rounds.specs.declared.fault.ResumeFault.TheVariants.{Memory as ResumeMemory, Other as ResumeOther, Read as ResumeRead, Journal as ResumeJournal}
+use Rattle.journal_rounds.specs.Refused.{IsRefusedFor as IsResumeFaultFor, KeepsNamed as KeepsFaultNamed}
+use Rattle.journal_rounds.specs.Counted.{CountsReadsBeside as CountsResumeReads, CountsJournal as CountsResumeJournal}
+use Rattle.journal_records.specs.declared.fault.EmitFault.{EmitFault}
+use Rattle.journal_records.specs.declared.fault.EmitFault.TheVariants.{Memory as EmitMemory, Journal as EmitJournal, Write as EmitWrite}
+use Rattle.journal_records.specs.Kept.{WritesKept, Grows}
+use Rattle.journal_records.specs.Refused.{IsOfRecords as IsEmitFaultOf}
+use Rattle.journal_records.specs.Counted.{CountsJournal as CountsEmitJournal, CountsWrites as CountsEmitWrites}
 use Rattle.run_notes.specs.Refusals.{MatchJournal}
 use Rattle.run_notes.specs.Counted.{CountsReads, CountsReadsBeside, CountsJournal, CountsWrites}
 use Rattle.vlbi_core.specs.Engine.{sums_answer, IsOfSums, opening_refusal, resume_answer, emit_answer, IsRefusedFor, KeepsNamed, IsOfRecords}
-use Rattle.vlbi_core.specs.Steps.{IsLookedFor}
+use Rattle.vlbi_core.specs.Steps.{IsLookedFor, CountsJournalOr}
 
 -- ---- an epoch that is summed
 
@@ -43,12 +44,12 @@ summed-counts before now (Err StreamMemory) counts = counts.cause
 
 -- ---- a journal that is opened to look at it
 
-pub opened-looked : (id sizes : List ℕ) (seen : Option (List ℕ)) (fault : OpenFault) → IsRefused id sizes seen fault → IsLookedFor id sizes seen (opening_refusal fault)
-opened-looked id sizes seen OpenDisk of = tt
-opened-looked id sizes seen (OpenOther d) of = of
-opened-looked id sizes seen OpenMemory of = tt
+pub opened-looked : (id : List ℕ) (job : JobSizes) (seen : Option (List ℕ)) (fault : OpenFault) → IsRefused id job seen fault → IsLookedFor id job seen (opening_refusal fault)
+opened-looked id job seen OpenDisk of = tt
+opened-looked id job seen (OpenOther d) of = of
+opened-looked id job seen OpenMemory of = tt
 
-pub opened-counts : (before now : ℕ) (fault : OpenFault) → CountsFault before now fault → MatchJournal (opening_refusal fault) (HasRisen before now) (now ≡ before)
+pub opened-counts : (before now : ℕ) (fault : OpenFault) → CountsLook before now fault → MatchJournal (opening_refusal fault) (HasRisen before now) (now ≡ before)
 opened-counts before now OpenDisk counts = counts
 opened-counts before now (OpenOther d) counts = counts
 opened-counts before now OpenMemory counts = counts
@@ -59,22 +60,22 @@ pub resumed-ok : {T : Type 0} (q : Result T ResumeFault) (P : T → Type 0) → 
 resumed-ok (Ok x) P p = p
 resumed-ok (Err fault) P p = tt
 
-pub resumed-refused : {T : Type 0} (id sizes : List ℕ) (old new : Option (List ℕ)) (q : Result T ResumeFault)
-    → IfErr q (IsResumeFaultFor id sizes old new) → IfErr (resume_answer q) (IsRefusedFor id sizes old new)
-resumed-refused id sizes old new (Ok x) of = tt
-resumed-refused id sizes old new (Err ResumeMemory) of = of
-resumed-refused id sizes old new (Err (ResumeOther d)) of = of
-resumed-refused id sizes old new (Err ResumeRead) of = of
-resumed-refused id sizes old new (Err (ResumeJournal kept)) of = of
+pub resumed-refused : {T : Type 0} (id : List ℕ) (job : JobSizes) (old new : Option (List ℕ)) (q : Result T ResumeFault)
+    → IfErr q (IsResumeFaultFor id job old new) → IfErr (resume_answer q) (IsRefusedFor id job old new)
+resumed-refused id job old new (Ok x) of = tt
+resumed-refused id job old new (Err ResumeMemory) of = of
+resumed-refused id job old new (Err (ResumeOther d)) of = of
+resumed-refused id job old new (Err ResumeRead) of = of
+resumed-refused id job old new (Err (ResumeJournal kept)) of = of
 
-pub resumed-named : {T : Type 0} (id sizes : List ℕ) (images : List ℕ → Type 0) (q : Result T ResumeFault)
-    → IfErr q (KeepsFaultNamed id sizes images) → IfErr (resume_answer q) (KeepsNamed id sizes images)
-resumed-named id sizes images (Ok x) named = tt
-resumed-named id sizes images (Err ResumeMemory) named = tt
-resumed-named id sizes images (Err (ResumeOther d)) named = tt
-resumed-named id sizes images (Err ResumeRead) named = tt
-resumed-named id sizes images (Err (ResumeJournal None)) named = tt
-resumed-named id sizes images (Err (ResumeJournal (Some k))) named = named
+pub resumed-named : {T : Type 0} (id : List ℕ) (job : JobSizes) (images : List ℕ → Type 0) (q : Result T ResumeFault)
+    → IfErr q (KeepsFaultNamed id job images) → IfErr (resume_answer q) (KeepsNamed id job images)
+resumed-named id job images (Ok x) named = tt
+resumed-named id job images (Err ResumeMemory) named = tt
+resumed-named id job images (Err (ResumeOther d)) named = tt
+resumed-named id job images (Err ResumeRead) named = tt
+resumed-named id job images (Err (ResumeJournal None)) named = tt
+resumed-named id job images (Err (ResumeJournal (Some k))) named = named
 
 pub resumed-reads : {T : Type 0} (before now : ℕ) (q : Result T ResumeFault) → CountsResumeReads before now q → CountsReadsBeside before now (resume_answer q)
 resumed-reads before now (Ok x) counts = counts
@@ -83,19 +84,19 @@ resumed-reads before now (Err (ResumeOther d)) counts = counts
 resumed-reads before now (Err ResumeRead) counts = counts
 resumed-reads before now (Err (ResumeJournal kept)) counts = counts
 
-pub resumed-journal : {T : Type 0} (before now : ℕ) (q : Result T ResumeFault) → CountsResumeJournal before now q → CountsJournal before now (resume_answer q)
-resumed-journal before now (Ok x) counts = counts
-resumed-journal before now (Err ResumeMemory) counts = counts
-resumed-journal before now (Err (ResumeOther d)) counts = counts
-resumed-journal before now (Err ResumeRead) counts = counts
-resumed-journal before now (Err (ResumeJournal kept)) counts = counts
+pub resumed-journal : {T : Type 0} (full : Type 0) (before now : ℕ) (q : Result T ResumeFault) → CountsResumeJournal full before now q → CountsJournalOr full before now (resume_answer q)
+resumed-journal full before now (Ok x) counts = counts
+resumed-journal full before now (Err ResumeMemory) counts = counts
+resumed-journal full before now (Err (ResumeOther d)) counts = counts
+resumed-journal full before now (Err ResumeRead) counts = counts
+resumed-journal full before now (Err (ResumeJournal kept)) counts = counts
 
 -- ---- records that are written
 
 emitted-kept : {T : Type 0} (id : List ℕ) (plan : Plan) (image : List ℕ) (old new : Option (List ℕ)) (q : Result T EmitFault)
     → WritesKept id plan image old new q → WritesKept id plan image old new (emit_answer q)
-emitted-kept id plan image old new (Ok x) w = record { bodies = w.bodies; reads = w.reads; appended = record { all = w.appended.all; part = tt } }
-emitted-kept id plan image old new (Err fault) w = record { bodies = w.bodies; reads = w.reads; appended = record { all = tt; part = w.appended.part } }
+emitted-kept id plan image old new (Ok x) w = record { kept = w.kept; keeps = w.keeps; appended = record { all = w.appended.all; part = tt } }
+emitted-kept id plan image old new (Err fault) w = record { kept = w.kept; keeps = w.keeps; appended = record { all = tt; part = w.appended.part } }
 
 pub emitted-written : {T : Type 0} (seen : Option (List ℕ)) (id : List ℕ) (plan : Plan) (old new : Option (List ℕ)) (q : Result T EmitFault)
     → WhereTold seen (λ image. WritesKept id plan image old new q) → WhereTold seen (λ image. WritesKept id plan image old new (emit_answer q))

@@ -1,62 +1,97 @@
--- Journals that go on with sums of the epochs, and images that are honest.
-use Rattle.std.specs.Prelude.{slice_get, unwrap_or}
-use Rattle.std.proofs.Common.{◌≡◌, ◌∙◌, inl, inr, ℕ, zero, suc, ◌+◌, ◌≤◌, ◌<◌, List, [], ◌∷◌, ◌++◌, length, Option, Some, refl, sym, ap, subst, arith, length-append, append_assoc, append-nil}
-use Rattle.checkpoint_journal.specs.Image.{reading, kept_in}
-use Rattle.run_journal.specs.Extended.{BodyOf, AreFrom, Extends}
+-- Journals that go on with sums of epochs, what their images keep, and the place that is due behind it.
+use Rattle.std.specs.Prelude.{IfSome}
+use Rattle.std.proofs.Common.{◌≡◌, ◌∙◌, inl, inr, ℕ, ◌≤◌, ◌^◌, true, false, List, [], ◌∷◌, ◌++◌, length, Option, refl, sym, ap, subst, append-nil, arith}
+use Rattle.std.specs.List.{All}
+use Rattle.std.proofs.lemmas.List.Elements.{All-nil}
+use Rattle.piece_plan.specs.declared.epoch.EpochPlan.{EpochPlan}
+use Rattle.piece_plan.specs.Epochs.{JobSizes, IsJob}
+use Rattle.piece_plan.specs.Order.{Place, first_place, place_after, AreInOrder}
+use Rattle.plan_places.specs.Places.{IsPlace}
+use Rattle.plan_places.specs.Walk.{IsWalk, AreLeft, epochs_by}
+use Rattle.plan_places.proofs.AfterLemmas.{after-IsPlace}
+use Rattle.plan_places.proofs.WholeWalks.{first-IfSome}
+use Rattle.journal_image.specs.Image.{is_blank, KeptEpoch, IsIdentity, Reading, Reads, Keeps}
+use Rattle.journal_image.specs.Laws.{kept_epochs}
+use Rattle.journal_image.proofs.FrontLemmas.{reads_begun}
+use Rattle.journal_image.proofs.KeptLemmas.{reads_in_order}
+use Rattle.journal_image.proofs.ReadingLemmas.{reads_once, keeps_one}
+use Rattle.journal_rounds.specs.Extended.{BodyOf, Extends}
+use Rattle.journal_rounds.specs.Room.{DueIn, IsLong}
 
-pub some_bodies : (a b : List (List ℕ)) → Some a ≡ Some b → a ≡ b
-some_bodies a b e = cc
+-- what an image keeps, split where the one before it ended
+pub record Split (Is : BodyOf) (id : List ℕ) (job : JobSizes) (v : List ℕ) (kept : List KeptEpoch) : Type 0 where
+  pub old : List KeptEpoch
+  pub more : List KeptEpoch
+  pub before : Keeps id job v old
+  pub is : kept ≡ old ++ more
+  pub each : All (λ (k : KeptEpoch). Is k.epoch k.body) more
 
-pub AreFrom-append : (Is : BodyOf) (i : ℕ) (xs ys : List (List ℕ)) → AreFrom Is i xs → AreFrom Is (i + length xs) ys → AreFrom Is i (xs ++ ys)
-AreFrom-append Is i [] ys first second = let e : i + length {A = List ℕ} [] ≡ i = omega arith in subst (λ (n : ℕ). AreFrom Is n ys) e second
-AreFrom-append Is i (x ∷ xs) ys first second =
-    let e : i + length (x ∷ xs) ≡ (i + 1) + length xs = omega arith in
-    (first.0, AreFrom-append Is (i + 1) xs ys first.1 (subst (λ (n : ℕ). AreFrom Is n ys) e second))
+pub Extends-split : (Is : BodyOf) (id : List ℕ) (job : JobSizes) → IsIdentity id → IsJob job → (v image : List ℕ) (kept : List KeptEpoch)
+    → Extends Is id job v image → Keeps id job image kept → Split Is id job v kept
+Extends-split Is id job named is v image kept (inl same) keeps = record {
+  old = kept;
+  more = [];
+  before = (same kept).1 keeps;
+  is = sym (append-nil kept);
+  each = All-nil (λ (k : KeptEpoch). Is k.epoch k.body);
+}
+Extends-split Is id job named is v image kept (inr g) keeps = record {
+  old = g.old;
+  more = g.more;
+  before = g.before;
+  is = keeps_one id job image named is kept (g.old ++ g.more) keeps g.after;
+  each = g.each;
+}
 
--- the body of an epoch
-pub AreFrom-at : (Is : BodyOf) (i : ℕ) (bodies : List (List ℕ)) → AreFrom Is i bodies → (k : ℕ) → k < length bodies
-    → (body : List ℕ) × (slice_get bodies k ≡ Some body) × Is (i + k) body
-AreFrom-at Is i [] are k within = absurd (omega arith)
-AreFrom-at Is i (body ∷ bodies) are zero within = let e : i ≡ i + 0 = omega arith in (body, refl, subst (λ (n : ℕ). Is n body) e are.0)
-AreFrom-at Is i (body ∷ bodies) are (suc k) within =
-    let rest = AreFrom-at Is (i + 1) bodies are.1 k (omega arith) in
-    let e : (i + 1) + k ≡ i + suc k = omega arith in
-    (rest.0, rest.1, subst (λ (n : ℕ). Is n rest.0) e rest.2)
+-- ---- the place that is due
 
-module _ (Is : BodyOf) (id sizes : List ℕ) where
-  pub Extends-stays : (v : List ℕ) → Extends Is id sizes v v
-  Extends-stays v = inl refl
+order-place : (job : JobSizes) → IsJob job → (due end : Option Place) (epochs : List EpochPlan) → AreInOrder job due epochs end → IfSome due (IsPlace job) → IfSome end (IsPlace job)
+order-place job is due end [] order place = subst (λ (o : Option Place). IfSome o (IsPlace job)) order place
+order-place job is due end (e ∷ epochs) order place = order-place job is (place_after job e) end epochs order.2 (after-IsPlace job e is order.1)
 
-  pub Extends-joins : (u v w : List ℕ) → Extends Is id sizes u v → Extends Is id sizes v w → Extends Is id sizes u w
-  Extends-joins u v w (inl e) (inl f) = inl (f ∙ e)
-  Extends-joins u v w (inl e) (inr g) = inr (record { old = g.old; more = g.more; before = sym e ∙ g.before; after = g.after; each = g.each })
-  Extends-joins u v w (inr g) (inl f) = inr (record { old = g.old; more = g.more; before = g.before; after = f ∙ g.after; each = g.each })
-  Extends-joins u v w (inr g) (inr h) =
-      let same : g.old ++ g.more ≡ h.old = some_bodies (g.old ++ g.more) h.old (sym g.after ∙ h.before) in
-      let long : length h.old ≡ length g.old + length g.more = sym (ap (λ (l : List (List ℕ)). length l) same) ∙ length-append g.old g.more in
-      inr (record {
-        old = g.old;
-        more = g.more ++ h.more;
-        before = g.before;
-        after = h.after ∙ ap (λ (l : List (List ℕ)). Some (l ++ h.more)) (sym same) ∙ ap (λ (l : List (List ℕ)). Some l) (append_assoc g.old g.more h.more);
-        each = AreFrom-append Is (length g.old) g.more h.more g.each (subst (λ (n : ℕ). AreFrom Is n h.more) long h.each);
-      })
+-- behind what an image says, a place of the job is due, or none
+said-place : (id : List ℕ) (job : JobSizes) (image : List ℕ) (r : Reading) → IsJob job → Reads id job image r → IfSome r.due.place (IsPlace job)
+said-place id job image r is reads = order-place job is (first_place 0 job.scans) r.due.place (kept_epochs r) (reads_in_order id job image r reads) (first-IfSome job is)
 
-  -- what an image keeps, split where the one before it ended
-  pub Extends-split : (v image : List ℕ) (bodies : List (List ℕ)) → Extends Is id sizes v image → reading id sizes image ≡ Some bodies
-      → (old more : List (List ℕ)) × (reading id sizes v ≡ Some old) × (bodies ≡ old ++ more) × AreFrom Is (length old) more
-  Extends-split v image bodies (inl e) reads = (bodies, [], sym e ∙ reads, sym (append-nil bodies), tt)
-  Extends-split v image bodies (inr g) reads = (g.old, g.more, g.before, some_bodies bodies (g.old ++ g.more) (sym reads ∙ g.after), g.each)
+pub record HasDue (id : List ℕ) (job : JobSizes) (image : List ℕ) : Type 0 where
+  pub due : Option Place
+  pub is : DueIn id job image due
+  pub place : IfSome due (IsPlace job)
 
-  count : Option (List (List ℕ)) → ℕ
-  count o = length (unwrap_or o [])
+has-due : (id : List ℕ) (job : JobSizes) (image : List ℕ) (kept : List KeptEpoch) → IsIdentity id → IsJob job → Keeps id job image kept → HasDue id job image
+has-due id job image kept named is (inl blank) = record {
+  due = first_place 0 job.scans;
+  is = (λ _. refl, λ r reads. let never : true ≡ false = sym blank.0 ∙ reads_begun id job image r named reads in cc);
+  place = first-IfSome job is;
+}
+has-due id job image kept named is (inr said) = record {
+  due = said.0.due.place;
+  is = (
+    λ (blank : is_blank image ≡ true). let never : true ≡ false = sym blank ∙ reads_begun id job image said.0 named said.1 in cc,
+    λ r reads. ap (λ (s : Reading). s.due.place) (reads_once id job image named is said.0 r said.1 reads),
+  );
+  place = said-place id job image said.0 is said.1;
+}
 
-  pub Extends-counts : (v image : List ℕ) → Extends Is id sizes v image → kept_in id sizes v ≤ kept_in id sizes image
-  Extends-counts v image (inl e) = let same : kept_in id sizes image ≡ kept_in id sizes v = ap (λ (o : Option (List (List ℕ))). length (unwrap_or o [])) e in omega (arith, same)
-  Extends-counts v image (inr g) =
-      let one : kept_in id sizes v ≡ length g.old = ap (λ (o : Option (List (List ℕ))). length (unwrap_or o [])) g.before in
-      let two : kept_in id sizes image ≡ length (g.old ++ g.more) = ap (λ (o : Option (List (List ℕ))). length (unwrap_or o [])) g.after in
-      omega (arith, one, two, length-append g.old g.more)
+-- ---- the epochs that are left
 
-pub kept-of : (id sizes image : List ℕ) (bodies : List (List ℕ)) → reading id sizes image ≡ Some bodies → kept_in id sizes image ≡ length bodies
-kept-of id sizes image bodies reads = ap (λ (o : Option (List (List ℕ))). length (unwrap_or o [])) reads
+-- the law of walks from a place, and that of how many epochs they have
+abbrev pub WalksEnd : Type 0
+WalksEnd =
+    (job : JobSizes) (epoch : ℕ) (due : Option Place) → IsJob job → 1 ≤ epoch → epoch ≤ 4194304
+    → IfSome due (IsPlace job) → (epochs : List EpochPlan) × IsWalk job epoch due epochs
+
+abbrev pub NoMoreLeft : Type 0
+NoMoreLeft =
+    (job : JobSizes) (epoch : ℕ) (due : Option Place) (n : ℕ) → IsJob job → 1 ≤ epoch → epoch ≤ 4194304
+    → IfSome due (IsPlace job) → AreLeft job epoch due n → n ≤ length (epochs_by job epoch)
+
+-- An image with kept epochs, in which a run of the job may come to its room's end, has 2^62 bytes or more, since a job has at most 2^32
+-- epochs.
+pub long-kept : WalksEnd → NoMoreLeft → (id : List ℕ) (job : JobSizes) (epoch : ℕ) (image : List ℕ) (kept : List KeptEpoch) → IsIdentity id → IsJob job
+    → 1 ≤ epoch → epoch ≤ 4194304 → length (epochs_by job epoch) ≤ 4294967296 → Keeps id job image kept → IsLong id job epoch image → 2 ^ 62 ≤ length image
+long-kept ends no_more id job epoch image kept named is some short few keeps long =
+    let here = has-due id job image kept named is keeps in
+    let walk = ends job epoch here.due is some short here.place in
+    let left : AreLeft job epoch here.due (length walk.0) = record { epochs = walk.0; walk = walk.1; many = refl } in
+    long here.due (length walk.0) here.is left (omega (arith, no_more job epoch here.due (length walk.0) is some short here.place left, few))

@@ -1,56 +1,71 @@
 -- Calls of `run` one after another.
-use Rattle.std.specs.Prelude.{is_some, slice_get}
-use Rattle.std.proofs.Common.{◌≡◌, ◌∙◌, ◌⊎◌, ⊎_elim, inl, inr, ℕ, zero, suc, ◌<◌, ◌≤◌, true, List, [], ◌∷◌, Option, Some, None, Result, Ok, Err, refl, sym, ap, subst, arith, length}
-use Rattle.dev_traits.specs.Moments.{AtLeast}
+use Rattle.std.specs.Prelude.{is_some, map, slice_get}
+use Rattle.std.proofs.Common.{◌≡◌, ◌∙◌, ◌⊎◌, inl, inr, ℕ, zero, suc, ◌≤◌, true, List, [], ◌∷◌, Option, Some, None, Ok, refl, sym, ap, subst, arith}
+use Rattle.std.proofs.lemmas.List.Elements.{All-nil}
 use Rattle.dev_traits.specs.Told.{more, WhereTold}
 use Rattle.corr_model.specs.Files.{Files}
-use Rattle.piece_plan.specs.Epochs.{epochs_of}
+use Rattle.piece_plan.specs.Order.{CoverJob}
 use Rattle.job_plan.specs.declared.plan.Plan.{Plan}
 use Rattle.job_plan.specs.Output.{output}
 use Rattle.job_epochs.specs.Sizes.{sizes_of}
-use Rattle.checkpoint_journal.specs.Image.{is_blank}
-use Rattle.checkpoint_journal.proofs.FindLemmas.{reading-blank}
-use Rattle.run_notes.specs.Answers.{Answer}
-use Rattle.run_ready.specs.Outcome.{PlanOf}
+use Rattle.journal_image.specs.Image.{is_blank, KeptEpoch}
+use Rattle.run_ready.specs.Outcome.{Wrong, PlanUnder, PlanOf}
 use Rattle.run_ready.specs.Recordings.{recordings_answer}
-use Rattle.vlbi_core.specs.Calls.{Call, OutcomeOf, identity_for, sizes_for, kept_for}
-use Rattle.vlbi_core.specs.Texts.{epochs_for}
-use Rattle.vlbi_core.specs.Restart.{IsHonest, StaysHonest}
+use Rattle.vlbi_core.specs.Calls.{Call, KeepsAtLeast, KeepsAll}
+use Rattle.vlbi_core.specs.Texts.{IsSums}
+use Rattle.vlbi_core.specs.Restart.{IsHonest, AllKeep, StaysHonest}
 use Rattle.vlbi_core.specs.Histories.{IsRunBy, IsSameJob, End, Answered, Crashed, Step, stop, Left, IsEnd, IsStep, IsHistory, IsLater, Holds, AreAlike}
-use Rattle.vlbi_core.proofs.TopLemmas.{OneOutcome, plan-at}
+use Rattle.vlbi_core.proofs.TopLemmas.{plan-at}
 
 -- ---- calls for one job
 
-plan-by : (files : Files) (words : List (List ℕ)) (call : Call) → IsRunBy files words call → PlanOf files call.job call.vex (Ok call.plan)
+-- the law of plans for one job, whatever the length of an epoch
+abbrev pub OnePlan : Type 0
+OnePlan =
+    (files : Files) (wrong other : Wrong) (job : List ℕ) (vex : Option (List ℕ)) (epoch length : Option ℕ) (a b : Plan)
+    → PlanUnder files wrong job vex epoch (Ok a) → PlanUnder files other job vex length (Ok b) → a ≡ b
+
+plan-by : (files : Files) (words : List (List ℕ)) (call : Call) → IsRunBy files words call → PlanOf files call.job call.vex call.epoch (Ok call.plan)
 plan-by files words call by = plan-at files by.outcome.0 call by.outcome.2 by.run
 
-same-alike : (files : Files) (a b : Call) → a ≡ b → AreAlike files a b
-same-alike files a b same = subst (λ (c : Call). AreAlike files a c) same (record { honest = λ image h. h; kept = λ image. refl; plan = refl })
+-- calls of `run` for one job have one plan
+same-plan : OnePlan → (files : Files) (first second : List (List ℕ)) (a b : Call) → IsRunBy files first a → IsRunBy files second b → IsSameJob a b → a.plan ≡ b.plan
+same-plan law files first second a b one two same =
+    let there : PlanOf files a.job a.vex b.epoch (Ok b.plan) =
+    subst (λ (job : List ℕ). PlanOf files job a.vex b.epoch (Ok b.plan)) (sym same.0)
+    (subst (λ (vex : Option (List ℕ)). PlanOf files b.job vex b.epoch (Ok b.plan)) (sym same.1) (plan-by files second b two)) in
+    law files (recordings_answer files) (recordings_answer files) a.job a.vex a.epoch b.epoch a.plan b.plan (plan-by files first a one) there
 
--- calls of `run` for one job are one call
-same-call : OneOutcome → (files : Files) (first second : List (List ℕ)) (a b : Call) → IsRunBy files first a → IsRunBy files second b → IsSameJob a b → a ≡ b
-same-call law files first second a b one two same =
-    let there : PlanOf files a.job a.vex (Ok b.plan) =
-    subst (λ (job : List ℕ). PlanOf files job a.vex (Ok b.plan)) (sym same.0)
-    (subst (λ (vex : Option (List ℕ)). PlanOf files b.job vex (Ok b.plan)) (sym same.1) (plan-by files second b two)) in
-    let x : Result Plan Answer = Ok a.plan in
-    let y : Result Plan Answer = Ok b.plan in
-    let both : x ≡ y = law files (recordings_answer files) a.job a.vex x y (plan-by files first a one) there in
-    let plans : a.plan ≡ b.plan = cc in
-    let sums : a.sums ≡ b.sums = one.run ∙ sym two.run in
-    λ i. record { sums = sums i; job = same.0 i; vex = same.1 i; plan = plans i }
+-- and calls that differ in the length of an epoch alone are alike
+by-parts : (files : Files) (a b : Call) → IsSameJob a b → a.plan ≡ b.plan → AreAlike files a b
+by-parts files a b same plans =
+    subst (λ (plan : Plan). AreAlike files a (record b { plan = plan })) plans
+    (subst (λ (vex : Option (List ℕ)). AreAlike files a (record b { vex = vex; plan = a.plan })) same.1
+    (subst (λ (job : List ℕ). AreAlike files a (record b { job = job; vex = a.vex; plan = a.plan })) same.0
+    (record { honest = λ image h. record { kept = h.kept; keeps = h.keeps; sums = h.sums }; kept = λ image kept keeps. keeps; plan = refl })))
 
-pub alike : OneOutcome → (files : Files) (first second : List (List ℕ)) (a b : Call) → IsRunBy files first a → IsRunBy files second b → IsSameJob a b → AreAlike files a b
-alike law files first second a b one two same = same-alike files a b (same-call law files first second a b one two same)
+pub alike : OnePlan → (files : Files) (first second : List (List ℕ)) (a b : Call) → IsRunBy files first a → IsRunBy files second b → IsSameJob a b → AreAlike files a b
+alike law files first second a b one two same = by-parts files a b same (same-plan law files first second a b one two same)
 
 -- ---- what a call leaves, said of another call for the job
 
 blank-honest : (files : Files) (call : Call) (image : List ℕ) → is_blank image ≡ true → IsHonest files call image
-blank-honest files call image blank = record { bodies = []; reads = reading-blank (identity_for files call) (sizes_for call) image blank; sums = tt }
+blank-honest files call image blank = record { kept = []; keeps = inl (blank, refl); sums = All-nil (λ (k : KeptEpoch). IsSums files call.plan k.epoch k.body) }
 
 begun-honest : (files : Files) (call : Call) (image : List ℕ) → (is_blank image ≡ true) ⊎ IsHonest files call image → IsHonest files call image
 begun-honest files call image (inl blank) = blank-honest files call image blank
 begun-honest files call image (inr honest) = honest
+
+-- so many epochs, and epochs that cover the job, said of the other call
+least-alike : (files : Files) (a b : Call) → AreAlike files a b → (image : List ℕ) (n : ℕ) → KeepsAtLeast files a image n → KeepsAtLeast files b image n
+least-alike files a b same image n least = record { kept = least.kept; keeps = same.kept image least.kept least.keeps; many = least.many }
+
+all-alike : (files : Files) (a b : Call) → AreAlike files a b → (image : List ℕ) → KeepsAll files a image → KeepsAll files b image
+all-alike files a b same image whole = record {
+  kept = whole.kept;
+  keeps = same.kept image whole.kept whole.keeps;
+  all = subst (λ (plan : Plan). CoverJob (sizes_of plan) (map (λ (k : KeptEpoch). k.epoch) whole.kept)) same.plan whole.all;
+}
 
 told_there : (told : Option (List ℕ)) (P : Type 0) → is_some told ≡ true → WhereTold told (λ image. P) → P
 told_there None P some fact = absurd cc
@@ -66,15 +81,15 @@ next_step : {A : Type 0} (a b : A) (rest : List A) (i : ℕ) → slice_get (a �
 next_step a b rest i is = is
 
 module _ {D : Type 0} (seen : D → Option (List ℕ)) (moment : D → ℕ) (may_leave : D → ℕ → List ℕ → Type 0) where
-  as-job : (files : Files) (call job : Call) (status : ℕ) (old new : D) → AreAlike files call job
+  as-job : (files : Files) (call job : Call) (status : ℕ) (old new : D) → AreAlike files call job → AreAlike files job call
       → StaysHonest files call status moment may_leave old new → StaysHonest files job status moment may_leave old new
-  as-job files call job status old new same stays = record {
+  as-job files call job status old new same back stays = record {
     later = stays.later;
     past = stays.past;
     honest = λ t image low high now. same.honest image (stays.honest t image low high now);
-    never_falls = λ t t' n low up high all image now. subst (λ (k : ℕ). n ≤ k) (same.kept image)
-        (stays.never_falls t t' n low up high (λ v there. subst (λ (k : ℕ). n ≤ k) (sym (same.kept v)) (all v there)) image now);
-    all = λ done image now. sym (same.kept image) ∙ stays.all done image now ∙ ap (λ (plan : Plan). length (epochs_of (sizes_of plan))) same.plan;
+    never_falls = λ t t' n low up high all image now. least-alike files call job same image n
+        (stays.never_falls t t' n low up high (λ v there. least-alike files job call back v n (all v there)) image now);
+    all = λ done image now. all-alike files call job same image (stays.all done image now);
   }
 
   -- ---- how a call ended
@@ -94,7 +109,7 @@ module _ {D : Type 0} (seen : D → Option (List ℕ)) (moment : D → ℕ) (may
 
   -- ---- histories
 
-  module _ (law : OneOutcome) (files : Files) (words : List (List ℕ)) (job : Call) (base : IsRunBy files words job) where
+  module _ (law : OnePlan) (files : Files) (words : List (List ℕ)) (job : Call) (base : IsRunBy files words job) where
     back : (images : List ℕ → Type 0) (step : Step D) → IsStep seen moment may_leave files job images step → AreAlike files step.call job
     back images step is = alike law files step.words words step.call job is.runs base (sym is.same.0, sym is.same.1)
 
@@ -102,7 +117,7 @@ module _ {D : Type 0} (seen : D → Option (List ℕ)) (moment : D → ℕ) (may
         → (step : Step D) → IsStep seen moment may_leave files job images step → StaysHonest files job step.status moment may_leave step.old step.new
     stays images each step is =
         let there = alike law files words step.words job step.call base is.runs is.same in
-        as-job files step.call job step.status step.old step.new (back images step is)
+        as-job files step.call job step.status step.old step.new (back images step is) there
         (is.restart step.call is.runs.outcome (record {
           run = is.runs.run;
           honest = λ image now. there.honest image (begun-honest files job image (each image (is.begins image now)));
@@ -125,27 +140,27 @@ module _ {D : Type 0} (seen : D → Option (List ℕ)) (moment : D → ℕ) (may
 
     -- what each image on entry counts, each image of every moment of the call counts
     entry-kept : (images : List ℕ → Type 0) (step : Step D) → IsStep seen moment may_leave files job images step
-        → StaysHonest files job step.status moment may_leave step.old step.new → (n : ℕ) → AtLeast (kept_for files job) images n
-        → (t : ℕ) → moment step.old ≤ t → t ≤ moment step.new → AtLeast (kept_for files job) (may_leave step.new t) n
+        → StaysHonest files job step.status moment may_leave step.old step.new → (n : ℕ) → AllKeep files job images n
+        → (t : ℕ) → moment step.old ≤ t → t ≤ moment step.new → AllKeep files job (may_leave step.new t) n
     entry-kept images step is keeps n all t low high =
         keeps.never_falls (moment step.old) t n (omega arith) low high
         (λ image now. all image (is.begins image (keeps.past (moment step.old) image (omega arith) now)))
 
     -- and from a moment of the call on, what it leaves
     left-kept : (step : Step D) → StaysHonest files job step.status moment may_leave step.old step.new → IsEnd seen moment may_leave step.end step.old step.new
-        → (t n : ℕ) → moment step.old ≤ t → t ≤ stop seen moment may_leave step.end step.new → AtLeast (kept_for files job) (may_leave step.new t) n
-        → AtLeast (kept_for files job) (Left seen moment may_leave step.end step.new) n
+        → (t n : ℕ) → moment step.old ≤ t → t ≤ stop seen moment may_leave step.end step.new → AllKeep files job (may_leave step.new t) n
+        → AllKeep files job (Left seen moment may_leave step.end step.new) n
     left-kept step keeps ends t n low up all image now =
         keeps.never_falls t (stop seen moment may_leave step.end step.new) n low up (stop-high step.end step.old step.new ends) all image
         (left-there step.end step.old step.new ends image now)
 
     later-kept : (images : List ℕ → Type 0) → ((image : List ℕ) → images image → (is_blank image ≡ true) ⊎ IsHonest files job image)
-        → (steps : List (Step D)) → IsHistory seen moment may_leave files job images steps → (n : ℕ) → AtLeast (kept_for files job) images n
+        → (steps : List (Step D)) → IsHistory seen moment may_leave files job images steps → (n : ℕ) → AllKeep files job images n
         → (j : ℕ) (b : Step D) → slice_get steps j ≡ Some b
-        → (t : ℕ) → moment b.old ≤ t → t ≤ moment b.new → AtLeast (kept_for files job) (may_leave b.new t) n
+        → (t : ℕ) → moment b.old ≤ t → t ≤ moment b.new → AllKeep files job (may_leave b.new t) n
     later-kept images each [] is n all j b at t low high = absurd (no_step j b at)
     later-kept images each (step ∷ later) is n all zero b at t low high =
-        subst (λ (s : Step D). (t : ℕ) → moment s.old ≤ t → t ≤ moment s.new → AtLeast (kept_for files job) (may_leave s.new t) n) (first_step step b later at)
+        subst (λ (s : Step D). (t : ℕ) → moment s.old ≤ t → t ≤ moment s.new → AllKeep files job (may_leave s.new t) n) (first_step step b later at)
         (entry-kept images step is.0 (stays images each step is.0) n all) t low high
     later-kept images each (step ∷ later) is n all (suc j) b at t low high =
         let keeps = stays images each step is.0 in
@@ -177,15 +192,15 @@ module _ {D : Type 0} (seen : D → Option (List ℕ)) (moment : D → ℕ) (may
         appended (suc i) s at = rest.output i s (next_step step s later i at)
 
         whole : (i : ℕ) (s : Step D) → slice_get (step ∷ later) i ≡ Some s → s.status ≡ 0
-            → (image : List ℕ) → may_leave s.new (moment s.new) image → kept_for files job image ≡ epochs_for job
-        whole zero s at = subst (λ (s : Step D). s.status ≡ 0 → (image : List ℕ) → may_leave s.new (moment s.new) image → kept_for files job image ≡ epochs_for job)
+            → (image : List ℕ) → may_leave s.new (moment s.new) image → KeepsAll files job image
+        whole zero s at = subst (λ (s : Step D). s.status ≡ 0 → (image : List ℕ) → may_leave s.new (moment s.new) image → KeepsAll files job image)
             (first_step step s later at) keeps.all
         whole (suc i) s at = rest.all i s (next_step step s later i at)
 
         Kept : Step D → Step D → ℕ → ℕ → ℕ → ℕ → Type 0
         Kept a b i j t t' =
             (n : ℕ) → moment a.old ≤ t → t ≤ moment a.new → moment b.old ≤ t' → t' ≤ moment b.new → IsLater seen moment may_leave i a t j t'
-            → AtLeast (kept_for files job) (may_leave a.new t) n → AtLeast (kept_for files job) (may_leave b.new t') n
+            → AllKeep files job (may_leave a.new t) n → AllKeep files job (may_leave b.new t') n
 
         within : (t t' : ℕ) → Kept step step 0 0 t t'
         within t t' n low high low' high' (inl less) all = absurd (omega (arith, less.0))

@@ -1,3 +1,4 @@
+pub mod KeepLemmas
 pub mod PlainLemmas
 pub mod ExtendLemmas
 pub mod RecordFileLemmas

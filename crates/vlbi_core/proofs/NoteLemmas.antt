@@ -7,12 +7,12 @@ use Rattle.std.specs.Str.Parse.{digits_value}
 use Rattle.std.proofs.lemmas.List.{take-append-le}
 use Rattle.std.proofs.Math.Seq.{take-length}
 use Rattle.corr_model.specs.Files.{Files}
-use Rattle.checkpoint_journal.specs.declared.fault.Differs.{Differs}
+use Rattle.journal_image.specs.declared.difference.Differs.{Differs}
 use Rattle.run_notes.specs.declared.refusal.Refusal.{Refusal}
 use Rattle.run_notes.specs.declared.refusal.Refusal.TheVariants.{Memory, Words, Due as DueRefusal, Other, Read, Journal, Write}
 use Rattle.run_notes.specs.Answers.{memory_answer, read_answer, journal_answer, write_answer, other_answer}
 use Rattle.run_notes.specs.Refusals.{Outcomes, answer_of}
-use Rattle.vlbi_core.specs.Calls.{Call, Task, OfJob, kept_for}
+use Rattle.vlbi_core.specs.Calls.{Call, Task, OfJob, KeepsManyFor}
 use Rattle.vlbi_core.specs.Restart.{SaysKept}
 use Rattle.vlbi_core.specs.Steps.{IsCauseOf, IsShort, SaysFor}
 use Rattle.vlbi_core.proofs.TopLemmas.{AreOne, task-not, calls-same}
@@ -124,7 +124,7 @@ module _ (files : Files) (images : List ℕ → Type 0) (before after old new : 
   journal-says call (Some m) small says unnamed = record {
     named = λ run k e image now.
         let same : m ≡ k = named-same m k (small m refl) e in
-        subst (λ (j : ℕ). (kept_for files call image ≡ j) ⊎ (kept_for files call image ≡ j + 1)) same (says run image now);
+        subst (λ (j : ℕ). KeepsManyFor files call image j ⊎ KeepsManyFor files call image (j + 1)) same (says run image now);
     unnamed = λ _ e. absurd (named_unnamed m e);
     status = λ other k e. absurd (gone (unnamed other));
   }

@@ -1,13 +1,14 @@
 -- What a call over devices in memory leaves.
 use Rattle.std.specs.Prelude.{IfErr, codes}
-use Rattle.std.proofs.Common.{◌≡◌, ◌∙◌, arith, inl, inr, ℕ, ◌^◌, ◌<◌, true, List, [], length, Option, Some, None, Result, Ok, Err, refl, sym, ap, subst}
+use Rattle.std.proofs.Common.{◌≡◌, ◌∙◌, arith, inl, inr, ℕ, ◌^◌, ◌<◌, true, false, List, [], length, Option, Some, None, Result, Ok, Err, refl, sym, ap, subst}
+use Rattle.std.proofs.lemmas.List.Elements.{All-nil}
 use Rattle.dev_traits.specs.Told.{more, PrefixMore}
 use Rattle.sink_text.specs.Appends.{Appends}
 use Rattle.corr_model.specs.Files.{Files}
 use Rattle.job_plan.specs.declared.plan.Plan.{Plan}
 use Rattle.job_plan.specs.Output.{output}
-use Rattle.checkpoint_journal.specs.declared.fault.Differs.{Differs}
-use Rattle.checkpoint_journal.specs.Image.{reading}
+use Rattle.journal_image.specs.declared.difference.Differs.{Differs}
+use Rattle.journal_image.specs.Image.{KeptEpoch}
 use Rattle.checkpoint_journal.specs.Finding.{IsOther}
 use Rattle.checkpoint_journal.proofs.RunLemmas.{told_value}
 use Rattle.vis_records.specs.Content.{Content, IsRecordFile}
@@ -26,6 +27,7 @@ use Rattle.run_ready.specs.Recordings.{recordings_answer}
 use Rattle.run_ready.specs.Outcome.{PlanOf}
 use Rattle.mem_devices.specs.MemShelfState.{bytes_under}
 use Rattle.vlbi_core.specs.Calls.{Call, Task, OfJob, OfText, TaskFor, identity_for, sizes_for}
+use Rattle.vlbi_core.specs.Texts.{IsSums}
 use Rattle.vlbi_core.specs.Restart.{IsHonest}
 use Rattle.sample_job.specs.Sample.{sample_files, sample_shelf, SampleOf}
 use Rattle.vlbi_core.specs.Sample.{IsSampled, content_for, sample_text}
@@ -35,12 +37,8 @@ use Rattle.vlbi_core.proofs.RecordFileLemmas.{output-IsRecordFile}
 use Rattle.vlbi_core.proofs.TopLemmas.{OneOutcome}
 
 -- a blank image is honest
-blank-reads : (id sizes : List ℕ) → reading id sizes [] ≡ Some []
-unfolding reading
-blank-reads id sizes = refl
-
 blank-honest : (files : Files) (call : Call) → IsHonest files call []
-blank-honest files call = record { bodies = []; reads = blank-reads (identity_for files call) (sizes_for call); sums = tt }
+blank-honest files call = record { kept = []; keeps = inl (refl, refl); sums = All-nil (λ (k : KeptEpoch). IsSums files call.plan k.epoch k.body) }
 
 -- the task of a run
 task-of : (files : Files) (order : Order) (task : Task) → OutcomeFrom (Ok order) files (Ok task) → TaskFor files order (Ok task)
@@ -62,13 +60,13 @@ refusal-of files order answer (inr p) =
 
 module _ {D : Type 0} (seen : D → Option (List ℕ)) (moment : D → ℕ) (may_leave : D → ℕ → List ℕ → Type 0) where
   -- a run that was done over a blank journal appended what its plan comes to
-  pub done-output : (files : Files) (job : List ℕ) (vex : Option (List ℕ)) (workers piece : ℕ) (before after : D) (old new : Option (List ℕ)) → seen before ≡ Some []
-      → IsDone (OutcomeFrom (Ok (Run job vex workers piece)) files) files seen moment may_leave before after old new
-      → (plan : Plan) × PlanOf files job vex (Ok plan) × (new ≡ more old (output plan files))
-  done-output files job vex workers piece before after old new blank done = by done.task refl (task-of files (Run job vex workers piece) done.task done.outcome)
+  pub done-output : (files : Files) (job : List ℕ) (vex : Option (List ℕ)) (epoch : Option ℕ) (workers piece : ℕ) (before after : D) (old new : Option (List ℕ)) → seen before ≡ Some []
+      → IsDone (OutcomeFrom (Ok (Run job vex epoch workers piece)) files) files seen moment may_leave before after old new
+      → (plan : Plan) × PlanOf files job vex epoch (Ok plan) × (new ≡ more old (output plan files))
+  done-output files job vex epoch workers piece before after old new blank done = by done.task refl (task-of files (Run job vex epoch workers piece) done.task done.outcome)
     where
-      by : (task : Task) → done.task ≡ task → TaskFor files (Run job vex workers piece) (Ok task)
-          → (plan : Plan) × PlanOf files job vex (Ok plan) × (new ≡ more old (output plan files))
+      by : (task : Task) → done.task ≡ task → TaskFor files (Run job vex epoch workers piece) (Ok task)
+          → (plan : Plan) × PlanOf files job vex epoch (Ok plan) × (new ≡ more old (output plan files))
       by (OfText text) same p = absurd p
       by (OfJob call) same p =
           let run : call.sums ≡ true = subst (λ (c : Call). c.sums ≡ true) (sym p.0) refl in (
@@ -81,18 +79,18 @@ module _ {D : Type 0} (seen : D → Option (List ℕ)) (moment : D → ℕ) (may
 not-other : (outcomes : Outcomes Task) (files : Files) (before : Option (List ℕ)) (d : Differs) → before ≡ Some [] → IsOtherCause outcomes files before d → ⊥
 not-other outcomes files before d blank cause =
     let there = told_value before (λ image. IsOther (identity_for files cause.call) (sizes_for cause.call) image d) [] blank cause.other in
-    let gone : Some [] ≡ None = sym (blank-reads (identity_for files cause.call) (sizes_for cause.call)) ∙ there.unread in
+    let never : true ≡ false = there.begun in
     cc
 
 -- What refuses an order that no answer refuses, over a blank journal and a shelf whose count stays: want of memory, or a fault of the
 -- journal or the output.
-module _ (files : Files) (job : List ℕ) (vex : Option (List ℕ)) (workers piece : ℕ) (images : List ℕ → Type 0) (before after old new : Option (List ℕ)) where
-  of-memory : (r : Refusal) → before ≡ Some [] → ((answer : Answer) → PlanOf files job vex (Err answer) → ⊥) → IsBehindWords r
-      → CountsReadsBeside {T = Unit {0}} 0 0 (Err r) → IsCauseOf r (OutcomeFrom (Ok (Run job vex workers piece)) files) files images before after old new → IsOfMemory r
+module _ (files : Files) (job : List ℕ) (vex : Option (List ℕ)) (epoch : Option ℕ) (workers piece : ℕ) (images : List ℕ → Type 0) (before after old new : Option (List ℕ)) where
+  of-memory : (r : Refusal) → before ≡ Some [] → ((answer : Answer) → PlanOf files job vex epoch (Err answer) → ⊥) → IsBehindWords r
+      → CountsReadsBeside {T = Unit {0}} 0 0 (Err r) → IsCauseOf r (OutcomeFrom (Ok (Run job vex epoch workers piece)) files) files images before after old new → IsOfMemory r
   of-memory Memory blank none behind reads cause = tt
   of-memory (Words fault) blank none behind reads cause = absurd behind
-  of-memory (DueRefusal due) blank none behind reads cause = absurd (none _ (refusal-of files (Run job vex workers piece) _ cause))
-  of-memory (Other d) blank none behind reads cause = absurd (not-other (OutcomeFrom (Ok (Run job vex workers piece)) files) files before d blank cause)
+  of-memory (DueRefusal due) blank none behind reads cause = absurd (none _ (refusal-of files (Run job vex epoch workers piece) _ cause))
+  of-memory (Other d) blank none behind reads cause = absurd (not-other (OutcomeFrom (Ok (Run job vex epoch workers piece)) files) files before d blank cause)
   of-memory Read blank none behind reads cause = absurd (omega (arith, reads))
   of-memory (Journal kept) blank none behind reads cause = tt
   of-memory Write blank none behind reads cause = tt
@@ -165,12 +163,12 @@ module _ {D : Type 0} (seen : D → Option (List ℕ)) (moment : D → ℕ) (may
     (blank : seen before ≡ Some []) where
   -- what was appended in memory is the record file of a plan of the sample
   sampled : OneOutcome → (bytes : List ℕ)
-      → IsDone (OutcomeFrom (Ok (Run (codes "job") None workers piece)) (sample_shelf seed seconds)) (sample_shelf seed seconds) seen moment may_leave before after (Some []) (Some bytes)
+      → IsDone (OutcomeFrom (Ok (Run (codes "job") None None workers piece)) (sample_shelf seed seconds)) (sample_shelf seed seconds) seen moment may_leave before after (Some []) (Some bytes)
       → IsPlanned (SampleOf seed seconds) → IsSampled seed seconds bytes
   sampled law bytes done planned =
-      let out = done-output seen moment may_leave (sample_shelf seed seconds) (codes "job") None workers piece before after (Some []) (Some bytes) blank done in
+      let out = done-output seen moment may_leave (sample_shelf seed seconds) (codes "job") None None workers piece before after (Some []) (Some bytes) blank done in
       let one : Ok out.0 ≡ Ok planned.plan =
-      law (sample_shelf seed seconds) (recordings_answer (sample_shelf seed seconds)) (codes "job") None (Ok out.0) (Ok planned.plan) out.1 planned.outcome in
+      law (sample_shelf seed seconds) (recordings_answer (sample_shelf seed seconds)) (codes "job") None None (Ok out.0) (Ok planned.plan) out.1 planned.outcome in
       let plans : out.0 ≡ planned.plan = cc in
       let told : Some bytes ≡ Some (output out.0 (sample_shelf seed seconds)) = out.2 in
       let text : bytes ≡ output out.0 (sample_shelf seed seconds) = cc in
@@ -183,18 +181,18 @@ module _ {D : Type 0} (seen : D → Option (List ℕ)) (moment : D → ℕ) (may
       }
 
   pub sampled-does : OneOutcome → (old bytes items : List ℕ) (x : Unit {0}) → old ≡ [] → items ≡ bytes
-      → Does (Ok (Run job vex workers piece)) (bytes_under files) seen moment may_leave before after (Some old) (Some bytes) (Ok x)
-      → IsPlanned (PlanOf (bytes_under files) job vex) → IsSampled seed seconds items
+      → Does (Ok (Run job vex None workers piece)) (bytes_under files) seen moment may_leave before after (Some old) (Some bytes) (Ok x)
+      → IsPlanned (PlanOf (bytes_under files) job vex None) → IsSampled seed seconds items
   sampled-does law old bytes items x none same does planned =
       subst (IsSampled seed seconds) (sym same)
       (sampled law bytes
-      (own (λ j v fs. IsDone (OutcomeFrom (Ok (Run j v workers piece)) (bytes_under fs)) (bytes_under fs) seen moment may_leave before after (Some []) (Some bytes)) seed seconds job vex files names same_files
-      (subst (λ (o : List ℕ). IsDone (OutcomeFrom (Ok (Run job vex workers piece)) (bytes_under files)) (bytes_under files) seen moment may_leave before after (Some o) (Some bytes)) none does.done))
-      (own (λ j v fs. IsPlanned (PlanOf (bytes_under fs) j v)) seed seconds job vex files names same_files planned))
+      (own (λ j v fs. IsDone (OutcomeFrom (Ok (Run j v None workers piece)) (bytes_under fs)) (bytes_under fs) seen moment may_leave before after (Some []) (Some bytes)) seed seconds job vex files names same_files
+      (subst (λ (o : List ℕ). IsDone (OutcomeFrom (Ok (Run job vex None workers piece)) (bytes_under files)) (bytes_under files) seen moment may_leave before after (Some o) (Some bytes)) none does.done))
+      (own (λ j v fs. IsPlanned (PlanOf (bytes_under fs) j v None)) seed seconds job vex files names same_files planned))
 
   pub refused-memory : (old new : Option (List ℕ)) (r : Refusal) → ((answer : Answer) → SampleOf seed seconds (Err answer) → ⊥) → IsBehindWords r
-      → CountsReadsBeside {T = Unit {0}} 0 0 (Err r) → Does (Ok (Run job vex workers piece)) (bytes_under files) seen moment may_leave before after old new (Err r) → IsOfMemory r
+      → CountsReadsBeside {T = Unit {0}} 0 0 (Err r) → Does (Ok (Run job vex None workers piece)) (bytes_under files) seen moment may_leave before after old new (Err r) → IsOfMemory r
   refused-memory old new r none behind reads does =
-      of-memory (sample_shelf seed seconds) (codes "job") None workers piece (may_leave after (moment after)) (seen before) (seen after) old new r blank none behind reads
-      (own (λ j v fs. IsCauseOf r (OutcomeFrom (Ok (Run j v workers piece)) (bytes_under fs)) (bytes_under fs) (may_leave after (moment after)) (seen before) (seen after) old new)
+      of-memory (sample_shelf seed seconds) (codes "job") None None workers piece (may_leave after (moment after)) (seen before) (seen after) old new r blank none behind reads
+      (own (λ j v fs. IsCauseOf r (OutcomeFrom (Ok (Run j v None workers piece)) (bytes_under fs)) (bytes_under fs) (may_leave after (moment after)) (seen before) (seen after) old new)
       seed seconds job vex files names same_files does.cause)

@@ -1,18 +1,21 @@
 -- The status of a call, what it appended, what it left in the journal and its note.
-use Rattle.std.specs.Prelude.{IsErr, IsOk, IsSome, codes}
-use Rattle.std.proofs.Common.{◌≡◌, ◌∙◌, ◌⊎◌, inl, inr, ℕ, ◌+◌, ◌≤◌, Bool, true, false, List, [], ◌++◌, length, Option, Some, None, Result, Ok, Err, refl, sym, ap, subst, arith}
+use Rattle.std.specs.Prelude.{IsErr, IsOk, IfErr, codes, unwrap_or}
+use Rattle.std.proofs.Common.{◌≡◌, ◌∙◌, ◌⊎◌, inl, inr, ℕ, ◌≤◌, ◌<◌, ◌^◌, Bool, true, false, List, [], length, Option, Some, None, Result, Ok, Err, refl, sym, ap, subst, arith}
 use Rattle.std.proofs.lemmas.List.{append-nil}
 use Rattle.dev_traits.specs.Fault.{HasRisen}
 use Rattle.dev_traits.specs.Told.{more, WhereTold}
-use Rattle.dev_traits.proofs.Moments.{always, never_falls}
+use Rattle.dev_traits.specs.Images.{Same}
+use Rattle.dev_traits.specs.Moments.{Runs}
+use Rattle.dev_traits.proofs.Moments.{always}
 use Rattle.sink_text.specs.Appends.{Appends}
 use Rattle.sink_text.proofs.AppendedText.{Appends-part}
 use Rattle.corr_model.specs.Files.{Files}
 use Rattle.job_plan.specs.declared.plan.Plan.{Plan}
+use Rattle.job_plan.specs.Ranges.{IsPlan}
 use Rattle.job_plan.specs.Output.{output}
-use Rattle.checkpoint_journal.specs.declared.fault.Differs.{Differs}
+use Rattle.journal_image.specs.declared.difference.Differs.{Differs}
 use Rattle.checkpoint_journal.specs.Finding.{IsOther}
-use Rattle.checkpoint_journal.specs.Runs.{Looks, Changes}
+use Rattle.checkpoint_journal.specs.Runs.{Changes}
 use Rattle.checkpoint_journal.proofs.RunLemmas.{changes_looks, told_value}
 use Rattle.run_words.specs.declared.fault.WordsFault.{WordsFault}
 use Rattle.run_words.specs.declared.order.Order.{Order}
@@ -23,10 +26,12 @@ use Rattle.run_notes.specs.declared.refusal.Refusal.{Refusal}
 use Rattle.run_notes.specs.declared.refusal.Refusal.TheVariants.{Memory, Words, Due as DueRefusal, Other, Read, Journal, Write}
 use Rattle.run_notes.specs.Answers.{Answer, words_answer, journal_answer}
 use Rattle.run_notes.specs.Refusals.{Outcomes, MatchRead, MatchReadOrJournal, MatchJournal, MatchWrite, answer_of, due_answer}
+use Rattle.run_notes.specs.Commands.{IsOfFilesOrOutput}
+use Rattle.run_notes.specs.Counted.{CountsJournal}
 use Rattle.run_ready.specs.Steps.{Is, Then, answered}
 use Rattle.run_ready.specs.Recordings.{files_answer, recordings_answer}
 use Rattle.run_ready.specs.Outcome.{Wrong, PlanUnder, SurveyOf, PlanOf}
-use Rattle.run_journal.specs.Extended.{AreFrom, Extends}
+use Rattle.journal_rounds.specs.Extended.{Extends}
 use Rattle.vis_records.specs.Content.{Content}
 use Rattle.vis_records.specs.Dumped.{dump_text}
 use Rattle.run_summary.specs.Summaries.{check_text}
@@ -37,12 +42,12 @@ use Rattle.run_bins.specs.Texts.{BinPlan, bin_output}
 use Rattle.run_bins.specs.Outcome.{BinsOf}
 use Rattle.sample_job.specs.Sample.{SampleOf, sample_shelf}
 use Rattle.vlbi_core.specs.Sample.{sample_text}
-use Rattle.vlbi_core.specs.Calls.{Call, call_of, Task, OfJob, OfText, JobFor, TextFor, TaskFor, identity_for, sizes_for, bodies_for, kept_for}
-use Rattle.vlbi_core.specs.Texts.{IsSums, epochs_for}
+use Rattle.vlbi_core.specs.Calls.{Call, call_of, Task, OfJob, OfText, JobFor, TextFor, TaskFor, identity_for, sizes_for, IsOursFor, KeepsAtLeast, KeepsAll}
+use Rattle.vlbi_core.specs.Texts.{IsSummedFor}
 use Rattle.vlbi_core.specs.Run.{IsVerdictStatus, IsDueStatus, IsStatus, IsUsable, IsForeign, IsVerdict, IsAppended, IsWordsLine, IsLineOf, IsNoted}
-use Rattle.vlbi_core.specs.Restart.{IsHonest, Continues, Restarts, IsGenOf}
-use Rattle.vlbi_core.specs.Steps.{OutcomeFrom, IsWordedBy, IsOpened, IsCauseOf, IsOtherCause, IsPartly, IsDone, IsUnnumbered, IsOfSample, Goes, MatchDue, MatchEarly, MatchVerdict}
-use Rattle.vlbi_core.proofs.ExtendLemmas.{some_bodies, AreFrom-append, Extends-stays, Extends-counts}
+use Rattle.vlbi_core.specs.Restart.{IsHonest, Continues, StaysHonest, Restarts}
+use Rattle.vlbi_core.specs.Steps.{OutcomeFrom, IsWordedBy, IsOpened, IsCauseOf, IsOtherCause, IsPartly, IsDone, IsUnnumbered, IsOfSample, CountsJournalOr, IsFullFor, Goes, GoesRanged, MatchDue, MatchEarly, MatchVerdict}
+use Rattle.vlbi_core.proofs.KeepLemmas.{honest-extends, least-extends, none_lost}
 use Rattle.vlbi_core.proofs.CommandLemmas.{one-job, not_both}
 
 -- ---- outcomes, of which there is one
@@ -54,8 +59,8 @@ AreOne {A} outcomes = (a b : Result A Answer) → outcomes a → outcomes b → 
 -- the law of plans
 abbrev pub OneOutcome : Type 0
 OneOutcome =
-    (files : Files) (wrong : Wrong) (job : List ℕ) (vex : Option (List ℕ)) (a b : Result Plan Answer)
-    → PlanUnder files wrong job vex a → PlanUnder files wrong job vex b → a ≡ b
+    (files : Files) (wrong : Wrong) (job : List ℕ) (vex : Option (List ℕ)) (epoch : Option ℕ) (a b : Result Plan Answer)
+    → PlanUnder files wrong job vex epoch a → PlanUnder files wrong job vex epoch b → a ≡ b
 
 Then-one : {A B : Type 0} (first : Outcomes A) (next : A → Outcomes B) → AreOne first → ((a : A) → AreOne (next a)) → AreOne (Then first next)
 Then-one {A} {B} first next one ones = by
@@ -87,17 +92,17 @@ Then-one {A} {B} first next one ones = by
     by (Err d) (Err e) (inr p) (inl q) = absurd (not p.0 e p.1 q)
     by (Err d) (Err e) (inr p) (inr q) = both (Err d) (Err e) p.0 q.0 p.1 q.1 p.2 q.2
 
-job-one : (sums : Bool) (job : List ℕ) (vex : Option (List ℕ)) (plans : Outcomes Plan) → AreOne plans → AreOne (JobFor sums job vex plans)
-job-one sums job vex plans one (Ok (OfJob a)) (Ok (OfJob b)) p q =
+job-one : (sums : Bool) (job : List ℕ) (vex : Option (List ℕ)) (epoch : Option ℕ) (plans : Outcomes Plan) → AreOne plans → AreOne (JobFor sums job vex epoch plans)
+job-one sums job vex epoch plans one (Ok (OfJob a)) (Ok (OfJob b)) p q =
     let same : Ok a.plan ≡ Ok b.plan = one (Ok a.plan) (Ok b.plan) p.1 q.1 in
     let two : a.plan ≡ b.plan = cc in
-    ap (λ (c : Call). Ok (OfJob c)) (p.0 ∙ ap (call_of sums job vex) two ∙ sym q.0)
-job-one sums job vex plans one (Ok (OfJob a)) (Ok (OfText text)) p q = absurd q
-job-one sums job vex plans one (Ok (OfText text)) b p q = absurd p
-job-one sums job vex plans one (Ok (OfJob a)) (Err e) p q = let h : Ok a.plan ≡ Err e = one (Ok a.plan) (Err e) p.1 q in cc
-job-one sums job vex plans one (Err d) (Ok (OfJob b)) p q = let h : Ok b.plan ≡ Err d = one (Ok b.plan) (Err d) q.1 p in cc
-job-one sums job vex plans one (Err d) (Ok (OfText text)) p q = absurd q
-job-one sums job vex plans one (Err d) (Err e) p q =
+    ap (λ (c : Call). Ok (OfJob c)) (p.0 ∙ ap (call_of sums job vex epoch) two ∙ sym q.0)
+job-one sums job vex epoch plans one (Ok (OfJob a)) (Ok (OfText text)) p q = absurd q
+job-one sums job vex epoch plans one (Ok (OfText text)) b p q = absurd p
+job-one sums job vex epoch plans one (Ok (OfJob a)) (Err e) p q = let h : Ok a.plan ≡ Err e = one (Ok a.plan) (Err e) p.1 q in cc
+job-one sums job vex epoch plans one (Err d) (Ok (OfJob b)) p q = let h : Ok b.plan ≡ Err d = one (Ok b.plan) (Err d) q.1 p in cc
+job-one sums job vex epoch plans one (Err d) (Ok (OfText text)) p q = absurd q
+job-one sums job vex epoch plans one (Err d) (Err e) p q =
     let x : Result Plan Answer = Err d in
     let y : Result Plan Answer = Err e in
     let h : x ≡ y = one x y p q in
@@ -145,24 +150,25 @@ pub record AreLaws : Type 0 where
   pub binned : OneBinned
 
 task-one : AreLaws → (files : Files) (order : Order) → AreOne (TaskFor files order)
-task-one laws files (Run job vex workers piece) = job-one true job vex (PlanOf files job vex) (laws.outcome files (recordings_answer files) job vex)
-task-one laws files (Status job vex) = job-one false job vex (SurveyOf files job vex) (laws.outcome files (files_answer files) job vex)
-task-one laws files (Plain job vex) = text-one (PlanOf files job vex) (λ plan. output plan files) (laws.outcome files (recordings_answer files) job vex)
-task-one laws files (Check job vex) = text-one (PlanOf files job vex) (λ plan. check_text plan files) (laws.outcome files (recordings_answer files) job vex)
+task-one laws files (Run job vex epoch workers piece) = job-one true job vex epoch (PlanOf files job vex epoch) (laws.outcome files (recordings_answer files) job vex epoch)
+task-one laws files (Status job vex epoch) = job-one false job vex epoch (SurveyOf files job vex epoch) (laws.outcome files (files_answer files) job vex epoch)
+task-one laws files (Plain job vex) = text-one (PlanOf files job vex None) (λ plan. output plan files) (laws.outcome files (recordings_answer files) job vex None)
+task-one laws files (Check job vex epoch) =
+    text-one (PlanOf files job vex epoch) (λ plan. check_text plan (unwrap_or epoch plan.epoch) files) (laws.outcome files (recordings_answer files) job vex epoch)
 task-one laws files (Dump file) = text-one (RecordsOf files file) dump_text (laws.shown files file)
 task-one laws files (Gen seed seconds workers piece) =
     text-one (SampleOf seed seconds) (sample_text seed seconds)
-    (laws.outcome (sample_shelf seed seconds) (recordings_answer (sample_shelf seed seconds)) (codes "job") None)
+    (laws.outcome (sample_shelf seed seconds) (recordings_answer (sample_shelf seed seconds)) (codes "job") None None)
 task-one laws files (Fringe file rates divide) = text-one (FringeOf files file rates divide) lines_text (laws.search_is files file rates divide)
 task-one laws files (Verify file certificate) = text-one (VerifyOf files file certificate) right_text (laws.verdict files file certificate)
 task-one laws files (Bins job vex phase workers piece) = text-one (BinsOf files job vex phase) (λ x. bin_output x files) (laws.binned files job vex phase)
 
 -- the plan of a call of `run`
-pub plan-at : (files : Files) (order : Order) (call : Call) → TaskFor files order (Ok (OfJob call)) → call.sums ≡ true → PlanOf files call.job call.vex (Ok call.plan)
-plan-at files (Run job vex workers piece) call there run = subst (λ (c : Call). PlanOf files c.job c.vex (Ok call.plan)) (sym there.0) there.1
-plan-at files (Status job vex) call there run = absurd (not_both false (subst (λ (c : Call). c.sums ≡ true) there.0 run) refl)
+pub plan-at : (files : Files) (order : Order) (call : Call) → TaskFor files order (Ok (OfJob call)) → call.sums ≡ true → PlanOf files call.job call.vex call.epoch (Ok call.plan)
+plan-at files (Run job vex epoch workers piece) call there run = subst (λ (c : Call). PlanOf files c.job c.vex c.epoch (Ok call.plan)) (sym there.0) there.1
+plan-at files (Status job vex epoch) call there run = absurd (not_both false (subst (λ (c : Call). c.sums ≡ true) there.0 run) refl)
 plan-at files (Plain job vex) call there run = absurd there
-plan-at files (Check job vex) call there run = absurd there
+plan-at files (Check job vex epoch) call there run = absurd there
 plan-at files (Dump file) call there run = absurd there
 plan-at files (Gen seed seconds workers piece) call there run = absurd there
 plan-at files (Fringe file rates divide) call there run = absurd there
@@ -337,6 +343,28 @@ journal-kept Read P Q fact not = fact
 journal-kept (Journal kept) P Q fact not = absurd (not (journal-status kept))
 journal-kept Write P Q fact not = fact
 
+-- the disk's count, where the call is no one of `run` and a full journal is no cause
+pub journal-or : {T : Type 0} (full : Type 0) (before now : ℕ) (result : Result T Refusal) → CountsJournal before now result → CountsJournalOr full before now result
+journal-or full before now (Ok x) counts = counts
+journal-or full before now (Err Memory) counts = counts
+journal-or full before now (Err (Words fault)) counts = counts
+journal-or full before now (Err (DueRefusal due)) counts = counts
+journal-or full before now (Err (Other d)) counts = counts
+journal-or full before now (Err Read) counts = counts
+journal-or full before now (Err (Journal kept)) counts = inl counts
+journal-or full before now (Err Write) counts = counts
+
+-- and where the journal is left alone
+pub files-journal : (n : ℕ) (result : Result (Unit {0}) Refusal) → IfErr result IsOfFilesOrOutput → CountsJournal n n result
+files-journal n (Ok x) stage = refl
+files-journal n (Err Memory) stage = refl
+files-journal n (Err (Words fault)) stage = absurd stage
+files-journal n (Err (DueRefusal due)) stage = refl
+files-journal n (Err (Other d)) stage = absurd stage
+files-journal n (Err Read) stage = refl
+files-journal n (Err (Journal kept)) stage = absurd stage
+files-journal n (Err Write) stage = refl
+
 pub write-risen : (r : Refusal) (P Q : Type 0) → MatchWrite r P Q → (answer_of r).status ≡ 9 → P
 write-risen Memory P Q fact is = absurd cc
 write-risen (Words fault) P Q fact is = absurd cc
@@ -357,8 +385,14 @@ write-kept Write P Q fact not = absurd (not refl)
 
 -- ---- verdicts
 
-abbrev no_reading : Option (List (List ℕ))
-no_reading = None
+-- an image that is blank or of the job's form is not foreign
+ours-not : (files : Files) (call : Call) (image : List ℕ) → IsOursFor files call image → IsForeign files call image → ⊥
+ours-not files call image (kept, inl blank) foreign = let never : true ≡ false = sym blank.0 ∙ foreign.begun in cc
+ours-not files call image (kept, inr read) foreign = foreign.unread read.0 read.1
+
+-- nor is one with fewer than 2^62 bytes so long that it may be full
+short-not : (image : List ℕ) → length image < 2 ^ 62 → 2 ^ 62 ≤ length image → ⊥
+short-not image short long = omega (arith, short, long)
 
 module _ (outcomes : Outcomes Task) (one : AreOne outcomes) where
   pub task-not : (task : Task) (answer : Answer) → outcomes (Ok task) → outcomes (Err answer) → ⊥
@@ -382,9 +416,7 @@ module _ (outcomes : Outcomes Task) (one : AreOne outcomes) where
       → journal ≡ Some image → IsForeign files b image → ⊥
   opened-not files a b journal image p q opened is foreign =
       let at : IsOpened files (OfJob b) journal = subst (λ (t : Task). IsOpened files t journal) (tasks-same a (OfJob b) p q) opened in
-      let some : IsSome (bodies_for files b image) = told_value journal (λ v. IsSome (bodies_for files b v)) image is at in
-      let gone : IsSome no_reading = subst (λ (o : Option (List (List ℕ))). IsSome o) foreign some in
-      cc
+      ours-not files b image (told_value journal (IsOursFor files b) image is at) foreign
 
   pub verdict-done : {D : Type 0} (files : Files) (seen : D → Option (List ℕ)) (moment : D → ℕ) (may_leave : D → ℕ → List ℕ → Type 0) (before after : D) (old new : Option (List ℕ))
       (read_fault journal_fault write_fault : Type 0) → IsDone outcomes files seen moment may_leave before after old new
@@ -426,57 +458,77 @@ module _ (outcomes : Outcomes Task) (one : AreOne outcomes) where
 
       foreign : (o : Option (List ℕ)) → WhereTold o (λ image. IsOther (identity_for files cause.call) (sizes_for cause.call) image d) → WhereTold o (IsForeign files cause.call)
       foreign None other = tt
-      foreign (Some image) other = other.unread
+      foreign (Some image) other = record { begun = other.begun; unread = other.unread }
 
       unusable : (task : Task) → outcomes (Ok task) → IsUsable files task before journal_fault → ⊥
       unusable task there usable =
           let same : task ≡ OfJob cause.call = tasks-same task (OfJob cause.call) there cause.outcome in
           let usable_here : IsUsable files (OfJob cause.call) before journal_fault = subst (λ (t : Task). IsUsable files t before journal_fault) same usable in
-          let unread = (told_value before (λ image. IsOther (identity_for files cause.call) (sizes_for cause.call) image d) usable_here.1.0 usable_here.1.1 cause.other).unread in
-          let gone : IsSome no_reading = subst (λ (o : Option (List (List ℕ))). IsSome o) unread usable_here.1.2 in
-          cc
+          ours-not files cause.call usable_here.image usable_here.ours (told_value before (IsForeign files cause.call) usable_here.image usable_here.read (foreign before cause.other))
 
-  pub verdict-refused : (files : Files) (images : List ℕ → Type 0) (before after old new : Option (List ℕ)) (read_fault journal_fault write_fault P Q R S : Type 0) (r : Refusal)
-      → IsCauseOf r outcomes files images before after old new → MatchReadOrJournal r read_fault P Q → MatchJournal r journal_fault R → MatchWrite r write_fault S
+  verdict-refused : (files : Files) (images : List ℕ → Type 0) (before after old new : Option (List ℕ)) (read_fault journal_fault write_fault same P Q R S : Type 0) (r : Refusal)
+      → IsCauseOf r outcomes files images before after old new → MatchReadOrJournal r read_fault P Q
+      → MatchJournal r (journal_fault ⊎ (same × IsFullFor outcomes files before after)) R → MatchWrite r write_fault S
       → IsVerdict outcomes files before (answer_of r).status read_fault journal_fault write_fault
-  verdict-refused files images before after old new read_fault journal_fault write_fault P Q R S Memory cause reads journal writes = record {
+  verdict-refused files images before after old new read_fault journal_fault write_fault same P Q R S Memory cause reads journal writes = record {
     due = λ is. absurd (due-not 1 1 (inr is) refl (inr (inl refl)));
     refused = λ _ _. inr (inl refl);
     other = λ is. absurd cc;
     foreign = λ _ _ _ _ _. inr (inl refl);
     complete = λ _ _ _ _ _. inr refl;
   }
-  verdict-refused files images before after old new read_fault journal_fault write_fault P Q R S (Words fault) cause reads journal writes =
+  verdict-refused files images before after old new read_fault journal_fault write_fault same P Q R S (Words fault) cause reads journal writes =
       verdict-of files (words_answer fault) before read_fault journal_fault write_fault cause (inl refl)
-  verdict-refused files images before after old new read_fault journal_fault write_fault P Q R S (DueRefusal due) cause reads journal writes =
+  verdict-refused files images before after old new read_fault journal_fault write_fault same P Q R S (DueRefusal due) cause reads journal writes =
       verdict-of files (due_answer due) before read_fault journal_fault write_fault cause (due-verdict due)
-  verdict-refused files images before after old new read_fault journal_fault write_fault P Q R S (Other d) cause reads journal writes =
+  verdict-refused files images before after old new read_fault journal_fault write_fault same P Q R S (Other d) cause reads journal writes =
       verdict-other files d before read_fault journal_fault write_fault cause
-  verdict-refused files images before after old new read_fault journal_fault write_fault P Q R S Read cause reads journal writes = record {
+  verdict-refused files images before after old new read_fault journal_fault write_fault same P Q R S Read cause reads journal writes = record {
     due = λ is. absurd (due-not 7 7 (inr is) refl (inr (inr (inl refl))));
     refused = λ _ _. inr (inr refl);
     other = λ is. absurd cc;
     foreign = λ _ _ _ _ _. inr (inr (inl refl));
     complete = λ _ _ no_read _ _. absurd (no_read reads);
   }
-  verdict-refused files images before after old new read_fault journal_fault write_fault P Q R S (Journal kept) cause reads journal writes =
+  verdict-refused files images before after old new read_fault journal_fault write_fault same P Q R S (Journal kept) cause reads journal writes =
       subst (λ (status : ℕ). IsVerdict outcomes files before status read_fault journal_fault write_fault) (sym (journal-status kept)) (record {
         due = λ is. absurd (due-not 8 8 (inr is) refl (inr (inr (inr (inl refl)))));
         refused = λ answer fact. absurd (task-not (OfJob cause.call) answer cause.outcome fact);
         other = λ is. absurd cc;
         foreign = λ _ _ _ _ _. inr (inr (inr refl));
-        complete = λ task there _ _ usable.
-            let same : task ≡ OfJob cause.call = tasks-same task (OfJob cause.call) there cause.outcome in
-            let usable_here : IsUsable files (OfJob cause.call) before journal_fault = subst (λ (t : Task). IsUsable files t before journal_fault) same usable in
-            absurd (usable_here.0 journal);
+        complete = λ task there _ _ usable. absurd (unusable journal task there usable);
       })
-  verdict-refused files images before after old new read_fault journal_fault write_fault P Q R S Write cause reads journal writes = record {
+    where
+      -- of a full journal
+      full-not : (full : IsFullFor outcomes files before after) (task : Task) → outcomes (Ok task) → IsUsable files task before journal_fault → ⊥
+      full-not full task there usable =
+          let is : task ≡ OfJob full.call = tasks-same task (OfJob full.call) there full.outcome in
+          let here : IsUsable files (OfJob full.call) before journal_fault = subst (λ (t : Task). IsUsable files t before journal_fault) is usable in
+          short-not here.image (here.short full.run) (told_value before (λ image. 2 ^ 62 ≤ length image) here.image here.read full.long)
+
+      unusable : journal_fault ⊎ (same × IsFullFor outcomes files before after) → (task : Task) → outcomes (Ok task) → IsUsable files task before journal_fault → ⊥
+      unusable (inl risen) task there usable =
+          let is : task ≡ OfJob cause.call = tasks-same task (OfJob cause.call) there cause.outcome in
+          let here : IsUsable files (OfJob cause.call) before journal_fault = subst (λ (t : Task). IsUsable files t before journal_fault) is usable in
+          here.sound risen
+      unusable (inr full) task there usable = full-not full.1 task there usable
+  verdict-refused files images before after old new read_fault journal_fault write_fault same P Q R S Write cause reads journal writes = record {
     due = λ is. absurd (due-not 9 9 (inr is) refl (inr (inr (inr (inr refl)))));
     refused = λ answer fact. absurd (task-not cause.task answer cause.outcome fact);
     other = λ is. absurd cc;
     foreign = λ call image there is foreign. absurd (opened-not files cause.task call before image cause.outcome there cause.opened is foreign);
     complete = λ _ _ _ no_write _. absurd (no_write writes);
   }
+
+-- where the shelf tells its files
+pub verdict-told : (told : Option Files) (outcomes : Files → Outcomes Task) → ((files : Files) → AreOne (outcomes files)) → (images : List ℕ → Type 0) (before after old new : Option (List ℕ))
+    (read_fault journal_fault write_fault same P Q R S : Type 0) (r : Refusal)
+    → WhereTold told (λ files. IsCauseOf r (outcomes files) files images before after old new) → MatchReadOrJournal r read_fault P Q
+    → MatchJournal r (journal_fault ⊎ (same × WhereTold told (λ files. IsFullFor (outcomes files) files before after))) R → MatchWrite r write_fault S
+    → WhereTold told (λ files. IsVerdict (outcomes files) files before (answer_of r).status read_fault journal_fault write_fault)
+verdict-told None outcomes one images before after old new read_fault journal_fault write_fault same P Q R S r cause reads journal writes = tt
+verdict-told (Some files) outcomes one images before after old new read_fault journal_fault write_fault same P Q R S r cause reads journal writes =
+    verdict-refused (outcomes files) (one files) files images before after old new read_fault journal_fault write_fault same P Q R S r cause reads journal writes
 
 -- ---- what is appended
 
@@ -584,48 +636,61 @@ other-fact Write P Q fact is = absurd cc
 
 -- ---- the journal
 
-honest-extends : (files : Files) (call : Call) (v image : List ℕ) → IsHonest files call v
-    → Extends (IsSums files call.plan) (identity_for files call) (sizes_for call) v image → IsHonest files call image
-honest-extends files call v image honest (inl e) = record { bodies = honest.bodies; reads = e ∙ honest.reads; sums = honest.sums }
-honest-extends files call v image honest (inr g) =
-    let same : honest.bodies ≡ g.old = some_bodies honest.bodies g.old (sym honest.reads ∙ g.before) in
-    let begun : AreFrom (IsSums files call.plan) 0 g.old = subst (λ (l : List (List ℕ)). AreFrom (IsSums files call.plan) 0 l) same honest.sums in
-    let from : length g.old ≡ 0 + length g.old = omega arith in
-    record {
-      bodies = g.old ++ g.more;
-      reads = g.after;
-      sums = AreFrom-append (IsSums files call.plan) 0 g.old g.more begun (subst (λ (n : ℕ). AreFrom (IsSums files call.plan) n g.more) from g.each);
-    }
-
 module _ {D : Type 0} (seen : D → Option (List ℕ)) (moment : D → ℕ) (may_leave : D → ℕ → List ℕ → Type 0) where
   -- a call that continues its job, by what happened to the journal
   goes-call : (outcomes : Outcomes Task) (one : AreOne outcomes) (files : Files) (before after : D) (call : Call) → outcomes (Ok (OfJob call))
       → Goes outcomes files seen moment may_leave before after
-      → Changes seen moment may_leave (Extends (IsSums files call.plan) (identity_for files call) (sizes_for call)) before after
+      → Changes seen moment may_leave (Extends (IsSummedFor files call) (identity_for files call) (sizes_for call)) before after
   goes-call outcomes one files before after call there (inl looks) =
-      changes_looks seen moment may_leave (Extends (IsSums files call.plan) (identity_for files call) (sizes_for call)) (Extends-stays _ _ _) before after looks
+      changes_looks seen moment may_leave (Extends (IsSummedFor files call) (identity_for files call) (sizes_for call))
+      (λ v. inl (λ kept. (λ keeps. keeps, λ keeps. keeps))) before after looks
   goes-call outcomes one files before after call there (inr running) =
-      subst (λ (c : Call). Changes seen moment may_leave (Extends (IsSums files c.plan) (identity_for files c) (sizes_for c)) before after)
+      subst (λ (c : Call). Changes seen moment may_leave (Extends (IsSummedFor files c) (identity_for files c) (sizes_for c)) before after)
       (calls-same outcomes one running.call call running.outcome there) running.changes
 
-  pub stays-honest : (outcomes : Outcomes Task) (one : AreOne outcomes) (files : Files) (before after : D) (status : ℕ)
-      → Goes outcomes files seen moment may_leave before after
-      → ((call : Call) → outcomes (Ok (OfJob call)) → call.sums ≡ true → status ≡ 0 → (image : List ℕ) → may_leave after (moment after) image → kept_for files call image ≡ epochs_for call)
+  -- where each step keeps what is honest and loses no epoch
+  stays-by : (files : Files) (call : Call) (status : ℕ) (step : List ℕ → List ℕ → Type 0) (before after : D) → Runs moment may_leave step before after
+      → ((v image : List ℕ) → IsHonest files call v → step v image → IsHonest files call image)
+      → ((v image : List ℕ) (n : ℕ) → KeepsAtLeast files call v n → step v image → KeepsAtLeast files call image n)
+      → ((image : List ℕ) → may_leave before (moment before) image → IsHonest files call image)
+      → (status ≡ 0 → (image : List ℕ) → may_leave after (moment after) image → KeepsAll files call image)
+      → StaysHonest files call status moment may_leave before after
+  stays-by files call status step before after runs honest least begun all = record {
+    later = runs.later;
+    past = runs.past;
+    honest = always moment may_leave (IsHonest files call) step before after runs begun honest;
+    never_falls = none_lost files call moment may_leave step before after least runs;
+    all = all;
+  }
+
+  stays-honest : (outcomes : Outcomes Task) (one : AreOne outcomes) (files : Files) (before after : D) (status : ℕ)
+      → Goes outcomes files seen moment may_leave before after → GoesRanged outcomes seen moment may_leave before after
+      → ((call : Call) → outcomes (Ok (OfJob call)) → call.sums ≡ true → status ≡ 0 → (image : List ℕ) → may_leave after (moment after) image → KeepsAll files call image)
       → Restarts outcomes files status moment may_leave before after
-  stays-honest outcomes one files before after status goes all call there continues =
+  stays-honest outcomes one files before after status goes (inl looks) all call there continues =
+      stays-by files call status Same before after looks.runs
+      (λ v image honest same. subst (IsHonest files call) (sym same) honest)
+      (λ v image n least same. subst (λ (w : List ℕ). KeepsAtLeast files call w n) (sym same) least)
+      continues.honest (all call there continues.run)
+  stays-honest outcomes one files before after status goes (inr ranged) all call there continues =
+      let same : ranged.call ≡ call = calls-same outcomes one ranged.call call ranged.outcome there in
+      let ranges : IsPlan call.plan = subst (λ (c : Call). IsPlan c.plan) same ranged.ranges in
+      let few : length call.plan.scans ≤ 8388608 = subst (λ (c : Call). length c.plan.scans ≤ 8388608) same ranged.few in
       let changes = goes-call outcomes one files before after call there goes in
-      record {
-        later = changes.runs.later;
-        past = changes.runs.past;
-        honest = always moment may_leave (IsHonest files call) (Extends (IsSums files call.plan) (identity_for files call) (sizes_for call)) before after changes.runs continues.honest
-            (λ v image honest step. honest-extends files call v image honest step);
-        never_falls = never_falls moment may_leave (kept_for files call) (Extends (IsSums files call.plan) (identity_for files call) (sizes_for call)) before after
-            (λ v image step. Extends-counts _ _ _ v image step) changes.runs;
-        all = λ done. all call there continues.run done;
-      }
+      stays-by files call status (Extends (IsSummedFor files call) (identity_for files call) (sizes_for call)) before after changes.runs
+      (honest-extends files call ranges few) (least-extends files call ranges few) continues.honest (all call there continues.run)
+
+  -- where the shelf tells its files
+  pub restarts-told : (told : Option Files) (outcomes : Files → Outcomes Task) → ((files : Files) → AreOne (outcomes files)) → (before after : D) (status : ℕ)
+      → WhereTold told (λ files. Goes (outcomes files) files seen moment may_leave before after)
+      → WhereTold told (λ files. GoesRanged (outcomes files) seen moment may_leave before after)
+      → WhereTold told (λ files. (call : Call) → outcomes files (Ok (OfJob call)) → call.sums ≡ true → status ≡ 0 → (image : List ℕ) → may_leave after (moment after) image → KeepsAll files call image)
+      → WhereTold told (λ files. Restarts (outcomes files) files status moment may_leave before after)
+  restarts-told None outcomes one before after status goes ranged all = tt
+  restarts-told (Some files) outcomes one before after status goes ranged all = stays-honest (outcomes files) (one files) files before after status goes ranged all
 
   pub all-done : (outcomes : Outcomes Task) (one : AreOne outcomes) (files : Files) (before after : D) (old new : Option (List ℕ)) → IsDone outcomes files seen moment may_leave before after old new
-      → (call : Call) → outcomes (Ok (OfJob call)) → call.sums ≡ true → ◌≡◌ {A = ℕ} 0 0 → (image : List ℕ) → may_leave after (moment after) image → kept_for files call image ≡ epochs_for call
+      → (call : Call) → outcomes (Ok (OfJob call)) → call.sums ≡ true → ◌≡◌ {A = ℕ} 0 0 → (image : List ℕ) → may_leave after (moment after) image → KeepsAll files call image
   all-done outcomes one files before after old new done call there run zero image now =
       done.all call (tasks-same outcomes one done.task (OfJob call) done.outcome there) run image now
 

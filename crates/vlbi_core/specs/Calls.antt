@@ -1,13 +1,17 @@
 -- What words and files come to: a command with the plan of its job, the text that a command appends, or the answer of the first
 -- thing that is wrong.
-use Rattle.std.specs.Prelude.{◌≡◌, ℕ, Bool, true, false, List, map, Option, Result, Ok, Err, String, string_bytes}
+use Rattle.std.specs.Prelude.{◌≡◌, ℕ, Bool, true, false, ◌≤◌, List, length, map, unwrap_or, Option, None, Result, Ok, Err, String, string_bytes}
 use Rattle.std.specs.declared.alloc.Global.{Global}
 use Rattle.corr_model.specs.Files.{Files}
 use Rattle.job_plan.specs.declared.plan.Plan.{Plan}
 use Rattle.job_plan.specs.Output.{output}
 use Rattle.job_epochs.specs.Sizes.{sizes_of}
 use Rattle.vis_records.specs.Dumped.{dump_text}
-use Rattle.checkpoint_journal.specs.Image.{body_sizes, reading, kept_in}
+use Rattle.piece_plan.specs.Epochs.{JobSizes}
+use Rattle.piece_plan.specs.Order.{CoverJob}
+use Rattle.journal_image.specs.Image.{KeptEpoch, Keeps}
+use Rattle.checkpoint_journal.specs.Kept.{KeepsMany}
+use Rattle.checkpoint_journal.specs.Runs.{IsOurs}
 use Rattle.run_words.specs.declared.fault.WordsFault.{WordsFault}
 use Rattle.run_words.specs.declared.order.Order.{Order}
 use Rattle.run_words.specs.declared.order.Order.TheVariants.{Run, Plain, Check, Status, Dump, Gen, Fringe, Verify, Bins}
@@ -36,18 +40,20 @@ order_in texts = order_of texts
 
 -- an order of `run`, which sums into the journal
 abbrev pub is_run : Order → Bool
-is_run (Run job vex workers piece) = true
+is_run (Run job vex epoch workers piece) = true
 is_run _ = false
 
--- A call on a job and its journal: whether it sums what the journal lacks, the names of the job's text and of the schedule's, and the plan.
+-- A call on a job and its journal: whether it sums what the journal lacks, the names of the job's text and of the schedule's, the samples of
+-- an epoch that are asked for, and the plan.
 pub record Call : Type 0 where
   pub sums : Bool
   pub job : List ℕ
   pub vex : Option (List ℕ)
+  pub epoch : Option ℕ
   pub plan : Plan
 
-abbrev pub call_of : Bool → List ℕ → Option (List ℕ) → Plan → Call
-call_of sums job vex plan = record { sums = sums; job = job; vex = vex; plan = plan }
+abbrev pub call_of : Bool → List ℕ → Option (List ℕ) → Option ℕ → Plan → Call
+call_of sums job vex epoch plan = record { sums = sums; job = job; vex = vex; epoch = epoch; plan = plan }
 
 -- What a call works on: a job and its journal, or the text that a command appends which leaves the journal alone.
 pub data Task : Type 0 where
@@ -55,10 +61,10 @@ pub data Task : Type 0 where
   OfText : List ℕ → Task
 
 -- the task of a command on a job and its journal, by the plans that its files come to
-abbrev pub JobFor : Bool → List ℕ → Option (List ℕ) → Outcomes Plan → Outcomes Task
-JobFor sums job vex plans (Ok (OfJob call)) = (call ≡ call_of sums job vex call.plan) × plans (Ok call.plan)
-JobFor sums job vex plans (Ok (OfText text)) = ⊥
-JobFor sums job vex plans (Err answer) = plans (Err answer)
+abbrev pub JobFor : Bool → List ℕ → Option (List ℕ) → Option ℕ → Outcomes Plan → Outcomes Task
+JobFor sums job vex epoch plans (Ok (OfJob call)) = (call ≡ call_of sums job vex epoch call.plan) × plans (Ok call.plan)
+JobFor sums job vex epoch plans (Ok (OfText text)) = ⊥
+JobFor sums job vex epoch plans (Err answer) = plans (Err answer)
 
 -- the task of a command that appends a text, by what its files come to
 abbrev pub TextFor : {A : Type 0} → Outcomes A → (A → List ℕ) → Outcomes Task
@@ -68,10 +74,10 @@ TextFor {A} outcomes text (Err answer) = outcomes (Err answer)
 
 -- The task of an order. `status` looks at the lengths of the recordings alone, and `gen` has its own job and recordings.
 abbrev pub TaskFor : Files → Order → Outcomes Task
-TaskFor files (Run job vex workers piece) = JobFor true job vex (PlanOf files job vex)
-TaskFor files (Status job vex) = JobFor false job vex (SurveyOf files job vex)
-TaskFor files (Plain job vex) = TextFor (PlanOf files job vex) (λ plan. output plan files)
-TaskFor files (Check job vex) = TextFor (PlanOf files job vex) (λ plan. check_text plan files)
+TaskFor files (Run job vex epoch workers piece) = JobFor true job vex epoch (PlanOf files job vex epoch)
+TaskFor files (Status job vex epoch) = JobFor false job vex epoch (SurveyOf files job vex epoch)
+TaskFor files (Plain job vex) = TextFor (PlanOf files job vex None) (λ plan. output plan files)
+TaskFor files (Check job vex epoch) = TextFor (PlanOf files job vex epoch) (λ plan. check_text plan (unwrap_or epoch plan.epoch) files)
 TaskFor files (Dump file) = TextFor (RecordsOf files file) dump_text
 TaskFor files (Gen seed seconds workers piece) = TextFor (SampleOf seed seconds) (sample_text seed seconds)
 TaskFor files (Fringe file rates divide) = TextFor (FringeOf files file rates divide) lines_text
@@ -82,17 +88,36 @@ TaskFor files (Bins job vex phase workers piece) = TextFor (BinsOf files job vex
 abbrev pub OutcomeOf : List (List ℕ) → Files → Outcomes Task
 OutcomeOf texts files = Then (Is (answered words_answer (order_in texts))) (TaskFor files)
 
--- the identity of a call's job, and the sizes of its bodies
+-- the identity of a call's job, what the job is cut by, and the samples of an epoch in force
 abbrev pub identity_for : Files → Call → List ℕ
 identity_for files call = identity_under files call.job call.vex call.plan
 
-abbrev pub sizes_for : Call → List ℕ
-sizes_for call = body_sizes (sizes_of call.plan)
+abbrev pub sizes_for : Call → JobSizes
+sizes_for call = sizes_of call.plan
 
--- the bodies that an image of the journal keeps for a call; none where it is neither blank nor of the job's form
-abbrev pub bodies_for : Files → Call → List ℕ → Option (List (List ℕ))
-bodies_for files call image = reading (identity_for files call) (sizes_for call) image
+abbrev pub epoch_for : Call → ℕ
+epoch_for call = unwrap_or call.epoch call.plan.epoch
 
--- how many epochs it keeps
-abbrev pub kept_for : Files → Call → List ℕ → ℕ
-kept_for files call image = kept_in (identity_for files call) (sizes_for call) image
+-- the epochs that an image of the journal keeps for a call
+abbrev pub KeepsFor : Files → Call → List ℕ → List KeptEpoch → Type 0
+KeepsFor files call image kept = Keeps (identity_for files call) (sizes_for call) image kept
+
+-- an image that is blank or of the job's form, so that it keeps epochs
+abbrev pub IsOursFor : Files → Call → List ℕ → Type 0
+IsOursFor files call image = IsOurs (identity_for files call) (sizes_for call) image
+
+-- an image that keeps so many epochs, in all
+abbrev pub KeepsManyFor : Files → Call → List ℕ → ℕ → Type 0
+KeepsManyFor files call image n = KeepsMany (identity_for files call) (sizes_for call) image n
+
+-- an image that keeps so many at least
+pub record KeepsAtLeast (files : Files) (call : Call) (image : List ℕ) (n : ℕ) : Type 0 where
+  pub kept : List KeptEpoch
+  pub keeps : KeepsFor files call image kept
+  pub many : n ≤ length kept
+
+-- an image that keeps epochs which cover the job
+pub record KeepsAll (files : Files) (call : Call) (image : List ℕ) : Type 0 where
+  pub kept : List KeptEpoch
+  pub keeps : KeepsFor files call image kept
+  pub all : CoverJob (sizes_for call) (map (λ (k : KeptEpoch). k.epoch) kept)

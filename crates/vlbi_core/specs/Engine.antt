@@ -6,13 +6,14 @@ use Rattle.station_stream.specs.declared.fault.StreamFault.{StreamFault}
 use Rattle.station_stream.specs.declared.fault.StreamFault.TheVariants.{Read as StreamRead, Memory as StreamMemory}
 use Rattle.checkpoint_journal.specs.declared.fault.OpenFault.{OpenFault}
 use Rattle.checkpoint_journal.specs.declared.fault.OpenFault.TheVariants.{Disk as OpenDisk, Other as OpenOther, Memory as OpenMemory}
-use Rattle.checkpoint_journal.specs.Finding.{IsOther}
-use Rattle.checkpoint_journal.specs.Image.{kept_in}
-use Rattle.run_journal.specs.declared.fault.ResumeFault.{ResumeFault}
-use Rattle.run_journal.specs.declared.fault.ResumeFault.TheVariants.{Memory as ResumeMemory, Other as ResumeOther, Read as ResumeRead, Journal as ResumeJournal}
-use Rattle.run_journal.specs.Refused.{IsOurs, IsJournalFault}
-use Rattle.run_records.specs.declared.fault.EmitFault.{EmitFault}
-use Rattle.run_records.specs.declared.fault.EmitFault.TheVariants.{Memory as EmitMemory, Journal as EmitJournal, Write as EmitWrite}
+use Rattle.checkpoint_journal.specs.Kept.{KeepsMany}
+use Rattle.checkpoint_journal.specs.Runs.{IsOurs}
+use Rattle.piece_plan.specs.Epochs.{JobSizes}
+use Rattle.journal_rounds.specs.declared.fault.ResumeFault.{ResumeFault}
+use Rattle.journal_rounds.specs.declared.fault.ResumeFault.TheVariants.{Memory as ResumeMemory, Other as ResumeOther, Read as ResumeRead, Journal as ResumeJournal}
+use Rattle.journal_rounds.specs.Refused.{IsLeftOther, IsJournalFault}
+use Rattle.journal_records.specs.declared.fault.EmitFault.{EmitFault}
+use Rattle.journal_records.specs.declared.fault.EmitFault.TheVariants.{Memory as EmitMemory, Journal as EmitJournal, Write as EmitWrite}
 use Rattle.run_words.specs.declared.order.Order.{Order}
 use Rattle.run_words.specs.declared.order.Order.TheVariants.{Run, Plain, Check, Status}
 use Rattle.run_notes.specs.declared.refusal.Refusal.{Refusal}
@@ -20,11 +21,18 @@ use Rattle.run_notes.specs.declared.refusal.Refusal.TheVariants.{Memory, Words, 
 
 -- the names of the job's text and of the schedule's, where an order is for a job
 abbrev pub job_names : Order → Option (List ℕ × Option (List ℕ))
-job_names (Run job vex workers piece) = Some (job, vex)
+job_names (Run job vex epoch workers piece) = Some (job, vex)
 job_names (Plain job vex) = Some (job, vex)
-job_names (Check job vex) = Some (job, vex)
-job_names (Status job vex) = Some (job, vex)
+job_names (Check job vex epoch) = Some (job, vex)
+job_names (Status job vex epoch) = Some (job, vex)
 job_names _ = None
+
+-- the samples of an epoch that an order asks for
+abbrev pub epoch_asked : Order → Option ℕ
+epoch_asked (Run job vex epoch workers piece) = epoch
+epoch_asked (Check job vex epoch) = epoch
+epoch_asked (Status job vex epoch) = epoch
+epoch_asked _ = None
 
 -- an epoch that is not summed
 abbrev pub sums_refusal : StreamFault → Refusal
@@ -74,20 +82,19 @@ emit_answer (Err fault) = Err (emit_refusal fault)
 
 -- What a read of the journal gave and gives, where it is not brought to the end. A journal of another job is refused as such and
 -- left as it is, and a read fault comes only once the journal is found to be this job's.
-abbrev pub IsRefusedFor : List ℕ → List ℕ → Option (List ℕ) → Option (List ℕ) → Refusal → Type 0
-IsRefusedFor id sizes old new Memory = ⊤
-IsRefusedFor id sizes old new (Words fault) = ⊥
-IsRefusedFor id sizes old new (DueRefusal due) = ⊥
-IsRefusedFor id sizes old new (Other d) = WhereTold old (λ image. IsOther id sizes image d) × (new ≡ old)
-IsRefusedFor id sizes old new Read = WhereTold old (IsOurs id sizes)
-IsRefusedFor id sizes old new (Journal kept) = IsJournalFault id sizes old new kept
-IsRefusedFor id sizes old new Write = ⊥
+abbrev pub IsRefusedFor : List ℕ → JobSizes → Option (List ℕ) → Option (List ℕ) → Refusal → Type 0
+IsRefusedFor id job old new Memory = ⊤
+IsRefusedFor id job old new (Words fault) = ⊥
+IsRefusedFor id job old new (DueRefusal due) = ⊥
+IsRefusedFor id job old new (Other d) = IsLeftOther id job old new d
+IsRefusedFor id job old new Read = WhereTold old (IsOurs id job)
+IsRefusedFor id job old new (Journal kept) = IsJournalFault id job old new kept
+IsRefusedFor id job old new Write = ⊥
 
 -- Where a fault names k epochs as kept, each image keeps k or k + 1.
-abbrev pub KeepsNamed : List ℕ → List ℕ → (List ℕ → Type 0) → Refusal → Type 0
-KeepsNamed id sizes images (Journal (Some k)) =
-    (image : List ℕ) → images image → (kept_in id sizes image ≡ k) ⊎ (kept_in id sizes image ≡ k + 1)
-KeepsNamed id sizes images _ = ⊤
+abbrev pub KeepsNamed : List ℕ → JobSizes → (List ℕ → Type 0) → Refusal → Type 0
+KeepsNamed id job images (Journal (Some k)) = (image : List ℕ) → images image → KeepsMany id job image k ⊎ KeepsMany id job image (k + 1)
+KeepsNamed id job images _ = ⊤
 
 -- Want of memory, before anything is appended; a fault of the journal, which names the epochs that it keeps; a write fault.
 abbrev pub IsOfRecords : ℕ → Option (List ℕ) → Option (List ℕ) → Refusal → Type 0

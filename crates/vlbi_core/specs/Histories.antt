@@ -1,20 +1,19 @@
 -- Calls of `run` one after another, each of which ends in its answer or in a crash.
 use Rattle.std.specs.Prelude.{◌≡◌, ◌⊎◌, ⊤, ℕ, ◌<◌, ◌≤◌, true, List, [], ◌∷◌, slice_get, Option, Some, is_some, Ok}
-use Rattle.dev_traits.specs.Moments.{AtLeast}
 use Rattle.dev_traits.specs.Told.{more, WhereTold}
 use Rattle.corr_model.specs.Files.{Files}
 use Rattle.job_plan.specs.Output.{output}
-use Rattle.checkpoint_journal.specs.Image.{is_blank}
-use Rattle.vlbi_core.specs.Calls.{Call, OfJob, OutcomeOf, kept_for}
-use Rattle.vlbi_core.specs.Texts.{epochs_for}
-use Rattle.vlbi_core.specs.Restart.{IsHonest, Restarts, AppendsOutput}
+use Rattle.journal_image.specs.Image.{is_blank, KeptEpoch}
+use Rattle.vlbi_core.specs.Calls.{Call, OfJob, OutcomeOf, KeepsFor, KeepsAll}
+use Rattle.vlbi_core.specs.Restart.{IsHonest, AllKeep, Restarts, AppendsOutput}
 
 -- These words come to this call of `run`.
 pub record IsRunBy (files : Files) (words : List (List ℕ)) (call : Call) : Type 0 where
   pub outcome : OutcomeOf words files (Ok (OfJob call))
   pub run : call.sums ≡ true
 
--- Calls for one job: they name one job text and one schedule, or none. The workers, the piece and the order of the options may differ.
+-- Calls for one job: they name one job text and one schedule, or none. The samples of an epoch, the workers, the piece and the order of
+-- the options may differ.
 abbrev pub IsSameJob : Call → Call → Type 0
 IsSameJob a b = (a.job ≡ b.job) × (a.vex ≡ b.vex)
 
@@ -75,17 +74,17 @@ module _ {D : Type 0} (seen : D → Option (List ℕ)) (moment : D → ℕ) (may
 
   -- What holds over a history: each image of each moment of each call is honest; what every image of a moment keeps, every image of
   -- every later moment keeps, across crashes; and a call with status 0 has appended exactly the record file of the direct sums, and
-  -- leaves all epochs in each image.
+  -- leaves epochs that cover the job in each image.
   pub record Holds (files : Files) (job : Call) (steps : List (Step D)) : Type 0 where
     pub honest : (i : ℕ) (step : Step D) → slice_get steps i ≡ Some step
         → (t : ℕ) (image : List ℕ) → moment step.old ≤ t → t ≤ moment step.new → may_leave step.new t image → IsHonest files job image
     pub kept : (i j : ℕ) (a b : Step D) → slice_get steps i ≡ Some a → slice_get steps j ≡ Some b
         → (t t' n : ℕ) → moment a.old ≤ t → t ≤ moment a.new → moment b.old ≤ t' → t' ≤ moment b.new → IsLater i a t j t'
-        → AtLeast (kept_for files job) (may_leave a.new t) n → AtLeast (kept_for files job) (may_leave b.new t') n
+        → AllKeep files job (may_leave a.new t) n → AllKeep files job (may_leave b.new t') n
     pub output : (i : ℕ) (step : Step D) → slice_get steps i ≡ Some step → step.status ≡ 0
         → step.told_new ≡ more step.told_old (output job.plan files)
     pub all : (i : ℕ) (step : Step D) → slice_get steps i ≡ Some step → step.status ≡ 0
-        → (image : List ℕ) → may_leave step.new (moment step.new) image → kept_for files job image ≡ epochs_for job
+        → (image : List ℕ) → may_leave step.new (moment step.new) image → KeepsAll files job image
 
   -- Over any history of a job that begins on a journal each image of which is blank or honest.
   abbrev pub HoldsOver : Type 0
@@ -94,10 +93,10 @@ module _ {D : Type 0} (seen : D → Option (List ℕ)) (moment : D → ℕ) (may
       → (first : Step D) → ((image : List ℕ) → may_leave first.old (moment first.old) image → (is_blank image ≡ true) ⊎ IsHonest files job image)
       → (later : List (Step D)) → IsHistory files job (may_leave first.old (moment first.old)) (first ∷ later) → Holds files job (first ∷ later)
 
--- Honesty, what is kept and the records do not depend on the workers, the piece or the order of the options.
+-- Honesty, what is kept and the records do not depend on the samples of an epoch, the workers, the piece or the order of the options.
 pub record AreAlike (files : Files) (a b : Call) : Type 0 where
   pub honest : (image : List ℕ) → IsHonest files a image → IsHonest files b image
-  pub kept : (image : List ℕ) → kept_for files a image ≡ kept_for files b image
+  pub kept : (image : List ℕ) (kept : List KeptEpoch) → KeepsFor files a image kept → KeepsFor files b image kept
   pub plan : a.plan ≡ b.plan
 
 abbrev pub AlikeByJob : Type 0

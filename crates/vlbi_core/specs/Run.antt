@@ -1,15 +1,16 @@
 -- What the status, the output and the note of a call say.
-use Rattle.std.specs.Prelude.{◌≡◌, ◌⊎◌, ⊤, ℕ, true, List, [], Option, Some, None, IsSome, Result, Ok, Err}
+use Rattle.std.specs.Prelude.{◌≡◌, ◌⊎◌, ⊤, ℕ, ◌<◌, ◌^◌, true, false, List, [], length, Option, Some, None, Result, Ok, Err}
 use Rattle.dev_traits.specs.Told.{more, PrefixMore, WhereTold}
 use Rattle.corr_model.specs.Files.{Files}
-use Rattle.checkpoint_journal.specs.declared.fault.Differs.{Differs}
+use Rattle.journal_image.specs.declared.difference.Differs.{Differs}
+use Rattle.journal_image.specs.Image.{is_blank, Reading, Reads}
 use Rattle.checkpoint_journal.specs.Finding.{IsOther}
 use Rattle.run_notes.specs.declared.refusal.Refusal.{Refusal}
 use Rattle.run_words.specs.declared.fault.WordsFault.{WordsFault}
 use Rattle.run_words.specs.declared.order.Order.{Order}
 use Rattle.run_notes.specs.Answers.{Answer, words_answer, memory_answer, read_answer, journal_answer, write_answer, other_answer}
 use Rattle.run_notes.specs.Refusals.{Outcomes, answer_of}
-use Rattle.vlbi_core.specs.Calls.{Call, Task, OfJob, OfText, identity_for, sizes_for, bodies_for}
+use Rattle.vlbi_core.specs.Calls.{Call, Task, OfJob, OfText, identity_for, sizes_for, IsOursFor}
 use Rattle.vlbi_core.specs.Texts.{IsText, IsPart}
 use Rattle.vlbi_core.specs.Restart.{SaysKept, IsNoRun}
 use Rattle.vlbi_core.specs.Steps.{OutcomeFrom}
@@ -26,15 +27,24 @@ IsDueStatus status = (status ≡ 10) ⊎ IsVerdictStatus status
 abbrev pub IsStatus : ℕ → Type 0
 IsStatus status = (status ≡ 0) ⊎ ((status ≡ 1) ⊎ ((status ≡ 7) ⊎ ((status ≡ 8) ⊎ ((status ≡ 9) ⊎ IsDueStatus status))))
 
--- a journal that a task can go on from, where it is on one: its count of faults did not rise, and what a read gives is blank or of
--- the job's form
+-- A journal that a call can go on from: its count of faults did not rise, what a read gives is blank or of the job's form, and for a call of
+-- `run` it has fewer than 2^62 bytes, so that it has room for the rest of the job.
+pub record IsUsableJournal (files : Files) (call : Call) (journal : Option (List ℕ)) (fault : Type 0) : Type 0 where
+  pub sound : ¬ fault
+  pub image : List ℕ
+  pub read : journal ≡ Some image
+  pub ours : IsOursFor files call image
+  pub short : call.sums ≡ true → length image < 2 ^ 62
+
+-- so it is, where a task is on a journal
 abbrev pub IsUsable : Files → Task → Option (List ℕ) → Type 0 → Type 0
 IsUsable files (OfText text) journal fault = ⊤
-IsUsable files (OfJob call) journal fault = (¬ fault) × ((image : List ℕ) × (journal ≡ Some image) × IsSome (bodies_for files call image))
+IsUsable files (OfJob call) journal fault = IsUsableJournal files call journal fault
 
 -- a journal that is neither blank nor of the job's form
-abbrev pub IsForeign : Files → Call → List ℕ → Type 0
-IsForeign files call image = bodies_for files call image ≡ None
+pub record IsForeign (files : Files) (call : Call) (image : List ℕ) : Type 0 where
+  pub begun : is_blank image ≡ false
+  pub unread : (r : Reading) → ¬ Reads (identity_for files call) (sizes_for call) image r
 
 -- What the status says of what words and files come to, and of what the journal's disk reads on entry. A status of what is wrong
 -- is that of the answer; where an answer refuses, want of memory and a read fault may come before it; status 10 comes of another

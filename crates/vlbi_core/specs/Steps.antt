@@ -1,24 +1,26 @@
 -- A call before its status: what it did where it is done, and what it was refused for.
-use Rattle.std.specs.Prelude.{◌≡◌, ◌⊎◌, ⊤, ℕ, ◌+◌, ◌≤◌, ◌<◌, ◌^◌, true, false, List, length, Option, None, Some, IsSome, Result, Ok, Err, IsOk, OnOk, IfErr}
-use Rattle.dev_traits.specs.Told.{more, PrefixMore, WhereTold}
+use Rattle.std.specs.Prelude.{◌≡◌, ◌⊎◌, ⊤, ℕ, ◌+◌, ◌≤◌, ◌<◌, ◌^◌, true, false, List, length, Option, None, Some, Result, Ok, Err, IsOk, OnOk, IfErr, MatchResult}
+use Rattle.dev_traits.specs.Fault.{HasRisen}
+use Rattle.dev_traits.specs.Told.{more, WhereTold}
 use Rattle.corr_model.specs.Files.{Files}
 use Rattle.job_plan.specs.declared.plan.Plan.{Plan}
 use Rattle.job_plan.specs.Ranges.{IsPlan}
 use Rattle.job_plan.specs.Output.{output}
-use Rattle.checkpoint_journal.specs.declared.fault.Differs.{Differs}
+use Rattle.journal_image.specs.declared.difference.Differs.{Differs}
+use Rattle.piece_plan.specs.Epochs.{JobSizes}
 use Rattle.checkpoint_journal.specs.Finding.{IsOther}
-use Rattle.checkpoint_journal.specs.Runs.{Looks, Changes, StepTold, KeepsBodies}
+use Rattle.checkpoint_journal.specs.Runs.{Looks, Changes, StepTold, KeepsEpochs}
 use Rattle.run_words.specs.declared.fault.WordsFault.{WordsFault}
 use Rattle.run_words.specs.declared.order.Order.{Order}
-use Rattle.run_words.specs.declared.order.Order.TheVariants.{Run}
 use Rattle.run_notes.specs.declared.refusal.Refusal.{Refusal}
 use Rattle.run_notes.specs.declared.refusal.Refusal.TheVariants.{Memory, Words, Due as DueRefusal, Other, Read, Journal, Write}
 use Rattle.run_notes.specs.Answers.{words_answer}
-use Rattle.run_notes.specs.Refusals.{Outcomes, IsCause, due_answer}
+use Rattle.run_notes.specs.Refusals.{Outcomes, MatchJournal, due_answer}
 use Rattle.run_ready.specs.Steps.{Is, Then, answered}
-use Rattle.run_journal.specs.Extended.{Extends}
-use Rattle.vlbi_core.specs.Calls.{Call, Task, OfJob, OfText, TaskFor, identity_for, sizes_for, bodies_for, kept_for}
-use Rattle.vlbi_core.specs.Texts.{IsSums, IsText, IsPart, epochs_for}
+use Rattle.journal_rounds.specs.Counted.{IsFull}
+use Rattle.journal_rounds.specs.Extended.{Extends}
+use Rattle.vlbi_core.specs.Calls.{Call, Task, OfJob, OfText, TaskFor, identity_for, sizes_for, IsOursFor, KeepsManyFor, KeepsAll}
+use Rattle.vlbi_core.specs.Texts.{IsSummedFor, IsText, IsPart}
 use Rattle.vlbi_core.specs.Restart.{IsHonest, IsRunOf, IsNoRun}
 
 -- what words and files come to, by the order that the words give
@@ -66,6 +68,12 @@ abbrev pub IsShort : Refusal → Type 0
 IsShort (Journal kept) = (k : ℕ) → kept ≡ Some k → k < 2 ^ 64
 IsShort _ = ⊤
 
+-- A fault of the journal comes only where the disk's count rose, or it stays and the journal is full; and with any other answer it stays.
+abbrev pub CountsJournalOr : {T : Type 0} → Type 0 → ℕ → ℕ → Result T Refusal → Type 0
+CountsJournalOr full before now result =
+    MatchResult result (λ _. now ≡ before)
+    (λ r. MatchJournal r (HasRisen before now ⊎ ((now ≡ before) × full)) (now ≡ before))
+
 -- ---- commands whose refusals are few
 
 -- What a call over devices in memory may be refused for, where no verdict is due and no read fails: want of memory, and a fault of
@@ -99,18 +107,18 @@ IsOfOutput (Journal kept) = ⊥
 IsOfOutput _ = ⊤
 
 -- what a look at the journal may be refused for: want of memory, another job's journal, and a fault that names no epochs
-abbrev pub IsLookedFor : List ℕ → List ℕ → Option (List ℕ) → Refusal → Type 0
-IsLookedFor id sizes before Memory = ⊤
-IsLookedFor id sizes before (Other d) = WhereTold before (λ image. IsOther id sizes image d)
-IsLookedFor id sizes before (Journal None) = ⊤
-IsLookedFor id sizes before _ = ⊥
+abbrev pub IsLookedFor : List ℕ → JobSizes → Option (List ℕ) → Refusal → Type 0
+IsLookedFor id job before Memory = ⊤
+IsLookedFor id job before (Other d) = WhereTold before (λ image. IsOther id job image d)
+IsLookedFor id job before (Journal None) = ⊤
+IsLookedFor id job before _ = ⊥
 
 -- ---- causes
 
 -- The journal that a call on a job went on from: what a read gave is blank or of the job's form.
 abbrev pub IsOpened : Files → Task → Option (List ℕ) → Type 0
 IsOpened files (OfText text) before = ⊤
-IsOpened files (OfJob call) before = WhereTold before (λ image. IsSome (bodies_for files call image))
+IsOpened files (OfJob call) before = WhereTold before (IsOursFor files call)
 
 -- another job's journal
 pub record IsOtherCause (outcomes : Outcomes Task) (files : Files) (before : Option (List ℕ)) (d : Differs) : Type 0 where
@@ -122,15 +130,24 @@ pub record IsOtherCause (outcomes : Outcomes Task) (files : Files) (before : Opt
 -- and all that was kept is kept.
 abbrev pub SaysFor : Option ℕ → Files → Call → (List ℕ → Type 0) → Option (List ℕ) → Option (List ℕ) → Option (List ℕ) → Option (List ℕ) → Type 0
 SaysFor (Some k) files call images before after old new =
-    (image : List ℕ) → images image → (kept_for files call image ≡ k) ⊎ (kept_for files call image ≡ k + 1)
+    (image : List ℕ) → images image → KeepsManyFor files call image k ⊎ KeepsManyFor files call image (k + 1)
 SaysFor None files call images before after old new =
-    (new ≡ old) × StepTold (KeepsBodies (identity_for files call) (sizes_for call)) before after
+    (new ≡ old) × StepTold (KeepsEpochs (identity_for files call) (sizes_for call)) before after
 
 pub record IsJournalCause (outcomes : Outcomes Task) (files : Files) (images : List ℕ → Type 0) (before after old new : Option (List ℕ)) (kept : Option ℕ) : Type 0 where
   pub call : Call
   pub outcome : outcomes (Ok (OfJob call))
   pub says : call.sums ≡ true → SaysFor kept files call images before after old new
   pub unnamed : call.sums ≡ false → kept ≡ None
+
+-- The journal of a call of `run` is full: no byte is left behind its last gate for the next record or mark. It was read, and had 2^62 bytes
+-- or more on entry.
+pub record IsFullFor (outcomes : Outcomes Task) (files : Files) (before after : Option (List ℕ)) : Type 0 where
+  pub call : Call
+  pub outcome : outcomes (Ok (OfJob call))
+  pub run : call.sums ≡ true
+  pub full : WhereTold after (IsFull (identity_for files call) (sizes_for call))
+  pub long : WhereTold before (λ image. 2 ^ 62 ≤ length image)
 
 -- a fault of the output comes behind the opening of the journal
 pub record IsWriteCause (outcomes : Outcomes Task) (files : Files) (before : Option (List ℕ)) : Type 0 where
@@ -161,8 +178,8 @@ IsPartly Read outcomes files before after old new = (new ≡ old) ⊎ IsPart out
 IsPartly (Journal kept) outcomes files before after old new = (new ≡ old) ⊎ IsPart outcomes files before after old new
 IsPartly Write outcomes files before after old new = IsPart outcomes files before after old new
 
--- A call is done: its text was appended, and behind a call of `run` each image keeps all epochs, and the text is that of the
--- direct sums where the image on entry was honest.
+-- A call is done: its text was appended, and behind a call of `run` each image keeps epochs that cover the job, and the text is that of
+-- the direct sums where the image on entry was honest.
 pub record IsDone {D : Type 0} (outcomes : Outcomes Task) (files : Files) (seen : D → Option (List ℕ)) (moment : D → ℕ) (may_leave : D → ℕ → List ℕ → Type 0)
     (before after : D) (old new : Option (List ℕ)) : Type 0 where
   pub task : Task
@@ -171,23 +188,34 @@ pub record IsDone {D : Type 0} (outcomes : Outcomes Task) (files : Files) (seen 
   pub text : List ℕ
   pub is : IsText files task (seen before) (seen after) text
   pub told : new ≡ more old text
-  pub all : (call : Call) → task ≡ OfJob call → call.sums ≡ true → (image : List ℕ) → may_leave after (moment after) image → kept_for files call image ≡ epochs_for call
+  pub all : (call : Call) → task ≡ OfJob call → call.sums ≡ true → (image : List ℕ) → may_leave after (moment after) image → KeepsAll files call image
   pub sums : (call : Call) → task ≡ OfJob call → call.sums ≡ true → WhereTold (seen before) (λ image. IsHonest files call image → new ≡ more old (output call.plan files))
 
 -- A call wrote to the journal: it is one of `run`, what a read of the journal gave on entry is blank or of the job's form, and each
--- image goes on from one before it with sums of the plan.
+-- image goes on from one before it with epochs of the length in force and their sums.
 pub record IsRunning {D : Type 0} (outcomes : Outcomes Task) (files : Files) (seen : D → Option (List ℕ)) (moment : D → ℕ) (may_leave : D → ℕ → List ℕ → Type 0)
     (before after : D) : Type 0 where
   pub call : Call
   pub outcome : outcomes (Ok (OfJob call))
   pub run : call.sums ≡ true
-  pub opened : WhereTold (seen before) (λ image. IsSome (bodies_for files call image))
-  pub changes : Changes seen moment may_leave (Extends (IsSums files call.plan) (identity_for files call) (sizes_for call)) before after
+  pub opened : WhereTold (seen before) (IsOursFor files call)
+  pub changes : Changes seen moment may_leave (Extends (IsSummedFor files call) (identity_for files call) (sizes_for call)) before after
 
 -- A call gave the journal no image that it did not have, or it is a call of `run` that wrote to it.
 abbrev pub Goes : {D : Type 0} → Outcomes Task → Files → (D → Option (List ℕ)) → (D → ℕ) → (D → ℕ → List ℕ → Type 0) → D → D → Type 0
 Goes outcomes files seen moment may_leave before after =
     Looks seen moment may_leave before after ⊎ IsRunning outcomes files seen moment may_leave before after
+
+-- words and files come to a call whose plan is in its ranges
+pub record IsRanged (outcomes : Outcomes Task) : Type 0 where
+  pub call : Call
+  pub outcome : outcomes (Ok (OfJob call))
+  pub ranges : IsPlan call.plan
+  pub few : length call.plan.scans ≤ 8388608
+
+-- A call gave the journal no image that it did not have, or its plan is in its ranges.
+abbrev pub GoesRanged : {D : Type 0} → Outcomes Task → (D → Option (List ℕ)) → (D → ℕ) → (D → ℕ → List ℕ → Type 0) → D → D → Type 0
+GoesRanged outcomes seen moment may_leave before after = Looks seen moment may_leave before after ⊎ IsRanged outcomes
 
 -- What a call did, by what the words give and where the shelf tells its files.
 pub record Does {D : Type 0} (wanted : Result Order WordsFault) (files : Files) (seen : D → Option (List ℕ)) (moment : D → ℕ) (may_leave : D → ℕ → List ℕ → Type 0)

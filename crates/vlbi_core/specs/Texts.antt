@@ -1,36 +1,55 @@
 -- What a call appends where it is done.
-use Rattle.std.specs.Prelude.{◌≡◌, ℕ, Bool, true, false, List, ◌++◌, length, Option, Some, Ok}
+use Rattle.std.specs.Prelude.{◌≡◌, ℕ, ◌+◌, Bool, true, false, List, ◌++◌, map, Option, Ok, Some}
+use Rattle.std.specs.List.{All}
 use Rattle.dev_traits.specs.Told.{WhereTold, PrefixMore}
 use Rattle.corr_model.specs.Files.{Files}
-use Rattle.piece_plan.specs.Epochs.{epochs_of}
+use Rattle.piece_plan.specs.declared.epoch.EpochPlan.{EpochPlan}
+use Rattle.piece_plan.specs.Order.{Place, CoverJob}
+use Rattle.plan_places.specs.Walk.{AreLeft}
 use Rattle.job_plan.specs.declared.plan.Plan.{Plan}
-use Rattle.job_epochs.specs.Sizes.{sizes_of}
-use Rattle.job_epochs.specs.Sums.{sums_of}
+use Rattle.job_epochs.specs.Sums.{epoch_sums}
+use Rattle.journal_image.specs.Image.{KeptEpoch}
 use Rattle.checkpoint_journal.specs.Cells.{body_text}
 use Rattle.run_notes.specs.Refusals.{Outcomes}
-use Rattle.run_journal.specs.Extended.{AreFrom}
-use Rattle.run_records.specs.Kept.{kept_text}
+use Rattle.journal_rounds.specs.Extended.{BodyOf, IsSummed}
+use Rattle.journal_rounds.specs.Room.{DueIn}
+use Rattle.journal_records.specs.Kept.{kept_text}
 use Rattle.run_summary.specs.Summaries.{kept_line}
-use Rattle.vlbi_core.specs.Calls.{Call, Task, OfJob, OfText, bodies_for, kept_for}
-
--- the number of epochs of a call's job
-abbrev pub epochs_for : Call → ℕ
-epochs_for call = length (epochs_of (sizes_of call.plan))
+use Rattle.vlbi_core.specs.Calls.{Call, Task, OfJob, OfText, identity_for, sizes_for, epoch_for, KeepsFor, KeepsManyFor}
 
 -- the text of an epoch's sums
-abbrev pub IsSums : Files → Plan → ℕ → List ℕ → Type 0
-IsSums files plan i body = body ≡ body_text (sums_of plan files i)
+abbrev pub IsSums : Files → Plan → EpochPlan → List ℕ → Type 0
+IsSums files plan e body = body ≡ body_text (epoch_sums plan files e)
 
--- The records of what the journal keeps at the end: first the bodies that it kept on entry, then those of the sums of each
--- further epoch, together as many as there are epochs.
+-- the body of each of some epochs is that text
+abbrev pub AreSums : Files → Plan → List KeptEpoch → Type 0
+AreSums files plan kept = All (λ (k : KeptEpoch). IsSums files plan k.epoch k.body) kept
+
+-- what a call appends to the journal: an epoch of the length in force, or up to its integration's end, and the text of its sums
+abbrev pub IsSummedFor : Files → Call → BodyOf
+IsSummedFor files call = IsSummed (Some files) call.plan (sizes_for call) (epoch_for call)
+
+-- The records of what the journal keeps at the end: first the epochs that it kept on entry, then further ones with the sums of each, which
+-- together cover the job.
 pub record IsRecords (files : Files) (call : Call) (before after text : List ℕ) : Type 0 where
-  pub old : List (List ℕ)
-  pub more : List (List ℕ)
-  pub entry : bodies_for files call before ≡ Some old
-  pub end : bodies_for files call after ≡ Some (old ++ more)
-  pub sums : AreFrom (IsSums files call.plan) (length old) more
-  pub all : length (old ++ more) ≡ epochs_for call
+  pub old : List KeptEpoch
+  pub more : List KeptEpoch
+  pub entry : KeepsFor files call before old
+  pub end : KeepsFor files call after (old ++ more)
+  pub sums : All (λ (k : KeptEpoch). IsSummedFor files call k.epoch k.body) more
+  pub all : CoverJob (sizes_for call) (map (λ (k : KeptEpoch). k.epoch) (old ++ more))
   pub records : text ≡ kept_text call.plan (old ++ more)
+
+-- The line of how many epochs the journal keeps, and of how many: those, and those of the length in force that are left from the place behind
+-- them.
+pub record IsKeptLine (files : Files) (call : Call) (image text : List ℕ) : Type 0 where
+  pub kept : ℕ
+  pub many : KeepsManyFor files call image kept
+  pub due : Option Place
+  pub is_due : DueIn (identity_for files call) (sizes_for call) image due
+  pub left : ℕ
+  pub are_left : AreLeft (sizes_for call) (epoch_for call) due left
+  pub line : text ≡ kept_line kept (kept + left)
 
 -- the text of a task, by what the journal's disk reads before it and after it
 abbrev pub IsText : Files → Task → Option (List ℕ) → Option (List ℕ) → List ℕ → Type 0
@@ -39,7 +58,7 @@ IsText files (OfJob call) before after text = by call.sums
   where
     by : Bool → Type 0
     by true = WhereTold before (λ old. WhereTold after (λ new. IsRecords files call old new text))
-    by false = WhereTold before (λ image. text ≡ kept_line (kept_for files call image) (epochs_for call))
+    by false = WhereTold before (λ image. IsKeptLine files call image text)
 
 -- a first part of the text of the task, where there is one
 pub record IsPart (outcomes : Outcomes Task) (files : Files) (before after old new : Option (List ℕ)) : Type 0 where

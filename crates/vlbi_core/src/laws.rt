@@ -7,10 +7,11 @@ ghost use Rattle.vlbi_core.specs.Calls.{Task, OutcomeOf};
 ghost use Rattle.vlbi_core.specs.Histories.{HoldsOver, AlikeByJob};
 
 use dev_traits::Disk;
+use journal_image::laws::reads;
 use run_bins::laws::one_plan;
 use run_dump::laws::one_shown;
 use run_fringe::laws::{one_search, one_verdict};
-use run_ready::laws::one_outcome;
+use run_ready::laws::{one_outcome, one_plan_for_job};
 
 /// Words and files come to one thing, and never to two: a job and its journal, the text that a command appends, or the answer of the first
 /// thing that is wrong.
@@ -32,12 +33,16 @@ pub fn one_after_another<D: Disk>()
     ensures { HoldsOver D.seen D.moment D.may_leave }
 {
     one_outcome();
+    one_plan_for_job();
+    reads();
 }
 
-/// What is honest for a call of `run`, what is kept and what the records are does not depend on the workers, the piece or the order of the
-/// options.
+/// What is honest for a call of `run`, what is kept and what the records are does not depend on the samples of an epoch, the workers, the
+/// piece or the order of the options.
 pub fn alike_by_job()
     ensures { AlikeByJob }
 {
     one_outcome();
+    one_plan_for_job();
+    reads();
 }

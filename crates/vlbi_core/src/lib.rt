@@ -1,6 +1,6 @@
 //! The correlator: the top call `run`, and what it is made of. It stands on `run_words` for the words, on `run_ready` for what
-//! comes before the output, on `plain_sums` for the cells of an integration, on `run_journal` for the sums of a job in its journal, on
-//! `vis_writer` and `run_records` for the records, on `run_summary` for summaries, on `run_dump` for a record file that is shown, on
+//! comes before the output, on `plain_sums` for the cells of an integration, on `journal_rounds` for the sums of a job in its journal,
+//! on `vis_writer` and `journal_records` for the records, on `run_summary` for summaries, on `run_dump` for a record file that is shown, on
 //! `run_fringe` for the peaks of one and their certificate, on `run_bins` for the cells by the bins of a pulse, on `sample_gen`, `sample_job` and `gen_summary` for a generated job and its
 //! totals, and on `run_notes` for statuses and notes.
 //!

@@ -1,9 +1,9 @@
 //! The order of a call.
 ghost use Rattle.std.specs.Prelude.{◌≡◌, Ok, IfOk, IfErr, IfSome, IsSome, option_copied};
 ghost use Rattle.std.specs.Str.{IsUtf8};
-ghost use Rattle.run_words.specs.Orders.{IsOrder};
+ghost use Rattle.run_words.specs.Orders.{IsCut, IsOrder};
 ghost use Rattle.vlbi_core.specs.Calls.{texts_of, order_in};
-ghost use Rattle.vlbi_core.specs.Engine.{job_names};
+ghost use Rattle.vlbi_core.specs.Engine.{job_names, epoch_asked};
 ghost use Rattle.vlbi_core.specs.Faults.{words_refusal};
 ghost use Rattle.vlbi_core.specs.Steps.{IsOfWords};
 
@@ -47,6 +47,20 @@ pub fn job_of(order: &Order) -> &Name
         Order::Check { job, .. } => job,
         Order::Status { job, .. } => job,
         _ => unreachable!(),
+    }
+}
+
+/// The samples of an epoch that an order asks for, where it does.
+pub fn epoch_of(order: &Order) -> Option<u64>
+    requires { IsOrder order.now }
+    ensures asked { result ≡ epoch_asked order.now }
+    ensures cut { IsCut result }
+{
+    match order {
+        Order::Run { epoch, .. } => *epoch,
+        Order::Check { epoch, .. } => *epoch,
+        Order::Status { epoch, .. } => *epoch,
+        _ => None,
     }
 }
 

@@ -1,6 +1,6 @@
 //! The record file of a plan, on one thread: each integration is summed epoch by epoch, and its records are written before the
 //! next one is read.
-ghost use Rattle.std.specs.Prelude.{◌≡◌, ◌≤◌, ◌<◌, Some, flat_map, length, slice_get, IfErr, IfSome, option_copied};
+ghost use Rattle.std.specs.Prelude.{◌≡◌, ◌≤◌, ◌<◌, Some, flat_map, length, slice_get, IfErr, IfSome, option_copied, None};
 ghost use Rattle.std.specs.List.{range_with_len};
 ghost use Rattle.std.specs.Str.{IsUtf8};
 ghost use Rattle.dev_traits.specs.Told.{WhereTold};
@@ -43,13 +43,13 @@ pub fn plain_job<F: Shelf, S: Sink>(
     requires job_text { IsUtf8 job.now }
     requires vex_text { IfSome vex (λ name. IsUtf8 name.now) }
     ensures same { F.told shelf.new ≡ F.told shelf.old }
-    ensures tells { WhereTold (F.told shelf.old) (λ files. Tells (PlanOf files job.now (option_copied vex.entry)) (λ plan. output plan files) (S.told out.old) (S.told out.new) result) }
+    ensures tells { WhereTold (F.told shelf.old) (λ files. Tells (PlanOf files job.now (option_copied vex.entry) None) (λ plan. output plan files) (S.told out.old) (S.told out.new) result) }
     ensures nothing { IfErr result (λ r. MatchDue r (S.told out.new ≡ S.told out.old)) }
     ensures stage { IfErr result IsOfFilesOrOutput }
     ensures reads { CountsReads (F.faults shelf.old) (F.faults shelf.new) result }
     ensures writes { CountsWrites (S.faults out.old) (S.faults out.new) result }
 {
-    let ready = prepare(alloc, job, vex, shelf)?;
+    let ready = prepare(alloc, job, vex, None, shelf)?;
     write_plan(alloc, &ready, shelf, out)
 }
 

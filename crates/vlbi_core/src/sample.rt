@@ -86,6 +86,7 @@ fn sample_records<R: Threads + Sync, G: Gate + Sync>(
         alloc,
         &job,
         None,
+        None,
         workers,
         piece,
         &mut shelf,

@@ -8,7 +8,7 @@ ghost use Rattle.run_notes.specs.Counted.{CountsReads, CountsReadsBeside, Counts
 ghost use Rattle.vlbi_core.specs.Calls.{texts_of, order_in, is_run, OutcomeOf};
 ghost use Rattle.vlbi_core.specs.Run.{IsVerdictStatus, IsDueStatus, IsStatus, IsVerdict, IsAppended, IsNoteOf};
 ghost use Rattle.vlbi_core.specs.Restart.{Restarts, AppendsOutput, IsRunOf, IsNoRun, IsGenOf};
-ghost use Rattle.vlbi_core.specs.Steps.{IsWorded, IsBehindWords, IsShort, IsUnnumbered, IsOfSample, Goes, Does, Leaves};
+ghost use Rattle.vlbi_core.specs.Steps.{OutcomeFrom, IsWorded, IsBehindWords, IsShort, IsUnnumbered, IsFullFor, CountsJournalOr, IsOfSample, Goes, GoesRanged, Does, Leaves};
 
 use crate::check::check_job;
 use crate::correlation::correlate_job;
@@ -41,7 +41,7 @@ use std::thread::Threads;
 /// | 5 | a station's recording has slots, and none agrees with its shape; or the file that is shown is no record file |
 /// | 6 | a quantity is past its greatest |
 /// | 7 | a read failed |
-/// | 8 | the journal failed |
+/// | 8 | the journal failed, or is full |
 /// | 9 | the output failed |
 /// | 10 | the journal is another job's |
 /// | 11 | a named file is not there |
@@ -92,11 +92,14 @@ pub fn run<R: Threads + Sync, F: Shelf + Send, D: Disk + Send, S: Sink, N: Sink,
     ensures same { F.told shelf.new ≡ F.told shelf.old }
 
     // Statuses 7, 8 and 9: only where a count rose, and else it stays. `run` reads while it writes the journal: where both counts
-    // rose, the status is that of the journal.
+    // rose, the status is that of the journal. That status comes of a call of `run` without a fault too, where a journal that had 2^62
+    // bytes or more on entry is full.
     ensures read { result ≡ 7 → HasRisen (F.faults shelf.old) (F.faults shelf.new) }
     ensures no_read { result ≢ 7 → (result ≢ 8) ⊎ IsNoRun (order_in (texts_of words.now)) → F.faults shelf.new ≡ F.faults shelf.old }
     ensures no_fall { result ≢ 7 → F.faults shelf.old ≤ F.faults shelf.new }
-    ensures kept { result ≡ 8 → HasRisen (D.faults journal.old) (D.faults journal.new) }
+    ensures kept { result ≡ 8 → HasRisen (D.faults journal.old) (D.faults journal.new) ⊎ ((D.faults journal.new ≡ D.faults journal.old)
+        × WhereTold (F.told shelf.old) (λ files. IsFullFor (OutcomeOf (texts_of words.now) files) files (D.seen journal.old) (D.seen journal.new))) }
+    ensures kept_by_others { IsNoRun (order_in (texts_of words.now)) → result ≡ 8 → HasRisen (D.faults journal.old) (D.faults journal.new) }
     ensures no_kept { result ≢ 8 → D.faults journal.new ≡ D.faults journal.old }
     ensures write { result ≡ 9 → HasRisen (S.faults out.old) (S.faults out.new) }
     ensures no_write { result ≢ 9 → S.faults out.new ≡ S.faults out.old }
@@ -148,13 +151,16 @@ fn call<R: Threads + Sync, F: Shelf + Send, D: Disk + Send, S: Sink, G: Gate + S
 ) -> Result<(), Refusal>
     ensures same { F.told shelf.new ≡ F.told shelf.old }
     ensures does { WhereTold (F.told shelf.old) (λ files. Does (order_in (texts_of words.now)) files D.seen D.moment D.may_leave journal.old journal.new (S.told out.old) (S.told out.new) result) }
+    ensures ranged { WhereTold (F.told shelf.old) (λ files. GoesRanged (OutcomeOf (texts_of words.now) files) D.seen D.moment D.may_leave journal.old journal.new) }
     ensures leaves { Leaves (order_in (texts_of words.now)) D.seen D.moment D.may_leave journal.old journal.new (S.told out.old) (S.told out.new) result }
     ensures words { IsWorded (order_in (texts_of words.now)) result }
     ensures unnumbered { IsNoRun (order_in (texts_of words.now)) → IfErr result IsUnnumbered }
     ensures generated { IsGenOf (order_in (texts_of words.now)) → IfErr result IsOfSample }
     ensures reads { CountsReadsBeside (F.faults shelf.old) (F.faults shelf.new) result }
     ensures alone { IsNoRun (order_in (texts_of words.now)) → CountsReads (F.faults shelf.old) (F.faults shelf.new) result }
-    ensures journal { CountsJournal (D.faults journal.old) (D.faults journal.new) result }
+    ensures journal { CountsJournalOr (WhereTold (F.told shelf.old) (λ files. IsFullFor (OutcomeOf (texts_of words.now) files) files
+        (D.seen journal.old) (D.seen journal.new))) (D.faults journal.old) (D.faults journal.new) result }
+    ensures journal_alone { IsNoRun (order_in (texts_of words.now)) → CountsJournal (D.faults journal.old) (D.faults journal.new) result }
     ensures writes { CountsWrites (S.faults out.old) (S.faults out.new) result }
 {
     let order = read_order(alloc, words)?;
@@ -174,19 +180,23 @@ fn command<R: Threads + Sync, F: Shelf + Send, D: Disk + Send, S: Sink, G: Gate 
     requires { IsOrder order.now }
     ensures same { F.told shelf.new ≡ F.told shelf.old }
     ensures does { WhereTold (F.told shelf.old) (λ files. Does (Ok order.now) files D.seen D.moment D.may_leave journal.old journal.new (S.told out.old) (S.told out.new) result) }
+    ensures ranged { WhereTold (F.told shelf.old) (λ files. GoesRanged (OutcomeFrom (Ok order.now) files) D.seen D.moment D.may_leave journal.old journal.new) }
     ensures leaves { Leaves (Ok order.now) D.seen D.moment D.may_leave journal.old journal.new (S.told out.old) (S.told out.new) result }
     ensures stage { IfErr result IsBehindWords }
     ensures unnumbered { is_run order.now ≡ false → IfErr result IsUnnumbered }
     ensures generated { IsGenOf (Ok order.now) → IfErr result IsOfSample }
     ensures reads { CountsReadsBeside (F.faults shelf.old) (F.faults shelf.new) result }
     ensures alone { is_run order.now ≡ false → CountsReads (F.faults shelf.old) (F.faults shelf.new) result }
-    ensures journal { CountsJournal (D.faults journal.old) (D.faults journal.new) result }
+    ensures journal { CountsJournalOr (WhereTold (F.told shelf.old) (λ files. IsFullFor (OutcomeFrom (Ok order.now) files) files
+        (D.seen journal.old) (D.seen journal.new))) (D.faults journal.old) (D.faults journal.new) result }
+    ensures journal_alone { is_run order.now ≡ false → CountsJournal (D.faults journal.old) (D.faults journal.new) result }
     ensures writes { CountsWrites (S.faults out.old) (S.faults out.new) result }
 {
     match order {
         Order::Run {
             job,
             vex,
+            epoch,
             workers,
             piece,
         } => correlate_job(
@@ -194,6 +204,7 @@ fn command<R: Threads + Sync, F: Shelf + Send, D: Disk + Send, S: Sink, G: Gate 
             alloc,
             job,
             vex.as_ref(),
+            *epoch,
             *workers,
             *piece,
             shelf,
@@ -202,9 +213,11 @@ fn command<R: Threads + Sync, F: Shelf + Send, D: Disk + Send, S: Sink, G: Gate 
             gate,
         ),
         Order::Plain { job, vex } => plain_job(alloc, job, vex.as_ref(), shelf, out),
-        Order::Check { job, vex } => check_job(alloc, job, vex.as_ref(), shelf, out),
-        Order::Status { job, vex } => {
-            journal_status(alloc, job, vex.as_ref(), shelf, journal, out)
+        Order::Check { job, vex, epoch } => {
+            check_job(alloc, job, vex.as_ref(), *epoch, shelf, out)
+        }
+        Order::Status { job, vex, epoch } => {
+            journal_status(alloc, job, vex.as_ref(), *epoch, shelf, journal, out)
         }
         Order::Dump { file } => show_records(alloc, file, shelf, out),
         Order::Gen {

@@ -14,8 +14,8 @@ use std::io::ErrorKind;
 use std::process::ExitCode;
 use vlbi_core::run;
 
-/// What a journal's file has behind its head gate.
-const MARK: [u8; 8] = *b"VLBIJRN1";
+/// What a journal's file has behind its head gate, and before its version.
+const MARK: [u8; 7] = *b"VLBIJRN";
 
 fn main(rt: HostRuntime) -> ExitCode {
     let _held = HeldStreams::new(&rt);

@@ -1,12 +1,17 @@
 use Rattle.std.specs.Prelude.{option_copied}
-use Rattle.std.proofs.Common.{◌≡◌, Result, Ok, Err, rules, sym, subst, Option}
+use Rattle.std.proofs.Common.{◌≡◌, inl, Result, Ok, Err, rules, sym, subst, Option}
 use Rattle.dev_traits.specs.Told.{WhereTold}
 use Rattle.corr_model.specs.Files.{Files}
+use Rattle.piece_plan.specs.Epochs.{IsJob}
 use Rattle.job_plan.specs.Ranges.{IsPlan}
+use Rattle.journal_image.specs.Image.{IsIdentity}
+use Rattle.checkpoint_journal.proofs.RunLemmas.{looks_none}
+use Rattle.vis_writer.proofs.WritesLemmas.{where_always}
 use Rattle.run_words.specs.declared.order.Order.TheVariants.{Run}
 use Rattle.run_notes.specs.declared.refusal.Refusal.{Refusal}
-use Rattle.vlbi_core.specs.Steps.{Does}
-use Rattle.vlbi_core.proofs.CorrelationLemmas.{Resumed, Emitted, run-resumed, run-emitted}
+use Rattle.vlbi_core.specs.Steps.{OutcomeFrom, IsFullFor, CountsJournalOr, Does}
+use Rattle.vlbi_core.proofs.CorrelationLemmas.{Resumed, Emitted, run-resumed, run-emitted, files-counts, resumed-counts, emitted-counts}
+use Rattle.vlbi_core.proofs.KeepLemmas.{ranged-at}
 use Rattle.vlbi_core.proofs.correlation.correlate_job.Goals as goal
 
 pub returns-in_err-kept-clause-does : goal.returns-in_err-kept-clause-does
@@ -14,12 +19,12 @@ returns-in_err-kept-clause-does g c =
     let ready = c.in_ok-ready.ready in
     let failed : c.from_residual-in_err-kept.result ≡ Err c.in_err-kept.field-0.0 = search rules in
     subst (λ (q : Result (Unit {0}) Refusal). WhereTold (g.F.Shelf.told c.args.shelf.now)
-    (λ files. Does (Ok (Run c.args.job.now (option_copied c.args.vex) c.args.workers c.args.piece)) files g.D.Disk.seen g.D.Disk.moment g.D.Disk.may_leave c.args.journal.now c.resume.new.disk
+    (λ files. Does (Ok (Run c.args.job.now (option_copied c.args.vex) c.args.epoch c.args.workers c.args.piece)) files g.D.Disk.seen g.D.Disk.moment g.D.Disk.may_leave c.args.journal.now c.resume.new.disk
     (g.S.Sink.told c.args.out.now) (g.S.Sink.told c.args.out.now) q)) (sym failed)
-    (run-resumed g.D.Disk.seen g.D.Disk.moment g.D.Disk.may_leave (g.F.Shelf.told c.args.shelf.now) c.args.job.now (option_copied c.args.vex) c.args.workers c.args.piece ready.plan ready.identity ready.epochs
+    (run-resumed g.D.Disk.seen g.D.Disk.moment g.D.Disk.may_leave (g.F.Shelf.told c.args.shelf.now) c.args.job.now (option_copied c.args.vex) c.args.epoch c.args.workers c.args.piece ready.plan ready.identity ready.epochs ready.epoch
     c.args.journal.now c.resume.new.disk (g.S.Sink.told c.args.out.now) c.in_err-kept.field-0.0
-    c.in_ok-ready.ensures.plan c.in_ok-ready.ensures.identity ready.cut
-    (subst (λ (t : Option Files). Resumed g.D.Disk.seen g.D.Disk.moment g.D.Disk.may_leave t ready.plan ready.identity ready.epochs c.args.journal.now c.resume.new.disk c.in_err-kept.field-0.0)
+    c.in_ok-ready.ensures.plan c.in_ok-ready.ensures.identity ready.cut c.in_ok-ready.ensures.epoch
+    (subst (λ (t : Option Files). Resumed g.D.Disk.seen g.D.Disk.moment g.D.Disk.may_leave t ready.plan ready.identity ready.epochs ready.epoch c.args.journal.now c.resume.new.disk c.in_err-kept.field-0.0)
     c.in_ok-ready.ensures.same
     (record { changes = c.in_err-kept.ensures.changes; spares = c.in_err-kept.ensures.spares; refused = c.in_err-kept.ensures.refused; named = c.in_err-kept.ensures.named })))
 
@@ -27,18 +32,59 @@ pub returns-clause-does : goal.returns-clause-does
 returns-clause-does g c =
     let ready = c.in_ok-ready.ready in
     let ranges : IsPlan c.in_ok-ready.ready.plan = search rules in
-    run-emitted g.D.Disk.seen g.D.Disk.moment g.D.Disk.may_leave c.sums_make_the_output.ensures (g.F.Shelf.told c.args.shelf.now) c.args.job.now (option_copied c.args.vex) c.args.workers c.args.piece ready.plan ready.identity ready.epochs c.in_ok-kept.kept
+    run-emitted g.D.Disk.seen g.D.Disk.moment g.D.Disk.may_leave c.sums_make_the_output.ensures (g.F.Shelf.told c.args.shelf.now) c.args.job.now (option_copied c.args.vex) c.args.epoch c.args.workers c.args.piece ready.plan ready.identity ready.epochs ready.epoch c.in_ok-kept.kept
     c.args.journal.now c.resume.new.disk c.emit.new.disk (g.S.Sink.told c.args.out.now) (g.S.Sink.told c.emit.new.out) c.emit.result
-    ranges ready.few c.in_ok-ready.ensures.plan c.in_ok-ready.ensures.identity ready.cut
-    (subst (λ (t : Option Files). Emitted g.D.Disk.seen g.D.Disk.moment g.D.Disk.may_leave t ready.plan ready.identity ready.epochs c.in_ok-kept.kept
+    ranges c.in_ok-ready.ensures.plan c.in_ok-ready.ensures.identity ready.cut c.in_ok-ready.ensures.epoch
+    (subst (λ (t : Option Files). Emitted g.D.Disk.seen g.D.Disk.moment g.D.Disk.may_leave t ready.plan ready.identity ready.epochs ready.epoch c.in_ok-kept.kept
     c.args.journal.now c.resume.new.disk c.emit.new.disk (g.S.Sink.told c.args.out.now) (g.S.Sink.told c.emit.new.out) c.emit.result)
     c.in_ok-ready.ensures.same
     (record {
       changes = c.in_ok-kept.ensures.changes;
       stands = c.in_ok-kept.ensures.stands;
-      kept = c.in_ok-kept.ensures.all;
+      covers = c.in_ok-kept.ensures.covers;
       looks = c.emit.ensures.looks;
       written = c.emit.ensures.written ready.identity c.in_ok-kept.ensures.stands;
       grows = c.emit.ensures.grows;
       refused = c.emit.ensures.refused;
     }))
+
+pub returns-in_err-ready-clause-journal : goal.returns-in_err-ready-clause-journal
+returns-in_err-ready-clause-journal g c =
+    let failed : c.from_residual.result ≡ Err c.in_err-ready.field-0.0 = search rules in
+    let full : Type 0 = WhereTold (g.F.Shelf.told c.args.shelf.now) (λ files. IsFullFor (OutcomeFrom (Ok (Run c.args.job.now (option_copied c.args.vex) c.args.epoch c.args.workers c.args.piece)) files) files
+    (g.D.Disk.seen c.args.journal.now) (g.D.Disk.seen c.args.journal.now)) in
+    subst (λ (q : Result (Unit {0}) Refusal). CountsJournalOr full (g.D.Disk.faults c.args.journal.now) (g.D.Disk.faults c.args.journal.now) q) (sym failed)
+    (files-counts full (g.D.Disk.faults c.args.journal.now) c.in_err-ready.field-0.0 c.in_err-ready.ensures.stage)
+
+pub returns-in_err-kept-clause-journal : goal.returns-in_err-kept-clause-journal
+returns-in_err-kept-clause-journal g c =
+    let ready = c.in_ok-ready.ready in
+    let failed : c.from_residual-in_err-kept.result ≡ Err c.in_err-kept.field-0.0 = search rules in
+    let named : IsIdentity ready.identity = search rules in
+    let is : IsJob ready.epochs = search rules in
+    subst (λ (q : Result (Unit {0}) Refusal). CountsJournalOr (WhereTold (g.F.Shelf.told c.args.shelf.now) (λ files. IsFullFor (OutcomeFrom (Ok (Run c.args.job.now (option_copied c.args.vex) c.args.epoch c.args.workers c.args.piece)) files) files
+    (g.D.Disk.seen c.args.journal.now) (g.D.Disk.seen c.resume.new.disk))) (g.D.Disk.faults c.args.journal.now) (g.D.Disk.faults c.resume.new.disk) q) (sym failed)
+    (resumed-counts c.walks_end.ensures c.no_more_are_left_than_all.ensures (g.F.Shelf.told c.args.shelf.now) c.args.job.now (option_copied c.args.vex) c.args.epoch c.args.workers c.args.piece ready.plan ready.identity ready.epochs ready.epoch
+    (g.D.Disk.seen c.args.journal.now) (g.D.Disk.seen c.resume.new.disk) (g.D.Disk.faults c.args.journal.now) (g.D.Disk.faults c.resume.new.disk) c.in_err-kept.field-0.0
+    named is ready.some_epoch ready.short_epoch ready.few_epochs c.in_ok-ready.ensures.plan c.in_ok-ready.ensures.identity ready.cut c.in_err-kept.ensures.refused c.in_err-kept.ensures.journal)
+
+pub returns-clause-journal : goal.returns-clause-journal
+returns-clause-journal g c = emitted-counts _ (g.D.Disk.faults c.args.journal.now) (g.D.Disk.faults c.resume.new.disk) (g.D.Disk.faults c.emit.new.disk) c.emit.result c.in_ok-kept.ensures.journal c.emit.ensures.journal
+
+pub returns-in_err-ready-clause-ranged : goal.returns-in_err-ready-clause-ranged
+returns-in_err-ready-clause-ranged g c =
+    where_always (g.F.Shelf.told c.args.shelf.now) _ (λ files. inl (looks_none g.D.Disk.seen g.D.Disk.moment g.D.Disk.may_leave c.args.journal.now))
+
+pub returns-in_err-kept-clause-ranged : goal.returns-in_err-kept-clause-ranged
+returns-in_err-kept-clause-ranged g c =
+    let ready = c.in_ok-ready.ready in
+    let ranges : IsPlan c.in_ok-ready.ready.plan = search rules in
+    ranged-at g.D.Disk.seen g.D.Disk.moment g.D.Disk.may_leave (g.F.Shelf.told c.args.shelf.now) c.args.job.now (option_copied c.args.vex) c.args.epoch c.args.workers c.args.piece ready.plan
+    c.args.journal.now c.resume.new.disk ranges ready.few c.in_ok-ready.ensures.plan
+
+pub returns-clause-ranged : goal.returns-clause-ranged
+returns-clause-ranged g c =
+    let ready = c.in_ok-ready.ready in
+    let ranges : IsPlan c.in_ok-ready.ready.plan = search rules in
+    ranged-at g.D.Disk.seen g.D.Disk.moment g.D.Disk.may_leave (g.F.Shelf.told c.args.shelf.now) c.args.job.now (option_copied c.args.vex) c.args.epoch c.args.workers c.args.piece ready.plan
+    c.args.journal.now c.emit.new.disk ranges ready.few c.in_ok-ready.ensures.plan

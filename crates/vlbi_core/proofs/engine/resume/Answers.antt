@@ -4,8 +4,8 @@ use Rattle.vlbi_core.proofs.engine.resume.Goals as goal
 pub returns-clause-stands : goal.returns-clause-stands
 returns-clause-stands g c = rw c.resumed.ensures (resumed-ok c.resume.result _ c.resume.ensures.stands)
 
-pub returns-clause-all : goal.returns-clause-all
-returns-clause-all g c = rw c.resumed.ensures (resumed-ok c.resume.result _ c.resume.ensures.all)
+pub returns-clause-covers : goal.returns-clause-covers
+returns-clause-covers g c = rw c.resumed.ensures (resumed-ok c.resume.result _ c.resume.ensures.covers)
 
 pub returns-clause-refused : goal.returns-clause-refused
 returns-clause-refused g c = rw c.resumed.ensures (resumed-refused _ _ _ _ c.resume.result c.resume.ensures.refused)
@@ -17,4 +17,4 @@ pub returns-clause-reads : goal.returns-clause-reads
 returns-clause-reads g c = rw c.resumed.ensures (resumed-reads _ _ c.resume.result c.resume.ensures.reads)
 
 pub returns-clause-journal : goal.returns-clause-journal
-returns-clause-journal g c = rw c.resumed.ensures (resumed-journal _ _ c.resume.result c.resume.ensures.journal)
+returns-clause-journal g c = rw c.resumed.ensures (resumed-journal _ _ _ c.resume.result c.resume.ensures.journal)

@@ -5,8 +5,7 @@ use Rattle.vis_writer.specs.declared.fault.WriteFault.{WriteFault}
 use Rattle.vis_writer.specs.Cells.{CellsOf}
 use Rattle.vis_writer.specs.Texts.{integration_at}
 use Rattle.vis_writer.specs.Writes.{Writes}
-use Rattle.run_records.proofs.PlaceLemmas.{scan-IsScanPlan}
-use Rattle.run_records.proofs.StoreLemmas.{number-within, width-of-head, width-within}
+use Rattle.journal_records.proofs.StoreLemmas.{scan-IsScanPlan, number-within, width-of-head, width-within}
 use Rattle.vlbi_core.specs.Shelf.{state, head_at, cells_at, stays, fails}
 use Rattle.vlbi_core.proofs.PlainLemmas.{Writes-summed, Writes-unread}
 use Rattle.vlbi_core.proofs.plain.write_integration.Goals as goal

@@ -5,7 +5,7 @@ use Rattle.job_plan.specs.Output.{head_of, integrations_of}
 use Rattle.vis_writer.specs.Texts.{integration_at, text_at}
 use Rattle.vis_writer.specs.Writes.{Writes}
 use Rattle.vis_writer.proofs.WritesLemmas.{Writes-same, where_always}
-use Rattle.run_records.proofs.StoreLemmas.{scan-there, scan-text}
+use Rattle.journal_records.proofs.StoreLemmas.{scan-there, scan-text}
 use Rattle.vlbi_core.specs.Shelf.{state, head_at, cells_at, stays, fails}
 use Rattle.vlbi_core.proofs.PlainLemmas.{stays-composes}
 use Rattle.vlbi_core.proofs.plain.write_scan.Goals as goal

@@ -1,14 +1,15 @@
-use Rattle.std.specs.Prelude.{option_copied}
-use Rattle.std.proofs.Common.{◌≡◌, Ok, sym, subst, refl, true, false}
+use Rattle.std.specs.Prelude.{option_copied, unwrap_or, None}
+use Rattle.std.proofs.Common.{◌≡◌, inl, Ok, sym, subst, refl, true, false}
 use Rattle.dev_traits.specs.Told.{WhereTold}
 use Rattle.corr_model.specs.Files.{Files}
+use Rattle.checkpoint_journal.proofs.RunLemmas.{looks_none}
 use Rattle.job_plan.specs.declared.plan.Plan.{Plan}
 use Rattle.job_plan.specs.Output.{output}
 use Rattle.vis_records.specs.Dumped.{dump_text}
 use Rattle.run_summary.specs.Summaries.{check_text}
 use Rattle.run_dump.specs.Shown.{RecordsOf}
 use Rattle.run_words.specs.declared.order.Order.{Order}
-use Rattle.run_words.specs.declared.order.Order.TheVariants.{Run, Plain, Check, Status, Dump, Gen, Fringe, Verify, Bins}
+use Rattle.run_words.specs.declared.order.Order.TheVariants.{Run, Plain, Check, Status, Bins}
 use Rattle.run_ready.specs.Outcome.{PlanOf}
 use Rattle.sample_job.specs.Sample.{SampleOf}
 use Rattle.vis_writer.proofs.WritesLemmas.{where_always}
@@ -19,47 +20,48 @@ use Rattle.run_bins.specs.Outcome.{BinsOf}
 use Rattle.vlbi_core.specs.Calls.{is_run}
 use Rattle.vlbi_core.specs.Restart.{IsGenOf}
 use Rattle.vlbi_core.specs.Sample.{sample_text}
-use Rattle.vlbi_core.specs.Steps.{Does, Leaves}
+use Rattle.vlbi_core.specs.Steps.{OutcomeFrom, IsFullFor, CountsJournalOr, GoesRanged, Does, Leaves}
 use Rattle.vlbi_core.proofs.CommandLemmas.{reads-beside, not_both, files-unnumbered, verdict-due, does-text, does-shown, leaves-tells}
+use Rattle.vlbi_core.proofs.TopLemmas.{journal-or, files-journal}
 use Rattle.vlbi_core.proofs.SampleLemmas.{of-files, reads-same}
 use Rattle.vlbi_core.proofs.top.command.Goals as goal
 
 pub returns-in-Run-clause-does : goal.returns-in-Run-clause-does
 returns-in-Run-clause-does g c =
-    let same : c.args.order.now ≡ Run c.in-Run.job (option_copied c.as_ref.result) c.in-Run.workers c.in-Run.piece = cc in
+    let same : c.args.order.now ≡ Run c.in-Run.job (option_copied c.as_ref.result) c.in-Run.epoch c.in-Run.workers c.in-Run.piece = cc in
     subst (λ (o : Order). WhereTold (g.F.Shelf.told c.args.shelf.now) (λ files. Does (Ok o) files g.D.Disk.seen g.D.Disk.moment g.D.Disk.may_leave c.args.journal.now c.correlate_job.new.journal
     (g.S.Sink.told c.args.out.now) (g.S.Sink.told c.correlate_job.new.out) c.correlate_job.result)) (sym same) c.correlate_job.ensures.does
 
 pub returns-in-Run-clause-leaves : goal.returns-in-Run-clause-leaves
 returns-in-Run-clause-leaves g c =
-    let same : c.args.order.now ≡ Run c.in-Run.job (option_copied c.as_ref.result) c.in-Run.workers c.in-Run.piece = cc in
+    let same : c.args.order.now ≡ Run c.in-Run.job (option_copied c.as_ref.result) c.in-Run.epoch c.in-Run.workers c.in-Run.piece = cc in
     subst (λ (o : Order). Leaves (Ok o) g.D.Disk.seen g.D.Disk.moment g.D.Disk.may_leave c.args.journal.now c.correlate_job.new.journal
     (g.S.Sink.told c.args.out.now) (g.S.Sink.told c.correlate_job.new.out) c.correlate_job.result) (sym same) c.correlate_job.ensures.leaves
 
 pub returns-in-Status-clause-does : goal.returns-in-Status-clause-does
 returns-in-Status-clause-does g c =
-    let same : c.args.order.now ≡ Status c.in-Status.job (option_copied c.as_ref-in-Status.result) = cc in
+    let same : c.args.order.now ≡ Status c.in-Status.job (option_copied c.as_ref-in-Status.result) c.in-Status.epoch = cc in
     subst (λ (o : Order). WhereTold (g.F.Shelf.told c.args.shelf.now) (λ files. Does (Ok o) files g.D.Disk.seen g.D.Disk.moment g.D.Disk.may_leave c.args.journal.now c.journal_status.new.journal
     (g.S.Sink.told c.args.out.now) (g.S.Sink.told c.journal_status.new.out) c.journal_status.result)) (sym same) c.journal_status.ensures.does
 
 pub returns-in-Status-clause-leaves : goal.returns-in-Status-clause-leaves
 returns-in-Status-clause-leaves g c =
-    let same : c.args.order.now ≡ Status c.in-Status.job (option_copied c.as_ref-in-Status.result) = cc in
+    let same : c.args.order.now ≡ Status c.in-Status.job (option_copied c.as_ref-in-Status.result) c.in-Status.epoch = cc in
     subst (λ (o : Order). Leaves (Ok o) g.D.Disk.seen g.D.Disk.moment g.D.Disk.may_leave c.args.journal.now c.journal_status.new.journal
     (g.S.Sink.told c.args.out.now) (g.S.Sink.told c.journal_status.new.out) c.journal_status.result) (sym same) c.journal_status.ensures.leaves
 
 pub returns-in-Check-clause-does : goal.returns-in-Check-clause-does
 returns-in-Check-clause-does g c =
-    let same : c.args.order.now ≡ Check c.in-Check.job (option_copied c.as_ref-in-Check.result) = cc in
+    let same : c.args.order.now ≡ Check c.in-Check.job (option_copied c.as_ref-in-Check.result) c.in-Check.epoch = cc in
     does-text g.D.Disk.seen g.D.Disk.moment g.D.Disk.may_leave (g.F.Shelf.told c.args.shelf.now) c.args.order.now _
-    (λ (files : Files). PlanOf files c.in-Check.job (option_copied c.as_ref-in-Check.result)) (λ (files : Files) (plan : Plan). check_text plan files) same (λ files o p. p)
+    (λ (files : Files). PlanOf files c.in-Check.job (option_copied c.as_ref-in-Check.result) c.in-Check.epoch) (λ (files : Files) (plan : Plan). check_text plan (unwrap_or c.in-Check.epoch plan.epoch) files) same (λ files o p. p)
     c.args.journal.now (g.S.Sink.told c.args.out.now) (g.S.Sink.told c.check_job.new.out) c.check_job.result c.check_job.ensures.stage c.check_job.ensures.tells
 
 pub returns-in-Plain-clause-does : goal.returns-in-Plain-clause-does
 returns-in-Plain-clause-does g c =
     let same : c.args.order.now ≡ Plain c.in-Plain.job (option_copied c.as_ref-in-Plain.result) = cc in
     does-text g.D.Disk.seen g.D.Disk.moment g.D.Disk.may_leave (g.F.Shelf.told c.args.shelf.now) c.args.order.now _
-    (λ (files : Files). PlanOf files c.in-Plain.job (option_copied c.as_ref-in-Plain.result)) (λ (files : Files) (plan : Plan). output plan files) same (λ files o p. p)
+    (λ (files : Files). PlanOf files c.in-Plain.job (option_copied c.as_ref-in-Plain.result) None) (λ (files : Files) (plan : Plan). output plan files) same (λ files o p. p)
     c.args.journal.now (g.S.Sink.told c.args.out.now) (g.S.Sink.told c.plain_job.new.out) c.plain_job.result c.plain_job.ensures.stage c.plain_job.ensures.tells
 
 pub returns-in-Dump-clause-does : goal.returns-in-Dump-clause-does
@@ -177,3 +179,87 @@ returns-in-Bins-clause-unnumbered g c = λ alone. files-unnumbered c.write_bins.
 
 pub returns-in-Bins-clause-generated : goal.returns-in-Bins-clause-generated
 returns-in-Bins-clause-generated g c = λ is. absurd (subst (λ (o : Order). IsGenOf (Ok o)) c.in-Bins.is is)
+
+pub returns-in-Run-clause-ranged : goal.returns-in-Run-clause-ranged
+returns-in-Run-clause-ranged g c =
+    let same : c.args.order.now ≡ Run c.in-Run.job (option_copied c.as_ref.result) c.in-Run.epoch c.in-Run.workers c.in-Run.piece = cc in
+    subst (λ (o : Order). WhereTold (g.F.Shelf.told c.args.shelf.now) (λ files. GoesRanged (OutcomeFrom (Ok o) files) g.D.Disk.seen g.D.Disk.moment g.D.Disk.may_leave
+    c.args.journal.now c.correlate_job.new.journal)) (sym same) c.correlate_job.ensures.ranged
+
+pub returns-in-Run-clause-journal : goal.returns-in-Run-clause-journal
+returns-in-Run-clause-journal g c =
+    let same : c.args.order.now ≡ Run c.in-Run.job (option_copied c.as_ref.result) c.in-Run.epoch c.in-Run.workers c.in-Run.piece = cc in
+    subst (λ (o : Order). CountsJournalOr (WhereTold (g.F.Shelf.told c.args.shelf.now) (λ files. IsFullFor (OutcomeFrom (Ok o) files) files (g.D.Disk.seen c.args.journal.now)
+    (g.D.Disk.seen c.correlate_job.new.journal))) (g.D.Disk.faults c.args.journal.now) (g.D.Disk.faults c.correlate_job.new.journal) c.correlate_job.result) (sym same) c.correlate_job.ensures.journal
+
+pub returns-in-Run-clause-journal_alone : goal.returns-in-Run-clause-journal_alone
+returns-in-Run-clause-journal_alone g c = λ alone. absurd (not_both true refl (subst (λ (o : Order). is_run o ≡ false) c.in-Run.is alone))
+
+pub returns-in-Status-clause-ranged : goal.returns-in-Status-clause-ranged
+returns-in-Status-clause-ranged g c = where_always (g.F.Shelf.told c.args.shelf.now) _ (λ files. inl (c.journal_status.ensures.leaves.untouched refl))
+
+pub returns-in-Status-clause-journal : goal.returns-in-Status-clause-journal
+returns-in-Status-clause-journal g c = journal-or _ _ _ c.journal_status.result c.journal_status.ensures.journal
+
+pub returns-in-Plain-clause-ranged : goal.returns-in-Plain-clause-ranged
+returns-in-Plain-clause-ranged g c = where_always (g.F.Shelf.told c.args.shelf.now) _ (λ files. inl (looks_none g.D.Disk.seen g.D.Disk.moment g.D.Disk.may_leave c.args.journal.now))
+
+pub returns-in-Plain-clause-journal : goal.returns-in-Plain-clause-journal
+returns-in-Plain-clause-journal g c = journal-or _ _ _ c.plain_job.result (files-journal _ c.plain_job.result c.plain_job.ensures.stage)
+
+pub returns-in-Plain-clause-journal_alone : goal.returns-in-Plain-clause-journal_alone
+returns-in-Plain-clause-journal_alone g c = λ alone. files-journal _ c.plain_job.result c.plain_job.ensures.stage
+
+pub returns-in-Check-clause-ranged : goal.returns-in-Check-clause-ranged
+returns-in-Check-clause-ranged g c = where_always (g.F.Shelf.told c.args.shelf.now) _ (λ files. inl (looks_none g.D.Disk.seen g.D.Disk.moment g.D.Disk.may_leave c.args.journal.now))
+
+pub returns-in-Check-clause-journal : goal.returns-in-Check-clause-journal
+returns-in-Check-clause-journal g c = journal-or _ _ _ c.check_job.result (files-journal _ c.check_job.result c.check_job.ensures.stage)
+
+pub returns-in-Check-clause-journal_alone : goal.returns-in-Check-clause-journal_alone
+returns-in-Check-clause-journal_alone g c = λ alone. files-journal _ c.check_job.result c.check_job.ensures.stage
+
+pub returns-in-Dump-clause-ranged : goal.returns-in-Dump-clause-ranged
+returns-in-Dump-clause-ranged g c = where_always (g.F.Shelf.told c.args.shelf.now) _ (λ files. inl (looks_none g.D.Disk.seen g.D.Disk.moment g.D.Disk.may_leave c.args.journal.now))
+
+pub returns-in-Dump-clause-journal : goal.returns-in-Dump-clause-journal
+returns-in-Dump-clause-journal g c = journal-or _ _ _ c.show_records.result (files-journal _ c.show_records.result c.show_records.ensures.stage)
+
+pub returns-in-Dump-clause-journal_alone : goal.returns-in-Dump-clause-journal_alone
+returns-in-Dump-clause-journal_alone g c = λ alone. files-journal _ c.show_records.result c.show_records.ensures.stage
+
+pub returns-in-Gen-clause-ranged : goal.returns-in-Gen-clause-ranged
+returns-in-Gen-clause-ranged g c = where_always (g.F.Shelf.told c.args.shelf.now) _ (λ files. inl (looks_none g.D.Disk.seen g.D.Disk.moment g.D.Disk.may_leave c.args.journal.now))
+
+pub returns-in-Gen-clause-journal : goal.returns-in-Gen-clause-journal
+returns-in-Gen-clause-journal g c = journal-or _ _ _ c.total_sample.result (files-journal _ c.total_sample.result (of-files c.total_sample.result c.total_sample.ensures.stage))
+
+pub returns-in-Gen-clause-journal_alone : goal.returns-in-Gen-clause-journal_alone
+returns-in-Gen-clause-journal_alone g c = λ alone. files-journal _ c.total_sample.result (of-files c.total_sample.result c.total_sample.ensures.stage)
+
+pub returns-in-Fringe-clause-ranged : goal.returns-in-Fringe-clause-ranged
+returns-in-Fringe-clause-ranged g c = where_always (g.F.Shelf.told c.args.shelf.now) _ (λ files. inl (looks_none g.D.Disk.seen g.D.Disk.moment g.D.Disk.may_leave c.args.journal.now))
+
+pub returns-in-Fringe-clause-journal : goal.returns-in-Fringe-clause-journal
+returns-in-Fringe-clause-journal g c = journal-or _ _ _ c.write_peaks.result (files-journal _ c.write_peaks.result c.write_peaks.ensures.stage)
+
+pub returns-in-Fringe-clause-journal_alone : goal.returns-in-Fringe-clause-journal_alone
+returns-in-Fringe-clause-journal_alone g c = λ alone. files-journal _ c.write_peaks.result c.write_peaks.ensures.stage
+
+pub returns-in-Verify-clause-ranged : goal.returns-in-Verify-clause-ranged
+returns-in-Verify-clause-ranged g c = where_always (g.F.Shelf.told c.args.shelf.now) _ (λ files. inl (looks_none g.D.Disk.seen g.D.Disk.moment g.D.Disk.may_leave c.args.journal.now))
+
+pub returns-in-Verify-clause-journal : goal.returns-in-Verify-clause-journal
+returns-in-Verify-clause-journal g c = journal-or _ _ _ c.verify_peaks.result (files-journal _ c.verify_peaks.result c.verify_peaks.ensures.stage)
+
+pub returns-in-Verify-clause-journal_alone : goal.returns-in-Verify-clause-journal_alone
+returns-in-Verify-clause-journal_alone g c = λ alone. files-journal _ c.verify_peaks.result c.verify_peaks.ensures.stage
+
+pub returns-in-Bins-clause-ranged : goal.returns-in-Bins-clause-ranged
+returns-in-Bins-clause-ranged g c = where_always (g.F.Shelf.told c.args.shelf.now) _ (λ files. inl (looks_none g.D.Disk.seen g.D.Disk.moment g.D.Disk.may_leave c.args.journal.now))
+
+pub returns-in-Bins-clause-journal : goal.returns-in-Bins-clause-journal
+returns-in-Bins-clause-journal g c = journal-or _ _ _ c.write_bins.result (files-journal _ c.write_bins.result c.write_bins.ensures.stage)
+
+pub returns-in-Bins-clause-journal_alone : goal.returns-in-Bins-clause-journal_alone
+returns-in-Bins-clause-journal_alone g c = λ alone. files-journal _ c.write_bins.result c.write_bins.ensures.stage

@@ -1,11 +1,12 @@
-use Rattle.std.proofs.Common.{refl, sym, inl, inr, []}
+use Rattle.std.proofs.Common.{refl, inl, inr, []}
 use Rattle.dev_traits.specs.Fault.{HasRisen}
+use Rattle.corr_model.specs.Files.{Files}
 use Rattle.run_notes.specs.Refusals.{answer_of}
 use Rattle.vis_writer.proofs.WritesLemmas.{where_then, where_always}
 use Rattle.vlbi_core.specs.Calls.{texts_of, order_in}
 use Rattle.vlbi_core.specs.Restart.{IsNoRun}
 use Rattle.vlbi_core.specs.Steps.{OutcomeFrom, IsShort}
-use Rattle.vlbi_core.proofs.TopLemmas.{verdict-done, verdict-refused, appended-done, appended-refused, read-risen, read-kept, read-no_fall, stays-honest, all-done, headline-done, headline-refused, refusal-not-zero, line-refused, words-line, unnumbered-line, sample-status, noted-nothing, noted-appends, due-nothing, early-nothing, verdict-fact, other-fact, verdict-not}
+use Rattle.vlbi_core.proofs.TopLemmas.{verdict-done, verdict-told, appended-done, appended-refused, read-risen, read-kept, read-no_fall, restarts-told, all-done, headline-done, headline-refused, refusal-not-zero, line-refused, words-line, unnumbered-line, sample-status, noted-nothing, noted-appends, due-nothing, early-nothing, verdict-fact, other-fact, verdict-not}
 use Rattle.vlbi_core.proofs.NoteLemmas.{nothing-other, other-says, refused-says}
 use Rattle.vlbi_core.proofs.top.run.Goals as goal
 
@@ -20,14 +21,13 @@ returns-in-Ok-clause-verdict g c =
 pub returns-in-Err-clause-verdict : goal.returns-in-Err-clause-verdict
 returns-in-Err-clause-verdict g c =
     let wanted = order_in (texts_of c.args.words.now) in
-    rw c.status.ensures (where_then (g.F.Shelf.told c.args.shelf.now) _ _
-    (λ files does. verdict-refused (OutcomeFrom wanted files) (c.one_task.ensures (texts_of c.args.words.now) files) files
+    rw c.status.ensures (verdict-told (g.F.Shelf.told c.args.shelf.now) (λ (files : Files). OutcomeFrom wanted files) (c.one_task.ensures (texts_of c.args.words.now))
     (g.D.Disk.may_leave c.call.new.journal (g.D.Disk.moment c.call.new.journal)) (g.D.Disk.seen c.args.journal.now) (g.D.Disk.seen c.call.new.journal)
     (g.S.Sink.told c.args.out.now) (g.S.Sink.told c.call.new.out)
     (HasRisen (g.F.Shelf.faults c.args.shelf.now) (g.F.Shelf.faults c.call.new.shelf)) (HasRisen (g.D.Disk.faults c.args.journal.now) (g.D.Disk.faults c.call.new.journal))
-    (HasRisen (g.S.Sink.faults c.args.out.now) (g.S.Sink.faults c.call.new.out)) _ _ _ _
-    c.in-Err.refusal does.cause c.in-Err.ensures.reads c.in-Err.ensures.journal c.in-Err.ensures.writes)
-    c.in-Err.ensures.does)
+    (HasRisen (g.S.Sink.faults c.args.out.now) (g.S.Sink.faults c.call.new.out)) _ _ _ _ _ c.in-Err.refusal
+    (where_then (g.F.Shelf.told c.args.shelf.now) _ _ (λ files does. does.cause) c.in-Err.ensures.does)
+    c.in-Err.ensures.reads c.in-Err.ensures.journal c.in-Err.ensures.writes)
 
 pub returns-in-Ok-clause-appended : goal.returns-in-Ok-clause-appended
 returns-in-Ok-clause-appended g c =
@@ -46,21 +46,21 @@ returns-in-Err-clause-appended g c =
 pub returns-in-Ok-clause-restart : goal.returns-in-Ok-clause-restart
 returns-in-Ok-clause-restart g c =
     let wanted = order_in (texts_of c.args.words.now) in
-    where_then (g.F.Shelf.told c.args.shelf.now) _ _
-    (λ files does. stays-honest g.D.Disk.seen g.D.Disk.moment g.D.Disk.may_leave (OutcomeFrom wanted files) (c.one_task.ensures (texts_of c.args.words.now) files) files
-    c.args.journal.now c.call.new.journal 0 does.goes
-    (all-done g.D.Disk.seen g.D.Disk.moment g.D.Disk.may_leave (OutcomeFrom wanted files) (c.one_task.ensures (texts_of c.args.words.now) files) files
-    c.args.journal.now c.call.new.journal (g.S.Sink.told c.args.out.now) (g.S.Sink.told c.call.new.out) does.done))
-    c.in-Ok.ensures.does
+    restarts-told g.D.Disk.seen g.D.Disk.moment g.D.Disk.may_leave (g.F.Shelf.told c.args.shelf.now) (λ (files : Files). OutcomeFrom wanted files) (c.one_task.ensures (texts_of c.args.words.now))
+    c.args.journal.now c.call.new.journal 0
+    (where_then (g.F.Shelf.told c.args.shelf.now) _ _ (λ files does. does.goes) c.in-Ok.ensures.does) c.in-Ok.ensures.ranged
+    (where_then (g.F.Shelf.told c.args.shelf.now) _ _
+    (λ files does. all-done g.D.Disk.seen g.D.Disk.moment g.D.Disk.may_leave (OutcomeFrom wanted files) (c.one_task.ensures (texts_of c.args.words.now) files) files
+    c.args.journal.now c.call.new.journal (g.S.Sink.told c.args.out.now) (g.S.Sink.told c.call.new.out) does.done)
+    c.in-Ok.ensures.does)
 
 pub returns-in-Err-clause-restart : goal.returns-in-Err-clause-restart
 returns-in-Err-clause-restart g c =
     let wanted = order_in (texts_of c.args.words.now) in
-    rw c.status.ensures (where_then (g.F.Shelf.told c.args.shelf.now) _ _
-    (λ files does. stays-honest g.D.Disk.seen g.D.Disk.moment g.D.Disk.may_leave (OutcomeFrom wanted files) (c.one_task.ensures (texts_of c.args.words.now) files) files
-    c.args.journal.now c.call.new.journal (answer_of c.in-Err.refusal).status does.goes
-    (λ call there run zero image now. absurd (refusal-not-zero c.in-Err.refusal zero)))
-    c.in-Err.ensures.does)
+    rw c.status.ensures (restarts-told g.D.Disk.seen g.D.Disk.moment g.D.Disk.may_leave (g.F.Shelf.told c.args.shelf.now) (λ (files : Files). OutcomeFrom wanted files) (c.one_task.ensures (texts_of c.args.words.now))
+    c.args.journal.now c.call.new.journal (answer_of c.in-Err.refusal).status
+    (where_then (g.F.Shelf.told c.args.shelf.now) _ _ (λ files does. does.goes) c.in-Err.ensures.does) c.in-Err.ensures.ranged
+    (where_always (g.F.Shelf.told c.args.shelf.now) _ (λ files call there run zero image now. absurd (refusal-not-zero c.in-Err.refusal zero))))
 
 pub returns-in-Ok-clause-headline : goal.returns-in-Ok-clause-headline
 returns-in-Ok-clause-headline g c =

@@ -28,6 +28,11 @@ CASES = [
     (["vlbi", "night.journal", "st"], ["status"]),
     (["vlbi", "night.journal", "gen", "--se"], ["--seed", "--seconds"]),
     (["vlbi", "night.journal", "run", "--job", "jo"], ["job.txt"]),
+    (["vlbi", "night.journal", "run", "--e"], ["--epoch"]),
+    (["vlbi", "night.journal", "status", "--e"], ["--epoch"]),
+    (["vlbi", "night.journal", "plain", "--e"], [""]),
+    (["vlbi", "night.journal", "check", "--epoch", ""], [""]),
+    (["vlbi-watch", "--ep"], ["--epoch"]),
     (["vlbi-run", "j", "--w"], ["--workers", "--where"]),
     (["vlbi-plot", "--what", "m"], ["map"]),
     (["vlbi-plot", "--dpi", ""], [""]),
@@ -58,6 +63,7 @@ def test_bash(folder: Path, words: list[str], said: list[str]) -> None:
     ("vlbi-plot --what m", "vlbi-plot --what map"),
     ("vlbi j st", "vlbi j status"),
     ("vlbi j gen --see", "vlbi j gen --seed"),
+    ("vlbi j run --ep", "vlbi j run --epoch"),
     ("vlbi-lint jo", "vlbi-lint job.txt"),
 ])
 def test_zsh(folder: Path, line: str, said: str) -> None:

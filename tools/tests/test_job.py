@@ -132,8 +132,30 @@ scan C; start = 2010y001d02h00m00s; mode = M; station = On : 0 sec : 1 sec; stat
     plan = jobs.plan(job, schedule)
     assert [(scan.name, scan.samples, scan.baselines) for scan in plan.scans] == [("A", 48_000_000, ((0, 1),)), ("C", 16_000_000, ((1, 2),))]
     assert [plan.epochs_of(scan) for scan in plan.scans] == [11 + 6, 6]
-    assert [plan.samples_of(plan.scans[0], epochs) for epochs in (0, 10, 11, 12, 17)] == [0, 30_000_000, 32_000_000, 35_000_000, 48_000_000]
     assert [scan.name for scan in jobs.plan(job + b"take C\n", schedule).scans] == ["C"]
+
+
+def test_the_epochs_of_a_job_one_by_one() -> None:
+    """Scans of 7, 0 and 3 samples in integrations of 5."""
+    scans = (("A", 7), ("B", 0), ("C", 3))
+    plan = jobs.Plan(4, 5, 2, ("Ef", "Wb"), (("X", "X"),), tuple(jobs.Scan(name, samples, ((0, 1),)) for name, samples in scans))
+    cuts = {
+        1: [(0, 0, 0, 1), (0, 0, 1, 2), (0, 0, 2, 3), (0, 0, 3, 4), (0, 0, 4, 5), (0, 1, 5, 6), (0, 1, 6, 7), (2, 0, 0, 1), (2, 0, 1, 2), (2, 0, 2, 3)],
+        2: [(0, 0, 0, 2), (0, 0, 2, 4), (0, 0, 4, 5), (0, 1, 5, 7), (2, 0, 0, 2), (2, 0, 2, 3)],
+        3: [(0, 0, 0, 3), (0, 0, 3, 5), (0, 1, 5, 7), (2, 0, 0, 3)],
+        9: [(0, 0, 0, 5), (0, 1, 5, 7), (2, 0, 0, 3)],
+    }
+    for epoch, due in cuts.items():
+        by, place, found = plan.by(epoch), plan.first(), []
+        assert by.epochs == by.left(place) == len(due)
+        while place is not None:
+            found.append(by.cut(place))
+            place = by.after(found[-1])
+            assert by.left(place) == len(due) - len(found)
+        assert found == due
+    # behind an epoch of another length, in the midst of an integration
+    assert [plan.by(epoch).left(jobs.Place(0, 0, 1)) for epoch in (None, 1, 3, 9)] == [5, 9, 4, 3]
+    assert plan.by(None) is plan and plan.left(None) == 0 and plan.first(3) is None
 
 
 @pytest.mark.parametrize("job, schedule, said", [

@@ -52,15 +52,15 @@ def test_a_good_job_has_no_finding(folder: Path) -> None:
     assert found() == []
     asked = joined.read("job.txt", "sky.vex")
     night = coverage.Night(asked)
-    assert list(linting.tables(night)) == [
+    assert list(linting.tables(night, MACHINE)) == [
         "recording Ef.vdif of Ef: 8 slots, 2010y001d00h00m00s to 2010y001d00h00m02s",
         "recording Wb.vdif of Wb: 8 slots, 2010y001d00h00m00s to 2010y001d00h00m02s",
         # Wb is read 80 samples later, of 160,000
         "scan No0001 2010y001d00h00m00s Ef: of 160000 samples CH01 100 %",
         "scan No0001 2010y001d00h00m00s Wb: of 160000 samples CH01 99.95 %",
         "slots 16 of 67108864",
-        # 64 lags of 24 bytes in 16 integrations, and a gate, or 21 bytes of the record's place
-        f"epochs 16, journal {16 * (64 * 24 + 1)} bytes, records {16 * (64 * 24 + 21)} bytes",
+        # 64 lags of 24 bytes in 16 integrations, and a gate and 28 bytes of the range, or 21 bytes of the record's place
+        f"epochs 16, journal {16 * (64 * 24 + 1 + 28)} bytes, records {16 * (64 * 24 + 21)} bytes",
     ]
 
 
@@ -183,7 +183,7 @@ def test_a_job_of_too_many_slots_is_split(folder: Path, monkeypatch: pytest.Monk
 
 def test_a_disk_that_is_too_small(folder: Path) -> None:
     assert found(linting.Machine(1, free=49_000)) == [
-        "job.txt:2: records of 24912 bytes and a journal of 24592 bytes are more than the 49000 that are free here\n"
+        "job.txt:2: records of 24912 bytes and a journal of 25040 bytes are more than the 49000 that are free here\n"
         "    take a longer `integration` and `epoch`, fewer lags, or some scans by `take` lines; or work on another disk",
     ]
 
@@ -194,6 +194,18 @@ def test_epochs_of_which_the_syncs_dominate(folder: Path) -> None:
     # 1,600 epochs; 100 samples of one baseline at 64 lags
     assert said[0].startswith("job.txt:3: an epoch of 100 samples is summed in some 0.0016 ms, and keeping each of the 1600 in the journal takes some 10 ms")
     assert "write: epoch 10000" in said[0]
+
+
+def test_epochs_of_another_length_than_the_jobs(folder: Path) -> None:
+    asked = joined.read("job.txt", "sky.vex")
+    machine = linting.Machine(1, epoch=4000)
+    assert list(linting.tables(coverage.Night(asked), machine))[-1].startswith(f"epochs 48, journal {48 * (64 * 24 + 1 + 28)} bytes, ")
+    # an integration has 10,000 samples: the line of the job is not to blame, nor is it what is changed
+    assert found(machine) == [
+        "job.txt: an integration of 10000 samples is no whole number of epochs: the last one of each has 2000\n    write: --epoch 2500",
+    ]
+    assert found(linting.Machine(1, epoch=10_000)) == []
+    assert found(linting.Machine(1, epoch=100))[0].endswith("write: --epoch 10000")
 
 
 def test_a_job_that_states_its_scans(folder: Path) -> None:

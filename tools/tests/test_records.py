@@ -1,4 +1,4 @@
-"""`vlbi.records`: record files and journals."""
+"""`vlbi.records`: record files."""
 from __future__ import annotations
 
 import os
@@ -13,7 +13,6 @@ import program
 import pytest
 import record_files
 
-from vlbi import job as jobs
 from vlbi import records
 from vlbi.faults import Fault
 
@@ -171,70 +170,3 @@ def test_gen_says_what_the_manual_says() -> None:
     told = b"records 24\nbytes 19088\npairs 116732006\nre -55854\nim -3582\n"
     for workers, piece in (("1", "64"), ("3", "1000")):
         assert program.call("journal", "gen", "--seed", "7", "--seconds", "2", "--workers", workers, "--piece", piece) == (0, told, b"")
-
-
-@pytest.mark.parametrize("folder, job, schedule", [
-    (DEMO, "job.txt", None),
-    (RUNS, "growing.txt", None),
-    (RUNS, "two_integrations.txt", None),
-    (RUNS, "three_stations.txt", "three_stations.vex"),
-    (DEMO, "sky.txt", "sky.vex"),
-])
-def test_a_journal_at_each_of_its_epochs(folder: Path, job: str, schedule: str | None, tmp_path: Path) -> None:
-    """As `status` and `journal` see it."""
-    program.needs("run")
-    for name in {*os.listdir(DEMO), *os.listdir(RUNS)}:
-        os.symlink((DEMO if (DEMO / name).exists() else RUNS) / name, tmp_path / name)
-    words = ["--job", job] + (["--vex", schedule] if schedule else [])
-    assert program.call("journal", "run", *words, "--workers", "2", "--piece", "64", folder=tmp_path)[0] == 0
-    path = tmp_path / "journal"
-    kept = path.read_bytes()
-    whole = records.journal(str(path))
-    assert whole.whole and whole.kept_samples == whole.samples
-    assert whole.job == (folder / job).read_bytes()
-    for size in range(len(kept), max(len(kept) - 600, 0), -7):
-        path.write_bytes(kept[:size])
-        status, line, _ = program.call("journal", "status", *words, folder=tmp_path)
-        if status == 10:
-            with pytest.raises(records.JournalFault):
-                records.journal(str(path))
-        elif size > 1:
-            assert (status, line) == (0, f"{records.journal(str(path))}\n".encode())
-    seen = set()
-    for gate in gates(whole, len(kept)):
-        path.write_bytes(kept[:gate] + b"\0" + kept[gate + 1:])
-        line = f"{records.journal(str(path))}\n".encode()
-        assert program.call("journal", "status", *words, folder=tmp_path) == (0, line, b"")
-        seen.add(line)
-    assert whole.epochs is not None and len(seen) == whole.epochs + 1
-
-
-def gates(journal: records.Journal, size: int) -> list[int]:
-    """The places of the gates of a whole journal of so many bytes."""
-    plan = jobs.plan(journal.job, journal.schedule)
-    bodies = [24 * plan.lags * len(plan.products) * len(scan.baselines) for scan in plan.scans for _ in range(plan.epochs_of(scan))]
-    places = [33 + 8 * len(journal.recordings) + len(journal.schedule) + len(journal.job)]
-    for body in bodies:
-        places.append(places[-1] + 1 + body)
-    assert places[-1] == size - 1
-    return places
-
-
-def test_a_journal_made_by_hand(tmp_path: Path) -> None:
-    """By docs/FORMATS.md: the job of demo/, with as many epochs of its cells as are kept."""
-    job = (DEMO / "job.txt").read_bytes().replace(b"epoch 64", b"epoch 16")
-    assert b"epoch 16" in job
-    identity = b"VLBIJRN1" + struct.pack("<QQQ", 0, len(job), 2) + struct.pack("<QQ", 80, 80) + job
-    path = tmp_path / "journal"
-    for kept in range(5):
-        path.write_bytes(b"\1" + identity + b"".join(b"\1" + bytes(48) for _ in range(kept)) + b"\0")
-        found = records.journal(str(path))
-        assert str(found) == f"{kept} of 4 epochs kept"
-        assert (found.kept_samples, found.samples, found.recordings, found.whole) == (16 * kept, 64, (80, 80), kept == 4)
-
-
-def test_blank_journals(tmp_path: Path) -> None:
-    path = tmp_path / "journal"
-    for content in (b"", b"\1", b"\7" + 300 * b"\xff"):
-        path.write_bytes(content)
-        assert str(records.journal(str(path))) == "a blank journal"

@@ -38,10 +38,10 @@ journal, words = sys.argv[1], sys.argv[2:]
 print(" ".join(words), flush=True)
 job = open(words[words.index("--job") + 1], "rb").read()
 with open(journal, "wb") as file:
-    file.write(b"\\1VLBIJRN1" + struct.pack("<QQQQQ", 0, len(job), 2, 80, 80) + job + b"\\0")
-    for _ in range(int(os.environ.get("KEEP", "0"))):
+    file.write(b"\\1VLBIJRN2" + struct.pack("<QQQQQ", 0, len(job), 2, 80, 80) + job + b"\\0")
+    for number in range(int(os.environ.get("KEEP", "0"))):
         file.seek(-1, 2)
-        file.write(b"\\1" + bytes({CELLS}) + b"\\0")
+        file.write(b"\\1" + struct.pack("<IQQQ", 0, number // 2, 500 * number, 500 * number + 500) + bytes({CELLS}) + b"\\0")
         file.flush()
 print(os.environ.get("NOTE", ""), end="", file=sys.stderr, flush=True)
 if os.environ.get("WAIT"):
@@ -73,6 +73,20 @@ def test_words_are_handed_on_and_chosen(folder: Path, capfd: pytest.CaptureFixtu
     assert run.main(["--program", "./vlbi", "--quiet", "j", "run", "--job=job.txt", "--job", "b", "--fly"]) == 0
     workers = len(os.sched_getaffinity(0))
     assert capfd.readouterr() == (f"run --job job.txt --job b --fly --workers {workers} --piece 4096\n", "")
+
+
+def test_epochs_of_another_length(folder: Path, capfd: pytest.CaptureFixture[str], monkeypatch: pytest.MonkeyPatch) -> None:
+    # 2,000 samples of 4,000 are kept; 100 at a time, 20 are left
+    monkeypatch.setenv("KEEP", "4")
+    assert run.main(["--program", "./vlbi", "j", "--job", "job.txt", "--epoch", "100", "--workers", "1"]) == 0
+    said = capfd.readouterr()
+    assert said.out == "run --job job.txt --epoch 100 --workers 1 --piece 4096\n"
+    assert said.err.startswith("vlbi-run: 4 of 24 epochs kept")
+    # the program says what is wrong with a number, and the job's own line counts for what is shown
+    for word in ("0", "x", "4194305"):
+        run.main(["--program", "./vlbi", "j", "--job", "job.txt", "--epoch", word, "--workers", "1"])
+        said = capfd.readouterr()
+        assert said.out == f"run --job job.txt --epoch {word} --workers 1 --piece 4096\n" and "vlbi-run: 4 of 8 epochs kept" in said.err
 
 
 def test_a_status_is_handed_on_and_explained(folder: Path, capfd: pytest.CaptureFixture[str], monkeypatch: pytest.MonkeyPatch) -> None:
@@ -107,10 +121,17 @@ def test_no_program(folder: Path, capsys: pytest.CaptureFixture[str], monkeypatc
 
 # Progress
 
-def journal(path: Path, kept: int, job: bytes = JOB) -> None:
+def journal(path: Path, kept: int, job: bytes = JOB, epoch: int = 500) -> None:
     """A journal of the job that keeps so many epochs."""
-    identity = b"\1VLBIJRN1" + struct.pack("<QQQQQ", 0, len(job), 2, 80, 80) + job
-    path.write_bytes(identity + (b"\1" + bytes(CELLS)) * kept + b"\0")
+    identity = b"\1VLBIJRN2" + struct.pack("<QQQQQ", 0, len(job), 2, 80, 80) + job
+    begins = (epoch * number for number in range(kept))
+    records = (b"\1" + struct.pack("<IQQQ", 0, begin // 1000, begin, begin + epoch) + bytes(CELLS) for begin in begins)
+    path.write_bytes(identity + b"".join(records) + b"\0")
+
+
+def old_journal(path: Path, kept: int) -> None:
+    """The same without ranges."""
+    path.write_bytes(b"\1VLBIJRN1" + struct.pack("<QQQQQ", 0, len(JOB), 2, 80, 80) + JOB + (b"\1" + bytes(CELLS)) * kept + b"\0")
 
 
 def test_how_far_it_is(folder: Path) -> None:
@@ -131,6 +152,21 @@ def test_how_far_it_is(folder: Path) -> None:
     journal(folder / "j", 8)
     state = one.look(70.0)
     assert state is not None and state.whole and "left" not in state.words
+
+
+def test_how_far_it_is_by_other_epochs(folder: Path) -> None:
+    """Of 4,000 samples 400 are kept, 100 at a time; 3,600 are left: an epoch of 600 samples to the end of the integration, and three integrations."""
+    journal(folder / "j", 4, epoch=100)
+    for epoch, epochs in ((None, 4 + 2 + 6), (100, 40), (400, 4 + 2 + 9), (4194304, 4 + 1 + 3)):
+        state = progress.Watch("j", epoch=epoch).look(0.0)
+        assert state is not None and state.front == f"4 of {epochs} epochs kept"
+
+
+def test_how_far_an_old_journal_is(folder: Path) -> None:
+    old_journal(folder / "j", 3)
+    for epoch, front in ((None, "3 of 8 epochs kept"), (100, "3 of 28 epochs kept")):
+        state = progress.Watch("j", epoch=epoch).look(0.0)
+        assert state is not None and state.front == front
 
 
 def test_a_speed_is_that_of_the_last_minute(folder: Path) -> None:
@@ -171,6 +207,8 @@ def test_watching(folder: Path, capsys: pytest.CaptureFixture[str]) -> None:
     journal(folder / "j", 3)
     assert watch.main(["--once", "j"]) == 0
     assert capsys.readouterr().out == "3 of 8 epochs kept\n"
+    assert watch.main(["--once", "--epoch", "1000", "j"]) == 0
+    assert capsys.readouterr().out == "3 of 6 epochs kept\n"
     journal(folder / "j", 8)
     assert watch.main(["j"]) == 0
     assert capsys.readouterr().err == "vlbi-watch: 8 of 8 epochs kept\n"
@@ -214,6 +252,9 @@ WORDS = [
     (("run", "--job", "a", "--workers", "65", "--piece", "64"), ["--workers 65: it is a whole number, 1 to 64"]),
     (("run", "--job", "a", "--workers", "x", "--piece", "63"), [
         "--workers x: it is a whole number, 1 to 64", "--piece 63: it is a whole number, 64 to 4194304"]),
+    (("check", "--job", "a", "--epoch", "4194305"), ["--epoch 4194305: it is a whole number, 1 to 4194304"]),
+    (("plain", "--job", "a", "--epoch", "64"), [
+        "`--epoch` is no option of `plain`: --job, --vex", "`64` is no option of `plain`: --job, --vex"]),
     (("plain", "--job", "a", "--job", "b"), ["--job is given 2 times"]),
     (("plain", "--jbo", "a"), [
         "--job is missing", "`--jbo` is no option of `plain`: --job, --vex; is `--job` meant?", "`a` is no option of `plain`: --job, --vex"]),
@@ -328,7 +369,8 @@ def test_files_and_limits(folder: Path) -> None:
     (folder / "c.vdif").mkdir()
     assert refusal.why_not("c.vdif") == ["c.vdif: Is a directory"]
     assert told(6, "vlbi: limit: load 400000000") == [
-        "load 400000000: the greatest is 268435456", "take a shorter `epoch`: stations times channels times its samples may come to that"]
+        "load 400000000: the greatest is 268435456",
+        "take a shorter epoch, by `--epoch` or in the job: stations times channels times its samples may come to that"]
     assert told(8, "vlbi: journal fault", journal="none/j") == ["none/j: there is no folder none"]
     assert told(5, "vlbi: records: Short at byte 160", "dump", "a.vis")[0].startswith("it is cut off")
     assert told(0, "") == []
@@ -337,7 +379,12 @@ def test_files_and_limits(folder: Path) -> None:
 def test_the_journal_of_another_job(folder: Path) -> None:
     journal(folder / "j", 3, JOB.replace(b"epoch 500", b"epoch 250"))
     assert told(10, "vlbi: other journal at byte 77: kept 32, ours 35") == [
-        "the job differs in line 3:", "    job.txt: epoch 500", "    the journal's: epoch 250", "Name another journal, or remove this one to begin anew."]
+        "the job differs in line 3:", "    job.txt: epoch 500", "    the journal's: epoch 250",
+        "epochs of another length need no other job: leave that line as the journal has it, and call with --epoch",
+        "Name another journal, or remove this one to begin anew."]
+    journal(folder / "j", 3, JOB.replace(b"lags 4", b"lags 8"))
+    assert told(10, "vlbi: other journal at byte 54: kept 38, ours 34") == [
+        "the job differs in line 1:", "    job.txt: lags 4", "    the journal's: lags 8", "Name another journal, or remove this one to begin anew."]
     journal(folder / "j", 3)
     (folder / "b.vdif").write_bytes(bytes(120))
     assert told(10, "vlbi: other journal at byte 33")[0] == "the recording b.vdif has 120 bytes, and had 80 when the journal was begun"

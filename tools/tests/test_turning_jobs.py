@@ -15,7 +15,8 @@ def test_random_jobs_whose_fringes_turn() -> None:
     """They are the last lines of the table, and what is printed for them are its last answers."""
     lines = turning_jobs.lines()
     answers = turning_jobs.answers(lines)
-    assert len(answers) == 2 * turning_jobs.PULSED + 3 * (len(turning_jobs.ROWS) - turning_jobs.PULSED)
+    pulsed = len(turning_jobs.ROWS) - turning_jobs.PULSED
+    assert len(answers) == 2 * turning_jobs.PULSED + 4 * pulsed + (2 * turning_jobs.RESTARTS + 1) * len(turning_jobs.ROWS)
     assert (CASES / "stdin").read_text().splitlines()[-len(lines) :] == lines
     assert (CASES / "stdout").read_text().splitlines()[-len(answers) :] == answers
 
@@ -37,7 +38,6 @@ def test_the_other_jobs_that_state_their_scans() -> None:
             assert begun[:-2] + whole_calls.told(*by_definition.records(job, there)) in answers
             found += 1
     assert found > 80
-
 
 
 def test_the_other_bins_of_jobs_that_state_their_scans() -> None:

@@ -14,11 +14,13 @@ from dataclasses import dataclass
 
 import by_definition
 import whole_calls
+import whole_journals
 
 FIRST = "# Random jobs whose fringes turn: tools/tests/turning_jobs.py writes these lines, and what is printed for them by the definitions."
 MOST = 6_500_000  # samples times lags, products and baselines of all cases
 YEAR = by_definition.second_of("2010y001d00h00m00s")
 KINDS = ("missing", "invalid", "invalid and good", "doubled", "foreign", "late")  # of a frame that is not as it should be
+RESTARTS = 2  # of the journal of each job
 KNOTS = (1, 2, 7, 10, 33, 100, 333, 1000, 4096)  # samples
 SKY_KNOTS = (7, 33, 1000, 32768, 1000000)
 
@@ -275,9 +277,10 @@ def frames_line(run: list[tuple[int, int]], fields: str, seed: int) -> str:
 
 def case_lines(number: int) -> Iterator[str]:
     of = row(number)
+    text = list(job_lines(of))
     turns = " and ".join(f"every {turn}" if turn else "never" for turn in of.turns)
     yield f"case random job {number + 1}, {of.lags} lags, {of.samples} samples, sectors that turn {turns}"
-    yield from (f"| {line}" for line in job_lines(of))
+    yield from (f"| {line}" for line in text)
     yield "file j"
     for station, recorded in enumerate(of.shapes):
         yield from recording_lines(of, recorded, station)
@@ -286,14 +289,44 @@ def case_lines(number: int) -> Iterator[str]:
         yield "file p"
     yield "call |plain|--job|j"
     if number < PULSED:
-        yield f"call |run|--job|j|{threads(of)}"
+        yield f"call |run|--job|j|{threads(of.draw)}"
     else:
-        yield from (f"call |bins|--job|j|--phase|p|{threads(of)}" for _ in range(2))
+        yield from (f"call |bins|--job|j|--phase|p|{threads(of.draw)}" for _ in range(2))
+    yield from restart_lines(number, "".join(f"{line}\n" for line in text))
 
 
-def threads(of: Row) -> str:
+def threads(draw: random.Random) -> str:
     """How the sums of a call are shared out."""
-    return f"--workers|{of.draw.choice((1, 2, 3, 64))}|--piece|{of.draw.choice((64, 100, 127, 1000, 4096, 4194304))}"
+    return f"--workers|{draw.choice((1, 2, 3, 64))}|--piece|{draw.choice((64, 100, 127, 1000, 4096, 4194304))}"
+
+
+def restart_lines(number: int, text: str) -> Iterator[str]:
+    """The job's journal is cut back and carried on, each time by epochs of another length. What a stop leaves is its front up to a gate that is
+    closed, and maybe bytes behind it."""
+    draw = random.Random(f"restarts {number}")
+    job = whole_journals.SummedJob(text.encode())
+    epochs = job.walk(job.first(), job.epoch)
+    if number >= PULSED:
+        epochs = job.walk(job.first(), samples := a_length(draw, job))
+        yield f"call |run|--job|j|--epoch|{samples}|{threads(draw)}"
+    for restart in range(1, RESTARTS + 1):
+        kept = epochs[: draw.randrange(len(epochs))]
+        samples = a_length(draw, job)
+        yield f"keep R{number + 1}-{restart}"
+        yield f"use R{number + 1}-{restart}"
+        yield f"cut {job.size(kept) - 1}"
+        yield f"bytes {draw.choice(('00', 'FF'))}{draw.choice(('', ',00*9', ',01*40', ',07*400', ',FF*70'))}"
+        yield "journal"
+        yield f"call |status|--job|j|--epoch|{samples}"
+        yield f"call |run|--job|j|--epoch|{samples}|{threads(draw)}"
+        epochs = kept + job.walk(job.after(kept[-1]) if kept else job.first(), samples)
+    yield "show"
+
+
+def a_length(draw: random.Random, job: whole_journals.SummedJob) -> int:
+    """Of the epochs of a job of one scan: so that the scan has no more than some twenty."""
+    samples = job.scans[0].samples
+    return draw.choice((draw.randint(samples // 20, samples // 5), draw.randint(samples // 5, samples), job.integration, 4194304))
 
 
 def lines() -> list[str]:
@@ -313,14 +346,22 @@ def answers(asked: list[str]) -> list[str]:
     """What is printed for these lines."""
     found: list[str] = []
     work = 0
-    for name, texts, _, words in whole_calls.Table().calls(asked):
+    table = whole_calls.Table()
+    for name, texts, word, words in table.calls(asked):
+        if word == "show":
+            found.append(f"{name}, journal: {whole_journals.shown(table.journal)}")
+            continue
         if words[0] == "plain":
+            summed = whole_journals.SummedJob(texts["j"], texts)
             job = by_definition.Job(texts["j"].decode())
             work += sum(scan.samples for scan in job.scans) * job.numbers["lags"] * len(job.products) * len(by_definition.baselines(job))
             records, cells = by_definition.records(job, texts)
             told = whole_calls.told(records, cells)
             told_bins = binned(job, texts, cells) if "p" in texts else ""
-        found.append(f"{name}: {told_bins if words[0] == 'bins' else told}")
+        answer = told_bins if words[0] == "bins" else told
+        if words[0] in ("run", "status"):
+            answer, _, table.journal = whole_journals.call(summed, table.journal, words, told)
+        found.append(f"{name}: {answer}")
     assert work < MOST, work
     return found
 

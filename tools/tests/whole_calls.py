@@ -59,27 +59,31 @@ def frames(text: str, count: int) -> bytes:
 
 @dataclass
 class Table:
-    """The bytes so far, the pieces, the files of all cases, and the name and files of the last case."""
+    """The bytes so far, the pieces, the files of all cases, and the name, the files and the journal of the last case. What calls leave of the
+    journal is for who asks for them to say."""
 
     text: bytes = b""
     name: str = ""
     pieces: Files = field(default_factory=dict)
     common: Files = field(default_factory=dict)
     files: Files = field(default_factory=dict)
+    journal: bytes = b""
 
     def calls(self, lines: Iterable[str]) -> Iterator[tuple[str, Files, str, list[str]]]:
-        """The name and the files of the case of each line that makes calls, the line's first word, and the parts between its bars."""
+        """The name and the files of the case of each line that makes calls or shows the journal, its first word, and the parts between its bars."""
         for line in lines:
             word, _, rest = line.partition(" ")
             if word == "case":
-                self.name, self.files = rest, {}
-            elif word in ("call", "count", "runs"):
+                self.name, self.files, self.journal = rest, {}, b""
+            elif word in ("call", "count", "runs", "show"):
                 yield self.name, {**self.common, **self.files}, word, rest.split("|")[1:]
             elif word in ("piece", "common", "file"):
                 {"piece": self.pieces, "common": self.common, "file": self.files}[word][rest] = self.text
                 self.text = b""
             elif word == "journal":
-                self.text = b""
+                self.journal, self.text = self.text, b""
+            elif word == "keep":
+                self.pieces[rest] = self.journal
             elif line and word != "#":
                 self.describe(word, rest)
 
@@ -97,7 +101,7 @@ class Table:
         elif word == "frames":
             self.text += frames(behind, int(count))
         elif word == "use":
-            self.text += b"".join(self.pieces.get(name, b"") for name in rest.split())  # of a journal that was kept nothing is known
+            self.text += b"".join(self.pieces[name] for name in rest.split())
         elif word == "cut":
             self.text = self.text[: int(rest)]
         elif word == "change":

@@ -68,15 +68,16 @@ fn order_of(alloc: Global, order: &Order) -> Result<String> {
         Order::Run {
             job,
             vex,
+            epoch,
             workers,
             piece,
         } => {
-            let names = names_of(alloc, "run", job, vex)?;
+            let names = cut_of(alloc, "run", job, vex, epoch)?;
             Ok(format!(in alloc; "{names} workers {workers} piece {piece}")?)
         }
         Order::Plain { job, vex } => names_of(alloc, "plain", job, vex),
-        Order::Check { job, vex } => names_of(alloc, "check", job, vex),
-        Order::Status { job, vex } => names_of(alloc, "status", job, vex),
+        Order::Check { job, vex, epoch } => cut_of(alloc, "check", job, vex, epoch),
+        Order::Status { job, vex, epoch } => cut_of(alloc, "status", job, vex, epoch),
         Order::Dump { file } => Ok(format!(in alloc;
             "dump file \"{}\"",
             text_of(file)?.escape_debug()
@@ -123,6 +124,21 @@ fn names_of(alloc: Global, command: &str, job: &Name, vex: &Option<Name>) -> Res
     let mut words = format!(in alloc; "{command} job \"{}\"", text_of(job)?.escape_debug())?;
     if let Some(vex) = vex {
         write!(words, " vex \"{}\"", text_of(vex)?.escape_debug())?;
+    }
+    Ok(words)
+}
+
+// The same, and the samples of an epoch.
+fn cut_of(
+    alloc: Global,
+    command: &str,
+    job: &Name,
+    vex: &Option<Name>,
+    epoch: &Option<u64>,
+) -> Result<String> {
+    let mut words = names_of(alloc, command, job, vex)?;
+    if let Some(epoch) = epoch {
+        write!(words, " epoch {epoch}")?;
     }
     Ok(words)
 }

@@ -1,9 +1,9 @@
-"""Journals whose records carry their range, by the bytes of their files alone: what is printed for the table `crates/ranged_cases`.
+"""Journals, by the bytes of their files alone: what is printed for the table `crates/journal_cases`.
 
 It has the form of a file, what an opening and an append write and when they sync, and what a crash may leave. It shares no line with the
 program and needs nothing beside Python.
 
-    ranged_journals.py < crates/ranged_cases/stdin > crates/ranged_cases/stdout
+    checkpoint_journals.py < crates/journal_cases/stdin > crates/journal_cases/stdout
 """
 from __future__ import annotations
 

@@ -13,19 +13,20 @@ from __future__ import annotations
 import dataclasses
 import fractions
 from collections.abc import Callable, Iterable, Sequence
-from typing import Union
+from typing import NamedTuple, Union
 
 from vlbi import vex
 from vlbi.faults import Fault
 from vlbi.vex import second_of as second_of
 from vlbi.vex import vex_time as vex_time
 
-KNOT = 32768         # the job's knot where it has no line `knot`
-KNOTS = 2 ** 24      # for which a polynomial counts
+KNOT = 32768          # the job's knot where it has no line `knot`
+KNOTS = 2 ** 24       # for which a polynomial counts
 MOST_TERMS = 6
-MOST_POLY = 2 ** 58  # of the sum of the magnitudes of a `poly` line, and of a `phase` line
-TURN = 2 ** 32       # the units of a `phase` line in a turn
-MJD_1970 = 40587     # the modified julian date of 1970-01-01
+MOST_POLY = 2 ** 58   # of the sum of the magnitudes of a `poly` line, and of a `phase` line
+TURN = 2 ** 32        # the units of a `phase` line in a turn
+MOST_EPOCH = 2 ** 22  # samples of an epoch
+MJD_1970 = 40587      # the modified julian date of 1970-01-01
 
 Number = Union[float, str, fractions.Fraction]  # a text stands for the number that it writes
 
@@ -216,6 +217,23 @@ def exact(number: Number) -> fractions.Fraction:
     return fractions.Fraction(str(number))
 
 
+class Place(NamedTuple):
+    """A sample of an integration of a scan, at which an epoch begins: the numbers of the scan and of the integration, and the sample in the scan."""
+
+    scan: int
+    integration: int
+    sample: int
+
+
+class Epoch(NamedTuple):
+    """The samples from `begin` up to, not including, `end` of an integration of a scan, by the numbers of both."""
+
+    scan: int
+    integration: int
+    begin: int
+    end: int
+
+
 @dataclasses.dataclass(frozen=True)
 class Scan:
     """A scan of a plan: its name, its length in samples, its baselines as pairs of numbers of the job's stations."""
@@ -242,15 +260,44 @@ class Plan:
     products: tuple[tuple[str, str], ...]
     scans: tuple[Scan, ...]
 
-    def epochs_of(self, scan: Scan) -> int:
-        """The number of epochs of a scan."""
-        whole, rest = divmod(scan.samples, self.integration)
+    def by(self, epoch: int | None) -> Plan:
+        """The plan with epochs of so many samples, as `--epoch` of the program asks for; the same one where there is no number."""
+        return self if epoch is None else dataclasses.replace(self, epoch=epoch)
+
+    def first(self, scan: int = 0) -> Place | None:
+        """The first sample from the scan of this number on; None where there is no further one."""
+        return next((Place(number, 0, 0) for number in range(scan, len(self.scans)) if self.scans[number].samples), None)
+
+    def integration_end(self, place: Place) -> int:
+        """The end of a place's integration."""
+        return min((place.integration + 1) * self.integration, self.scans[place.scan].samples)
+
+    def cut(self, place: Place) -> Epoch:
+        """The epoch that begins at a place: it has the plan's length, or ends with its integration."""
+        return Epoch(*place, min(place.sample + self.epoch, self.integration_end(place)))
+
+    def after(self, epoch: Epoch) -> Place | None:
+        """The place behind an epoch; None behind the last one of the job."""
+        if epoch.end == self.scans[epoch.scan].samples:
+            return self.first(epoch.scan + 1)
+        return Place(epoch.scan, epoch.integration + (epoch.end == (epoch.integration + 1) * self.integration), epoch.end)
+
+    def left(self, place: Place | None) -> int:
+        """The number of epochs of the plan's length from a place to the end of the job."""
+        if place is None:
+            return 0
+        end = self.integration_end(place)
+        behind = self.epochs_in(self.scans[place.scan].samples - end)
+        return -(-(end - place.sample) // self.epoch) + behind + sum(map(self.epochs_of, self.scans[place.scan + 1:]))
+
+    def epochs_in(self, samples: int) -> int:
+        """The number of epochs of so many samples, from the begin of an integration on."""
+        whole, rest = divmod(samples, self.integration)
         return whole * -(-self.integration // self.epoch) - (-rest // self.epoch)
 
-    def samples_of(self, scan: Scan, epochs: int) -> int:
-        """The samples in so many first epochs of a scan."""
-        whole, more = divmod(epochs, -(-self.integration // self.epoch))
-        return min(whole * self.integration + more * self.epoch, scan.samples)
+    def epochs_of(self, scan: Scan) -> int:
+        """The number of epochs of a scan."""
+        return self.epochs_in(scan.samples)
 
     def cells_of(self, scan: Scan) -> int:
         """The cells of an epoch of a scan: baselines times products times lags."""

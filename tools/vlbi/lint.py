@@ -20,7 +20,7 @@ from vlbi import recording, refusal, rotation, vex, words, work
 from vlbi.coverage import Night, moment
 from vlbi.joined import Asked, Line, Scan, Stay
 from vlbi.recording import Recording
-from vlbi.records import CELL, PLACE
+from vlbi.records import CELL, PLACE, RANGE
 
 SECTOR = 4            # samples: a sector that lasts less is turned too fast
 EARTH = 1.6e-6        # seconds a second: a delay against the earth's centre grows by less
@@ -55,6 +55,7 @@ class Machine:
     """On what the job will run.
 
     workers  threads, and `piece` the samples of a piece; 0 where it is chosen
+    epoch    the samples of an epoch by the option; 0 where those of the job's own line count
     known    how well clocks are known, in microseconds
     free     the bytes that are free where records and journal are written; None where nobody knows
     """
@@ -63,13 +64,26 @@ class Machine:
     piece: int = 0
     known: float = 1.0
     free: int | None = None
+    epoch: int = 0
+
+    def plan(self, asked: Asked) -> jobs.Plan:
+        """What the job comes to, by the epochs that it will have."""
+        return asked.plan.by(self.epoch or None)
+
+    def line(self, asked: Asked) -> Line | None:
+        """The line of the job that says how long these are."""
+        return None if self.epoch else asked.line_of("epoch")
+
+    def write(self, epoch: int) -> str:
+        """What to write so that they have so many samples."""
+        return f"write: {'--epoch' if self.epoch else 'epoch'} {epoch}"
 
 
 def findings(night: Night, machine: Machine) -> Iterator[Finding]:
     """All that is to be looked at, from the job's lines to the disk."""
     asked = night.asked
     rows: tuple[Callable[[], Iterator[Finding]], ...] = (
-        lambda: epochs(asked), lambda: lags(asked, machine), lambda: syncs(asked, machine), lambda: pieces(asked, machine),
+        lambda: epochs(asked, machine), lambda: lags(asked, machine), lambda: syncs(asked, machine), lambda: pieces(asked, machine),
         lambda: clocks(asked), lambda: missing_models(asked), lambda: joints(night), lambda: sectors(night),
         lambda: slots(night), lambda: files(night), lambda: places(night), lambda: coverage(night), lambda: pairs(night),
         lambda: disk(asked, machine),
@@ -90,13 +104,13 @@ def of_line(asked: Asked, line: Line | None, what: str, instead: str = "") -> Fi
 
 # Numbers of the job
 
-def epochs(asked: Asked) -> Iterator[Finding]:
+def epochs(asked: Asked, machine: Machine) -> Iterator[Finding]:
     """An integration that is no whole number of epochs."""
-    plan, line = asked.plan, asked.line_of("epoch")
+    plan = machine.plan(asked)
     if plan.integration % min(plan.epoch, plan.integration):
         last = plan.integration % plan.epoch
-        yield of_line(asked, line, f"an integration of {plan.integration} samples is no whole number of epochs: the last one of each has {last}",
-                      f"write: epoch {work.even_epoch(plan.integration, plan.epoch)}")
+        yield of_line(asked, machine.line(asked), f"an integration of {plan.integration} samples is no whole number of epochs: the last one of each has {last}",
+                      machine.write(work.even_epoch(plan.integration, plan.epoch)))
 
 
 def lags(asked: Asked, machine: Machine) -> Iterator[Finding]:
@@ -113,27 +127,27 @@ def lags(asked: Asked, machine: Machine) -> Iterator[Finding]:
 
 def syncs(asked: Asked, machine: Machine) -> Iterator[Finding]:
     """Epochs that are summed faster than the journal keeps them."""
-    plan = asked.plan
+    plan = machine.plan(asked)
     if plan.epochs * work.SYNCS < 1:
         return
     seconds = work.epoch_seconds(plan, machine.workers)
     if seconds < work.SYNCS:
         epoch = work.good_epoch(plan, asked.rate, len(asked.shapes), machine.workers)
-        instead = f"write: epoch {epoch}" if epoch > plan.epoch else "take a longer `integration` if the residual rate allows it, and an epoch as long"
-        yield of_line(asked, asked.line_of("epoch"), f"an epoch of {plan.epoch} samples is summed in some {seconds * 1e3:.2g} ms, and keeping each of the "
+        instead = machine.write(epoch) if epoch > plan.epoch else "take a longer `integration` if the residual rate allows it, and an epoch as long"
+        yield of_line(asked, machine.line(asked), f"an epoch of {plan.epoch} samples is summed in some {seconds * 1e3:.2g} ms, and keeping each of the "
                       f"{plan.epochs} in the journal takes some {work.SYNCS * 1e3:g} ms", instead)
 
 
 def pieces(asked: Asked, machine: Machine) -> Iterator[Finding]:
     """A piece with which workers idle, or draw more than they sum."""
-    plan, piece = asked.plan, machine.piece
+    plan, piece = machine.plan(asked), machine.piece
     chosen = work.piece(plan, machine.workers)
     many = work.pieces(plan, piece or chosen)
     if many < machine.workers and plan.scans:
         cause = f"a piece of {piece} samples" if piece else f"an epoch of {plan.epoch} samples"
         other = work.pieces(plan, chosen) >= machine.workers
         instead = f"write: --piece {chosen}" if piece and other else f"write: --workers {many}, or a longer `epoch`"
-        yield of_line(asked, asked.line_of("epoch"),
+        yield of_line(asked, machine.line(asked),
                       f"{cause} leaves {machine.workers - many} of {machine.workers} workers idle: an epoch has {many} pieces", instead)
     if piece and piece < work.LEAST_PIECE and chosen > piece:
         yield of_line(asked, None, f"pieces of {piece} samples are so short that workers draw more than they sum", f"write: --piece {chosen}")
@@ -385,24 +399,24 @@ def record_bytes(asked: Asked) -> int:
     return sum(-(-scan.samples // plan.integration) * len(plan.products) * len(scan.baselines) * one for scan in plan.scans)
 
 
-def journal_bytes(asked: Asked) -> int:
-    """The bytes of the journal's epochs."""
-    plan = asked.plan
-    return sum(plan.epochs_of(scan) * (1 + plan.cells_of(scan) * CELL.itemsize) for scan in plan.scans)
+def journal_bytes(plan: jobs.Plan) -> int:
+    """The bytes of the journal's epochs, each with its gate and its range."""
+    return sum(plan.epochs_of(scan) * (1 + RANGE + plan.cells_of(scan) * CELL.itemsize) for scan in plan.scans)
 
 
 def disk(asked: Asked, machine: Machine) -> Iterator[Finding]:
     """Records and journal that are larger than the disk."""
-    total = record_bytes(asked) + journal_bytes(asked)
+    kept = journal_bytes(machine.plan(asked))
+    total = record_bytes(asked) + kept
     if machine.free is not None and total > machine.free:
-        both = f"records of {record_bytes(asked)} bytes and a journal of {journal_bytes(asked)} bytes"
+        both = f"records of {record_bytes(asked)} bytes and a journal of {kept} bytes"
         yield of_line(asked, asked.line_of("integration"), f"{both} are more than the {machine.free} that are free here",
                       "take a longer `integration` and `epoch`, fewer lags, or some scans by `take` lines; or work on another disk")
 
 
 # What there is
 
-def tables(night: Night) -> Iterator[str]:
+def tables(night: Night, machine: Machine) -> Iterator[str]:
     """The recordings with their times, the covered part of each scan, station and channel, and what the run comes to."""
     asked = night.asked
     for key, recordings in night.recordings.items():
@@ -414,4 +428,5 @@ def tables(night: Night) -> Iterator[str]:
             shares = [f"{channel} {night.share(scan, key, channel) * 100:.4g} %" for channel in night.channels]
             yield f"scan {scan.name} {vex.vex_time(scan.start)} {key}: of {stay.end - stay.begin} samples {', '.join(shares)}"
     yield f"slots {night.slots} of {words.MOST_SLOTS}"
-    yield f"epochs {asked.plan.epochs}, journal {journal_bytes(asked)} bytes, records {record_bytes(asked)} bytes"
+    plan = machine.plan(asked)
+    yield f"epochs {plan.epochs}, journal {journal_bytes(plan)} bytes, records {record_bytes(asked)} bytes"

@@ -27,7 +27,7 @@ PREFIXES = ("", "k", "M", "G", "T", "P")
 class State:
     """How far a run is.
 
-    kept, epochs    the epochs that are kept, and all
+    kept, epochs    the epochs that are kept, and these with those that are left
     samples, pairs  a second, the second by baselines, products and lags; None where nothing was kept while it was watched
     times           how much faster that is than the samples were recorded; None where the rate is not known
     left            seconds that are left
@@ -84,12 +84,14 @@ def clock(seconds: float) -> str:
 class Watch:
     """Looks at a journal that grows.
 
-    ours  the texts of job and schedule of which it has to be; any where they are not told
+    ours   the texts of job and schedule of which it has to be; any where they are not told
+    epoch  the samples of an epoch in force; those of the job's own line where they are not told
     """
 
-    def __init__(self, path: str, ours: tuple[bytes, bytes] | None = None) -> None:
+    def __init__(self, path: str, ours: tuple[bytes, bytes] | None = None, epoch: int | None = None) -> None:
         self.follower = Follower(path)
         self.ours = ours
+        self.epoch = epoch
         self.rate: int | None = None
         self.seen: collections.deque[tuple[float, int, int]] = collections.deque()
         self.grown = 0.0  # when an epoch was kept last
@@ -110,7 +112,7 @@ class Watch:
         self.seen.append((now, rows.kept_samples, rows.kept_pairs))
         while len(self.seen) > 2 and self.seen[1][0] < now - WINDOW:
             self.seen.popleft()
-        return self.state(rows.kept, rows.plan.epochs, rows.plan.pairs)
+        return self.state(rows.kept, rows.epochs(self.epoch), rows.plan.pairs)
 
     def state(self, kept: int, epochs: int, all_pairs: int) -> State:
         """The State by what was seen."""

@@ -5,7 +5,7 @@
     scan.cells["re"][integration, product, baseline, lag]
 
 `read` gives a record file's head and cells, `text` the lines that `vlbi JOURNAL dump FILE` prints of it, `journal` how far a
-journal is. `read_bins` gives a text of the cells of a pulse's bins:
+journal is, `kept_epochs` the epochs that it keeps. `read_bins` gives a text of the cells of a pulse's bins:
 
     found = records.read_bins("pulsar.bins")
     found.scans[0].cells["re"][integration, product, baseline, bin, lag]
@@ -15,13 +15,15 @@ Names are texts; a byte that is no UTF-8 is kept as Python keeps it in file name
 """
 from __future__ import annotations
 
+import contextlib
 import dataclasses
 import math
 import mmap
 import os
 import stat
-from collections.abc import Callable, Iterator, Sequence
-from typing import BinaryIO, Protocol, TypeVar, Union
+import struct
+from collections.abc import Iterator, Sequence
+from typing import BinaryIO, TypeVar, Union
 
 import numpy
 from numpy.typing import NDArray
@@ -31,7 +33,11 @@ from vlbi.faults import Fault, PlacedFault
 
 MAGIC = b"VLBIVIS1"
 BINS_MAGIC = b"VLBIBIN1"
-JOURNAL_MAGIC = b"VLBIJRN1"
+JOURNAL_MAGIC = b"VLBIJRN2"      # of a journal whose records have the range of their epoch
+OLD_JOURNAL_MAGIC = b"VLBIJRN1"  # of one whose records have none, up to a mark
+JOURNAL_MAGICS = (JOURNAL_MAGIC, OLD_JOURNAL_MAGIC)
+RANGE = 28                       # bytes of the range of an epoch
+MARK_COUNT = 2 ** 64 - 1         # which no cell has, in place of the first count behind a gate
 AXES = ("integration", "product", "baseline", "lag")
 BIN_AXES = ("integration", "product", "baseline", "bin", "lag")
 CELL = numpy.dtype([("re", "<i8"), ("im", "<i8"), ("count", "<u8")])
@@ -451,12 +457,13 @@ class Journal:
 
     blank         whether it is blank: it keeps nothing, and says nothing of its job
     kept          the epochs that it keeps, the first ones of the job
-    epochs        the epochs of the job, None where it is blank
+    epochs        these, and those that are left behind them, by the length that was asked for; None where it is blank
     kept_samples  the samples of the epochs that it keeps
     samples       the samples of the job's scans, None where it is blank
     job           the job's text, bytes
     schedule      the schedule's text, bytes; empty where there is none
     recordings    the lengths of the recordings in bytes: by the job's stations, and of each by its files
+    next          the place where the next epoch begins, None where it is blank or whole
     """
 
     blank: bool
@@ -467,44 +474,60 @@ class Journal:
     job: bytes = b""
     schedule: bytes = b""
     recordings: tuple[int, ...] = ()
+    next: jobs.Place | None = None
 
     @property
     def whole(self) -> bool:
-        """Whether it keeps every epoch of its job."""
-        return not self.blank and self.kept == self.epochs
+        """Whether what it keeps covers its job."""
+        return not self.blank and self.next is None
 
     def __str__(self) -> str:
         return "a blank journal" if self.blank else f"{self.kept} of {self.epochs} epochs kept"
 
 
-def journal(path: str) -> Journal:
+def journal(path: str, epoch: int | None = None) -> Journal:
     """How far the journal at a path is, a Journal. It may be asked while a `run` works on it; nothing is written.
+
+    epoch  the samples of an epoch in force, as `--epoch` of `run` and `status` says; those of the job's own line where it is left out
 
     JournalFault where the file is not blank and no journal; job.JobFault where its job and schedule cannot be read;
     OSError where the file cannot be read.
     """
-    try:
-        with open(path, "rb") as file:
-            return read_journal(content(file))
-    except Fault as fault:
-        fault.name_file(path)
-        raise
+    with journal_front(path) as front:
+        found = read_identity(front)
+        if found is None:
+            return Journal(blank=True)
+        rows = Rows(found, front.at)
+        rows.go(front)
+        return Journal(False, rows.kept, rows.epochs(epoch), rows.kept_samples, rows.plan.samples, found.job, found.schedule, found.recordings, rows.next)
 
 
-def read_journal(data: Data) -> Journal:
-    """How far the journal of these bytes is."""
-    front = JournalFront(data)
-    found = read_identity(front)
-    if found is None:
-        return Journal(blank=True)
-    rows = ROWS[found.magic](found, front.at)
-    rows.go(front)
-    return Journal(False, rows.kept, rows.plan.epochs, rows.kept_samples, rows.plan.samples, found.job, found.schedule, found.recordings)
+@dataclasses.dataclass(frozen=True, eq=False)
+class KeptEpoch:
+    """An epoch that a journal keeps.
+
+    epoch  its job.Epoch: the numbers of its scan and integration, the sample at which it begins and the one before which it ends
+    cells  an array of the dtype CELL and the shape (P, B, L): products, baselines, and lags from the lowest on. It is read only, and stands
+           on the file.
+    """
+
+    epoch: jobs.Epoch
+    cells: NDArray[numpy.void] = dataclasses.field(repr=False)
+
+
+def kept_epochs(path: str) -> list[KeptEpoch]:
+    """The epochs that the journal at a path keeps, each a KeptEpoch, in the job's order; none where it is blank. Else as `journal`."""
+    with journal_front(path) as front:
+        kept: list[KeptEpoch] = []
+        found = read_identity(front)
+        if found is not None:
+            Rows(found, front.at).go(front, kept)
+        return kept
 
 
 @dataclasses.dataclass(frozen=True)
 class Identity:
-    """What a journal says of its job: its form's mark, the texts of job and schedule, the lengths of the recordings."""
+    """What a journal says of its job: its version's mark, the texts of job and schedule, the lengths of the recordings."""
 
     magic: bytes
     job: bytes
@@ -514,26 +537,34 @@ class Identity:
 
 def identity(path: str) -> Identity | None:
     """The Identity of the journal at a path; None where it is blank. JournalFault where it is no journal."""
-    try:
-        with open(path, "rb") as file:
-            return read_identity(JournalFront(content(file)))
-    except Fault as fault:
-        fault.name_file(path)
-        raise
+    with journal_front(path) as front:
+        return read_identity(front)
 
 
 def read_identity(front: JournalFront) -> Identity | None:
-    """The Identity with which a journal begins; None where it is blank. The first epoch is next then."""
+    """The Identity with which a journal begins; None where it is blank. The first gate is next then."""
     if len(front.data) <= 1 or front.data[0] != 1:
         return None
     front.at = 1
     magic = bytes(front.piece(8))
-    if magic not in ROWS:
+    if magic not in JOURNAL_MAGICS:
         raise JournalFault("another mark", 1)
     lengths = [front.word() for _ in range(3)]
     recordings = tuple(front.word() for _ in range(lengths.pop()))
     schedule, job = (bytes(front.piece(length)) for length in lengths)
     return Identity(magic, job, schedule, recordings)
+
+
+@contextlib.contextmanager
+def journal_front(path: str) -> Iterator[JournalFront]:
+    """The bytes of the journal at a path. A fault that comes of them names it."""
+    with open(path, "rb") as file:
+        front = JournalFront(content(file))
+    try:
+        yield front
+    except Fault as fault:
+        fault.name_file(path)
+        raise
 
 
 class JournalFront(Front):
@@ -547,60 +578,80 @@ class JournalFront(Front):
     def word(self) -> int:
         return int.from_bytes(self.piece(8), "little")
 
+    def range_at(self, plan: jobs.Plan, place: jobs.Place) -> jobs.Epoch:
+        """The next range, of 28 bytes. JournalFault at its first byte that is none of the place, or at its end where no epoch of the job ends so."""
+        ours = struct.pack("<IQQ", *place)
+        for at, one in enumerate(self.data[self.at:self.at + len(ours)]):
+            if one != ours[at]:
+                raise JournalFault("an epoch that is not due", self.at + at)
+        self.piece(len(ours))
+        end = self.word()
+        if not place.sample < end <= min(place.sample + jobs.MOST_EPOCH, plan.integration_end(place)):
+            raise JournalFault("an epoch that is not due", self.at - 8)
+        return jobs.Epoch(*place, end)
 
-class Rows(Protocol):
-    """The epochs of a journal of one form, gone over from the front.
+
+class Rows:
+    """The epochs of a journal, gone over from the front: in the job's order, each behind its gate.
+
+    Where the journal is of the second version, a record begins with the range of its epoch. In one of the first an epoch is that of the job's own
+    line, up to a mark behind which records have their range.
 
     plan          what its job comes to
     kept          the epochs that were found to be kept
     kept_samples  the samples in them
     kept_pairs    the pairs of samples, times lags, of all their baselines and products
-    """
-
-    plan: jobs.Plan
-    kept: int
-    kept_samples: int
-    kept_pairs: int
-
-    def go(self, front: JournalFront) -> None:
-        """Goes on over what is kept by now. JournalFault where it is no journal."""
-
-
-class EpochRows:
-    """The epochs of the first form: in the job's order, each behind its gate.
-
-    at  the place of the next epoch's gate
+    next          the place where the next one begins; None where they cover the job
+    ranged        whether the next record has a range
+    at            the place of the next gate in the file
     """
 
     def __init__(self, found: Identity, at: int) -> None:
         self.plan = jobs.plan(found.job, found.schedule)
-        self.at = at
         self.kept = 0
         self.kept_samples = 0
         self.kept_pairs = 0
-        self.scan = 0    # the number of the next epoch's scan, and the epochs of it that are kept
-        self.in_scan = 0
+        self.next = self.plan.first()
+        self.ranged = found.magic == JOURNAL_MAGIC
+        self.at = at
 
-    def go(self, front: JournalFront) -> None:
+    def epochs(self, epoch: int | None = None) -> int:
+        """The epochs that are kept, and those of so many samples that are left behind them; of the job's own line where no number is given."""
+        return self.kept + self.plan.by(epoch).left(self.next)
+
+    def go(self, front: JournalFront, kept: list[KeptEpoch] | None = None) -> None:
+        """Goes on over what is kept by now, which joins a list, where there is one. JournalFault where it is no journal."""
         front.at = self.at
-        while self.scan < len(self.plan.scans):
-            scan = self.plan.scans[self.scan]
-            size = 1 + self.plan.cells_of(scan) * CELL.itemsize
-            opened = open_gates(front, self.plan.epochs_of(scan) - self.in_scan, size)
-            before = self.plan.samples_of(scan, self.in_scan)
-            self.in_scan += opened
-            self.kept += opened
-            samples = self.plan.samples_of(scan, self.in_scan) - before
-            self.kept_samples += samples
-            self.kept_pairs += samples * self.plan.cells_of(scan)
-            if self.in_scan < self.plan.epochs_of(scan):
-                break
-            self.scan, self.in_scan = self.scan + 1, 0
-        self.at = front.at
+        while self.next is not None and front.at < len(front.data) and front.data[front.at] == 1:
+            front.at += 1
+            if self.ranged or not self.turns(front):
+                self.keep(front, self.next, kept)
+            self.at = front.at
         front.piece(1)
 
+    def turns(self, front: JournalFront) -> bool:
+        """Goes past a mark, behind which records have their range; whether there is one."""
+        if int.from_bytes(front.data[front.at + 16:front.at + 24], "little") != MARK_COUNT:
+            return False
+        front.piece(CELL.itemsize)
+        self.ranged = True
+        return True
 
-ROWS: dict[bytes, Callable[[Identity, int], Rows]] = {JOURNAL_MAGIC: EpochRows}  # by the mark of each form
+    def keep(self, front: JournalFront, place: jobs.Place, kept: list[KeptEpoch] | None) -> None:
+        """Goes past the record of an epoch that begins at a place."""
+        epoch = front.range_at(self.plan, place) if self.ranged else self.plan.cut(place)
+        scan = self.plan.scans[epoch.scan]
+        size = self.plan.cells_of(scan) * CELL.itemsize
+        if len(front.data) - front.at < size:
+            raise JournalFault("the end", len(front.data))
+        if kept is not None:
+            shape = len(self.plan.products), len(scan.baselines), self.plan.lags
+            kept.append(KeptEpoch(epoch, numpy.ndarray(shape, CELL, front.data, front.at)))
+        front.at += size
+        self.kept += 1
+        self.kept_samples += epoch.end - epoch.begin
+        self.kept_pairs += (epoch.end - epoch.begin) * self.plan.cells_of(scan)
+        self.next = self.plan.after(epoch)
 
 
 class Follower:
@@ -626,7 +677,7 @@ class Follower:
                 self.identity = read_identity(front)
                 if self.identity is None:
                     return None
-                self.rows = ROWS[self.identity.magic](self.identity, front.at)
+                self.rows = Rows(self.identity, front.at)
             self.rows.go(front)
         except JournalFault as fault:
             if fault.kind == "the end" and os.path.getsize(self.path) > len(front.data):
@@ -637,15 +688,3 @@ class Follower:
             fault.name_file(self.path)
             raise
         return self.rows
-
-
-def open_gates(front: JournalFront, epochs: int, size: int) -> int:
-    """Goes past the open gates in a row, of at most so many epochs, and their bodies; the number of these gates.
-
-    size  the bytes of a gate and its body
-    """
-    opened = 0
-    while opened < epochs and front.at < len(front.data) and front.data[front.at] == 1:
-        opened += 1
-        front.at += size
-    return opened

@@ -86,7 +86,7 @@ def advice(call: Call, status: int, note: str) -> list[str]:
 
 
 def memory(call: Call, note: str) -> Iterator[str]:
-    yield "A smaller `epoch` in a new job needs less memory, and so do fewer products, lags or stations."
+    yield "A smaller `--epoch` needs less memory, and so does a new job of fewer products, lags or stations."
     yield "Else call the same command again once memory is free: what the journal keeps is not lost."
 
 
@@ -475,3 +475,5 @@ def first_difference(what: str, kept: bytes, ours: bytes, path: str | None) -> I
     yield f"the {what} differs in line {number + 1}:"
     for front, rows in ((f"    {path}: ", own), ("    the journal's: ", theirs)):
         yield front + (rows[number].decode("utf-8", "replace")[:SHOWN] if number < len(rows) else "(it has no such line)")
+    if all(number < len(rows) and rows[number].split()[:1] == [b"epoch"] for rows in (theirs, own)):
+        yield "epochs of another length need no other job: leave that line as the journal has it, and call with --epoch"

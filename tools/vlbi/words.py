@@ -4,12 +4,13 @@ from __future__ import annotations
 MOST_SLOTS = 1 << 26
 
 JOB_OPTIONS = {"--job": True, "--vex": False}
+CUT_OPTIONS = {**JOB_OPTIONS, "--epoch": False}
 WORK_OPTIONS = {"--workers": True, "--piece": True}
 COMMANDS: dict[str, dict[str, bool]] = {  # the options of each, and whether it needs them
-    "run": {**JOB_OPTIONS, **WORK_OPTIONS},
+    "run": {**CUT_OPTIONS, **WORK_OPTIONS},
     "plain": JOB_OPTIONS,
-    "check": JOB_OPTIONS,
-    "status": JOB_OPTIONS,
+    "check": CUT_OPTIONS,
+    "status": CUT_OPTIONS,
     "dump": {},
     "gen": {"--seed": True, "--seconds": True, **WORK_OPTIONS},
     "fringe": {"--rates": True, "--divide": True},
@@ -17,7 +18,7 @@ COMMANDS: dict[str, dict[str, bool]] = {  # the options of each, and whether it 
     "bins": {**JOB_OPTIONS, "--phase": True, **WORK_OPTIONS},
 }
 NAMED = {"dump": ("one record file",), "fringe": ("one record file",), "verify": ("one record file", "one certificate")}  # without an option
-RANGES = {"--workers": (1, 64), "--piece": (64, 4194304), "--seed": (0, 2 ** 64 - 1), "--seconds": (1, 60), "--rates": (0, 4096),
+RANGES = {"--epoch": (1, 4194304), "--workers": (1, 64), "--piece": (64, 4194304), "--seed": (0, 2 ** 64 - 1), "--seconds": (1, 60), "--rates": (0, 4096),
           "--divide": (1, 65536)}
 
 # The lines of a job: how they are written, and the ranges of their fields.
@@ -80,8 +81,8 @@ GREATEST = {
     "samples": (2 ** 40, "cut the scan in the schedule"),
     "seconds": (134217728, "cut the scan in the schedule"),
     "cells": (4194304, "take fewer lags, products or stations"),
-    "load": (268435456, "take a shorter `epoch`: stations times channels times its samples may come to that"),
-    "epochs": (2 ** 32, "take a longer `epoch`, or some scans by `take` lines"),
+    "load": (268435456, "take a shorter epoch, by `--epoch` or in the job: stations times channels times its samples may come to that"),
+    "epochs": (2 ** 32, "take a longer epoch, by `--epoch` or in the job, or some scans by `take` lines"),
     "schedule": (8388608, "leave out of the schedule what the correlator does not read (docs/VEX.md)"),
     "job": (4194304, "cut the job by scans, each with the `poly` lines that it needs"),
     "records": (1073741824, "read it with the Python module vlbi.records"),

@@ -6,10 +6,9 @@ from __future__ import annotations
 
 import os
 
-from vlbi.job import Plan
+from vlbi.job import MOST_EPOCH, Plan
 
 MOST_WORKERS = 64
-MOST_EPOCH = 1 << 22
 MOST_LOAD = 1 << 28    # stations times channels times samples of an epoch
 LEAST_PIECE = 4096     # samples: shorter ones cost more to draw than to sum
 GOOD_PIECE = 65536

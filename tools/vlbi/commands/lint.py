@@ -37,6 +37,7 @@ def parser() -> argparse.ArgumentParser:
     made = parser_of(NAME, "Says what is wrong or unwise with a job of the correlator vlbi, before it is run.")
     made.add_argument("job", help="the job")
     made.add_argument("--vex", metavar="SCHEDULE", help="its schedule, where it has one")
+    made.add_argument("--epoch", type=whole_number(1, 4194304), metavar="SAMPLES", help="samples of an epoch that the run will have (as the job's line says)")
     made.add_argument("--workers", type=whole_number(1, 64), help="threads that the run will have (as many as there are processors)")
     made.add_argument("--piece", type=whole_number(64, 4194304), help="samples of a piece that the run will have (vlbi-run chooses)")
     made.add_argument("--known", type=float, default=1.0, metavar="MICROSECONDS", help="how well each clock is known (1)")
@@ -69,13 +70,13 @@ def of_job(given: argparse.Namespace) -> int:
 
     asked = joined.read(given.job, given.vex)
     night = coverage.Night(asked)
-    machine = linting.Machine(given.workers or work.workers(), given.piece or 0, given.known, shutil.disk_usage(".").free)
+    machine = linting.Machine(given.workers or work.workers(), given.piece or 0, given.known, shutil.disk_usage(".").free, given.epoch or 0)
     found = 0
     for finding in linting.findings(night, machine):
         print(finding)
         found += 1
     if not given.quiet:
-        for line in linting.tables(night):
+        for line in linting.tables(night, machine):
             print(line)
     return found
 
@@ -89,7 +90,7 @@ def of_program(given: argparse.Namespace) -> Iterator[Finding]:
     if program is None:
         print(f"{NAME}: the program vlbi is not there: what its `check` finds is left out", file=sys.stderr)
         return
-    words = ["check", "--job", given.job, *(["--vex", given.vex] if given.vex else [])]
+    words = ["check", "--job", given.job, *(["--vex", given.vex] if given.vex else []), *(["--epoch", str(given.epoch)] if given.epoch else [])]
     done = subprocess.run([program, "journal", *words], capture_output=True)
     if done.returncode != 0:
         note = done.stderr.decode("utf-8", "surrogateescape").strip()

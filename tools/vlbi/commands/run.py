@@ -25,7 +25,7 @@ if TYPE_CHECKING:
 NAME = "vlbi-run"
 LOOK = 1.0  # seconds between two looks at the journal
 HANDED = (signal.SIGINT, signal.SIGTERM, signal.SIGHUP, signal.SIGQUIT, signal.SIGUSR1, signal.SIGUSR2)
-OPTIONS = ("job", "vex", "workers", "piece")
+OPTIONS = ("job", "vex", "epoch", "workers", "piece")
 NO_PROGRAM = "the program vlbi is neither beside this command nor on the path: --program names it"
 
 
@@ -39,6 +39,7 @@ def parser() -> argparse.ArgumentParser:
     made.add_argument("journal", help="the journal")
     made.add_argument("--job", action="append", default=[], help="the job")
     made.add_argument("--vex", action="append", default=[], metavar="SCHEDULE", help="its schedule, where it has one")
+    made.add_argument("--epoch", action="append", default=[], metavar="SAMPLES", help="samples that are summed and kept at once (as the job's line says)")
     made.add_argument("--workers", action="append", default=[], metavar="N", help="threads that sum (as many as there are processors)")
     made.add_argument("--piece", action="append", default=[], metavar="SAMPLES", help="samples that one sums at once (as many as keep all busy)")
     made.add_argument("--program", help="the program vlbi (that beside this command, or on the path)")
@@ -55,7 +56,7 @@ def run(given: argparse.Namespace, rest: Sequence[str]) -> int:
     if program is None:
         raise Fault(NO_PROGRAM)
     call = call_of(given, rest)
-    watch = progress.Watch(given.journal, texts(given))
+    watch = progress.Watch(given.journal, texts(given), epoch(given))
     show = progress.shown(NAME, given.quiet)
     begun = time.monotonic()
     with handed_on() as hand:
@@ -92,9 +93,17 @@ def chosen_piece(given: argparse.Namespace, workers: int) -> int:
     from vlbi import joined, work
 
     try:
-        return work.piece(joined.read(given.job[0], given.vex[0] if given.vex else None).plan, workers)
+        return work.piece(joined.read(given.job[0], given.vex[0] if given.vex else None).plan.by(epoch(given)), workers)
     except (Fault, OSError, ValueError, LookupError):
         return work.GOOD_PIECE
+
+
+def epoch(given: argparse.Namespace) -> int | None:
+    """The samples of an epoch that are asked for; None where the job's own line counts, and where they are no such number, which the program will say."""
+    from vlbi import job
+
+    number = int(given.epoch[0]) if given.epoch and given.epoch[0].isdecimal() else 0
+    return number if 1 <= number <= job.MOST_EPOCH else None
 
 
 def texts(given: argparse.Namespace) -> tuple[bytes, bytes]:

@@ -23,6 +23,7 @@ def parser() -> argparse.ArgumentParser:
     made = parser_of(NAME, "Says how far a run of the correlator vlbi is, by its journal, until all its epochs are kept.")
     made.add_argument("journal", help="the journal")
     made.add_argument("--every", type=whole_number(1, 3600), default=2, metavar="SECONDS", help="between two looks, 1 to 3600 (2)")
+    made.add_argument("--epoch", type=whole_number(1, 4194304), metavar="SAMPLES", help="the epochs of the run (as the job's line says)")
     made.add_argument("--once", action="store_true", help="print how far it is now, and end")
     return made
 
@@ -31,7 +32,7 @@ def watch(given: argparse.Namespace) -> int:
     """Shows how far a run is, until all is kept; the exit status."""
     from vlbi import progress
 
-    one = progress.Watch(given.journal)
+    one = progress.Watch(given.journal, epoch=given.epoch)
     if given.once:
         state = one.look(time.monotonic())
         print(state.front if state else "nothing is kept yet")

@@ -98,8 +98,8 @@ cells_add_up plan files cells number m scan is there inside each =
     let scan_is : IsScanPlan plan scan = at-place (IsScanPlan plan) plan.scans number scan is.scans there in
     let at : slice_get (sizes_of plan).scans number ≡ Some (size_of plan scan) =
     slice_get-map (size_of plan) plan.scans number ∙ ap (option_map (size_of plan)) there in
-    let whole : scan.samples ≡ scan.samples - 0 = omega arith in
-    let count : m < integration_count (sizes_of plan) (size_of plan scan) =
+    let whole : scan.samples ≡ scan.samples - 0 * plan.integration = omega arith in
+    let count : m < 0 + integration_count (sizes_of plan) (size_of plan scan) =
     omega (arith, inside, ap (λ (n : ℕ). div_ceil n plan.integration) whole) in
     let begun : m * plan.integration < scan.samples = below_ceil scan.samples plan.integration m is.some_integration inside in
     added_from-is cells (epoch_sums plan files) number m 0 (replicate (width_of plan scan) no_cell) (epochs_of (sizes_of plan))
@@ -107,7 +107,7 @@ cells_add_up plan files cells number m scan is there inside each =
     let place : 0 + i ≡ i = omega arith in
     ap cells place ∙ each i e here)
     ∙ epochs-one (epoch_sums plan files) number m (sizes_of plan) (size_of plan scan)
-    (replicate (width_of plan scan) no_cell) at count
+    (replicate (width_of plan scan) no_cell) at (omega arith) count
     ∙ integration-added plan (rotated plan files scan) scan (epoch_sums plan files) (sizes_of plan) (size_of plan scan) number m
     (rotated-small plan files scan is) is.some_epoch (omega (arith, begun)) (omega (arith, scan_is.samples))
     (λ r. epoch_sums-at plan files scan (range_of (sizes_of plan) number (size_of plan scan) m r) there)

@@ -52,7 +52,7 @@ scan-IsOfScan : (plan : Plan) (number : ℕ) (size : ScanSize) → slice_get (si
 unfolding scan_epochs
 scan-IsOfScan plan number size there =
     Each-flat_map (IsOfScan plan) (integration_epochs (sizes_of plan) number size)
-    (range_with_len 0 (integration_count (sizes_of plan) size))
+    (range_with_len size.first (integration_count (sizes_of plan) size))
     (λ i m at. integration-IsOfScan plan number size m there)
 
 pub epochs-IsOfScan : (plan : Plan) → Each (IsOfScan plan) (epochs_of (sizes_of plan))

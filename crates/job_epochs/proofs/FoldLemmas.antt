@@ -84,7 +84,7 @@ module _ (f : EpochPlan → List Cell) (number m : ℕ) where
       → added_by f number m sum (scan_epochs job k size) ≡ sum
   unfolding scan_epochs
   scan-others job k size sum other =
-      integrations-others job k 0 (integration_count job size) size sum (λ j later same here. other same)
+      integrations-others job k size.first (integration_count job size) size sum (λ j later same here. other same)
 
   -- those of scans behind the scan
   scans-others : (job : JobSizes) (k : ℕ) (sizes : List ScanSize) (sum : List Cell) → number < k
@@ -117,30 +117,31 @@ module _ (f : EpochPlan → List Cell) (number m : ℕ) where
 
   -- the scan among those of the job
   scans-one : (job : JobSizes) (k i : ℕ) (sizes : List ScanSize) (size : ScanSize) (sum : List Cell) → number ≡ k + i
-      → slice_get sizes i ≡ Some size → m < integration_count job size
+      → slice_get sizes i ≡ Some size → size.first ≤ m → m < size.first + integration_count job size
       → added_by f number m sum (scans_epochs job k sizes)
       ≡ added_by f number m sum (integration_epochs job number size m)
   unfolding scan_epochs
-  scans-one job k i [] size sum place there inside = absurd (cc)
-  scans-one job k zero (s ∷ sizes) size sum place there inside =
+  scans-one job k i [] size sum place there begun inside = absurd (cc)
+  scans-one job k zero (s ∷ sizes) size sum place there begun inside =
       let same : s ≡ size = cc in
       let here : k ≡ number = omega (arith, place) in
-      added_by-append sum (integrations_epochs job k s 0 (integration_count job s))
+      added_by-append sum (integrations_epochs job k s s.first (integration_count job s))
       (scans_epochs job (k + 1) sizes)
       ∙ scans-others job (k + 1) sizes
-      (added_by f number m sum (integrations_epochs job k s 0 (integration_count job s))) (omega (arith, place))
-      ∙ ap (λ (t : ScanSize). added_by f number m sum (integrations_epochs job k t 0 (integration_count job t))) same
-      ∙ ap (λ (n : ℕ). added_by f number m sum (integrations_epochs job n size 0 (integration_count job size))) here
-      ∙ scan-one job 0 (integration_count job size) size sum (omega arith) (omega (arith, inside))
-  scans-one job k (suc i) (s ∷ sizes) size sum place there inside =
-      added_by-append sum (integrations_epochs job k s 0 (integration_count job s))
+      (added_by f number m sum (integrations_epochs job k s s.first (integration_count job s))) (omega (arith, place))
+      ∙ ap (λ (t : ScanSize). added_by f number m sum (integrations_epochs job k t t.first (integration_count job t))) same
+      ∙ ap (λ (n : ℕ). added_by f number m sum (integrations_epochs job n size size.first (integration_count job size))) here
+      ∙ scan-one job size.first (integration_count job size) size sum begun inside
+  scans-one job k (suc i) (s ∷ sizes) size sum place there begun inside =
+      added_by-append sum (integrations_epochs job k s s.first (integration_count job s))
       (scans_epochs job (k + 1) sizes)
       ∙ ap (λ (cells : List Cell). added_by f number m cells (scans_epochs job (k + 1) sizes))
-      (integrations-others job k 0 (integration_count job s) s sum (λ j later same here. omega (arith, same, place)))
-      ∙ scans-one job (k + 1) i sizes size sum (omega (arith, place)) there inside
+      (integrations-others job k s.first (integration_count job s) s sum (λ j later same here. omega (arith, same, place)))
+      ∙ scans-one job (k + 1) i sizes size sum (omega (arith, place)) there begun inside
 
   -- of all epochs of a job those of the integration count
   pub epochs-one : (job : JobSizes) (size : ScanSize) (sum : List Cell) → slice_get job.scans number ≡ Some size
-      → m < integration_count job size → added_by f number m sum (epochs_of job) ≡ added_by f number m sum (integration_epochs job number size m)
+      → size.first ≤ m → m < size.first + integration_count job size
+      → added_by f number m sum (epochs_of job) ≡ added_by f number m sum (integration_epochs job number size m)
   unfolding epochs_of
-  epochs-one job size sum there inside = scans-one job 0 number job.scans size sum (omega arith) there inside
+  epochs-one job size sum there begun inside = scans-one job 0 number job.scans size sum (omega arith) there begun inside

@@ -9,11 +9,12 @@ use Rattle.job_plan.specs.declared.plan.Plan.{Plan}
 use Rattle.job_plan.specs.Ranges.{IsPlan, IsScanPlan}
 use Rattle.job_epochs.specs.Sizes.{size_of, sizes_of}
 
-size_of-IsScan : (plan : Plan) (scan : ScanPlan) → IsPlan plan → IsScanPlan plan scan → IsScan plan.lags (size_of plan scan)
+size_of-IsScan : (plan : Plan) (scan : ScanPlan) → IsPlan plan → IsScanPlan plan scan → IsScan plan.integration plan.lags (size_of plan scan)
 size_of-IsScan plan scan is scan_is =
     let same : length plan.products * length scan.baselines * plan.lags ≡ length scan.baselines * length plan.products * plan.lags =
     omega arith in
     record {
+      first = omega arith;
       samples = scan_is.samples;
       products = omega (arith, is.some_product);
       baselines = omega (arith, scan_is.some_baseline);
@@ -24,7 +25,7 @@ pub sizes_of-IsJob : (plan : Plan) → IsPlan plan → length plan.scans ≤ 838
 sizes_of-IsJob plan is few = record {
   many = omega (arith, length-map plan.scans (size_of plan), few);
   scans =
-      All-map (IsScan plan.lags) (size_of plan) plan.scans
+      All-map (IsScan plan.integration plan.lags) (size_of plan) plan.scans
       (λ k d within. size_of-IsScan plan (get_or plan.scans k d) is (is.scans k d within));
   integration = is.some_integration;
   longest = is.integration;

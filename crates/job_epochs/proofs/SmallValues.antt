@@ -1,13 +1,12 @@
 -- The values of a scan are small.
 use Rattle.std.specs.Prelude.{slice_get, option_and_then, option_map}
-use Rattle.std.proofs.Common.{◌≡◌, refl, sym, subst, ℕ, zero, suc, ◌+◌, ◌*◌, ◌%◌, ◌^◌, ◌<◌, ◌≤◌, inl, inr, Bool, true, false, ◌&&◌, cond, leb, ℤ, pos, unsigned_abs, ◌+ℤ◌, ◌*ℤ◌, List, [], ◌∷◌, get_or, Option, Some, None, IfSome, All, arith}
+use Rattle.std.proofs.Common.{◌≡◌, refl, subst, ℕ, zero, suc, ◌+◌, ◌*◌, ◌%◌, ◌^◌, ◌<◌, ◌≤◌, inl, inr, Bool, true, false, ◌&&◌, cond, leb, ℤ, pos, unsigned_abs, ◌+ℤ◌, ◌*ℤ◌, List, [], ◌∷◌, get_or, Option, Some, None, IfSome, All, arith}
 use Rattle.std.proofs.lemmas.Int.{ints, unsigned_abs-mul}
 use Rattle.std.proofs.lemmas.Nat.{mod_below, pow_pos, mul-le}
 use Rattle.std.proofs.lemmas.Bool.Decides.{nat_tests}
 use Rattle.std.proofs.lemmas.Option.{slice_get_within, get_or_from_slice_get}
 use Rattle.fringe_rotator.specs.Table.{cosines, cos3, sin3}
 use Rattle.sample_unpack.specs.Level.{IsWidth, level_of, level_at, code_at, bit_of}
-use Rattle.vdif_frame.specs.Shape.{ShapeFields}
 use Rattle.corr_model.specs.Files.{Files}
 use Rattle.corr_model.specs.Sample.{Timing, Recorded, level_in}
 use Rattle.corr_model.specs.Delay.{DelayModel, delay_at, whole_at}

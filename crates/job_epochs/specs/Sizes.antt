@@ -5,9 +5,10 @@ use Rattle.piece_plan.specs.Epochs.{JobSizes, job_sizes}
 use Rattle.job_plan.specs.declared.plan.ScanPlan.{ScanPlan}
 use Rattle.job_plan.specs.declared.plan.Plan.{Plan}
 
--- a scan's length in samples, and how many products and baselines it has
+-- a scan from its first integration on: its length in samples, and how many products and baselines it has
 abbrev pub size_of : Plan → ScanPlan → ScanSize
 size_of plan scan = record {
+  first = 0;
   samples = scan.samples;
   products = length plan.products;
   baselines = length scan.baselines;

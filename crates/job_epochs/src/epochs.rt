@@ -13,6 +13,7 @@ fn size_of(plan: &Plan, scan: &ScanPlan) -> ScanSize
     ensures { result ≡ size_of plan.now scan.now }
 {
     ScanSize {
+        first: 0,
         samples: scan.samples,
         products: plan.products.items().len() as u32,
         baselines: scan.baselines.items().len() as u32,

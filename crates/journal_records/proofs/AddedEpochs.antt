@@ -7,7 +7,7 @@ use Rattle.corr_model.specs.Cell.{Samples}
 use Rattle.piece_plan.specs.declared.job.ScanSize.{ScanSize}
 use Rattle.piece_plan.specs.declared.epoch.EpochPlan.{EpochPlan}
 use Rattle.piece_plan.specs.Epochs.{JobSizes, IsEpoch, integration_at}
-use Rattle.piece_plan.specs.Order.{Place, place_of, first_place, place_after, AreInOrder, CoverJob}
+use Rattle.piece_plan.specs.Order.{Place, place_of, job_start, place_after, AreInOrder, CoverJob}
 use Rattle.plan_places.specs.Places.{IsPlace, IsUpTo, IsBefore}
 use Rattle.plan_places.proofs.Orders.{up_to-or-before}
 use Rattle.plan_places.proofs.AfterLemmas.{after-inside, first-before}
@@ -132,17 +132,18 @@ module _ (f : EpochPlan → List Cell) (number m : ℕ) (job : JobSizes) where
         (up_to-or-before first (place_of e))
 
     -- epochs that cover the job
-    pub cover-added : (epochs : List EpochPlan) (sum : List Cell) → CoverJob job epochs
+    pub cover-added : (epochs : List EpochPlan) (sum : List Cell) → CoverJob job epochs → size.first ≤ m
         → (integration_at job size m).from < (integration_at job size m).to
         → sum ≡ range_cells plan z scan (integration_at job size m).from (integration_at job size m).from
         → added_by f number m sum epochs
         ≡ range_cells plan z scan (integration_at job size m).from (integration_at job size m).to
-    cover-added epochs sum cover some is =
+    cover-added epochs sum cover begun some is =
         let place : IsPlace job (record { scan = number; m = m; from = (integration_at job size m).from }) = record {
           size = size;
           scan = there;
+          first = begun;
           from = omega arith;
           inside = some;
         } in
         let first = first-before job (record { scan = number; m = m; from = (integration_at job size m).from }) place in
-        reached-added (first_place 0 job.scans) first.0 epochs sum first.1 first.2 place cover is
+        reached-added (job_start job) first.0 epochs sum first.1 first.2 place cover is

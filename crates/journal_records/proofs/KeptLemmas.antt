@@ -94,7 +94,7 @@ module _ (plan : Plan) (files : Files) (kept : List KeptEpoch) (is : IsPlan plan
       ∙ cover-added (epoch_sums plan files) number m (sizes_of plan) plan (rotated plan files scan) scan (size_of plan scan)
       (rotated-small plan files scan is) at (omega (arith, scan_is.samples))
       (λ e here. epoch_sums-at plan files scan e (ap (slice_get plan.scans) here ∙ there))
-      (epochs_of kept) (replicate (width_of plan scan) no_cell) cover (omega (arith, begun, is.some_integration))
+      (epochs_of kept) (replicate (width_of plan scan) no_cell) cover (omega arith) (omega (arith, begun, is.some_integration))
       (sym (range_cells-none plan (rotated plan files scan) scan (integration_at (sizes_of plan) (size_of plan scan) m).from))
       ∙ integration_cells-is plan (rotated plan files scan) scan m
 

@@ -44,7 +44,7 @@ end-IsPast job e is end =
     let same : ◌≡◌ {A = Place} (record { scan = e.scan; m = e.m + 1; from = e.to }) q = cc in
     subst (IsPast e.scan e.m) same (record { scan = omega arith; later = λ s. omega arith }))
     (λ last.
-    let first = first_place-is (e.scan + 1) (drop (e.scan + 1) job.scans) q (sym (after-scan job e is.size is.scan end last) ∙ after) in
+    let first = first_place-is job.integration (e.scan + 1) (drop (e.scan + 1) job.scans) q (sym (after-scan job e is.size is.scan end last) ∙ after) in
     record { scan = omega (arith, first.scan); later = λ s. absurd (omega (arith, first.scan, s)) })
     (cases_lt e.to is.size.samples))
 

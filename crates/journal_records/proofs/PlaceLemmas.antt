@@ -6,7 +6,7 @@ use Rattle.std.proofs.lemmas.Bool.{cases_lt, cond-true, cond-false, lt-ltb, le-l
 use Rattle.piece_plan.specs.declared.job.ScanSize.{ScanSize}
 use Rattle.piece_plan.specs.declared.epoch.EpochPlan.{EpochPlan}
 use Rattle.piece_plan.specs.Epochs.{JobSizes, integration_at}
-use Rattle.piece_plan.specs.Order.{Place, first_place, place_after}
+use Rattle.piece_plan.specs.Order.{Place, first_place, job_start, place_after}
 use Rattle.piece_plan.proofs.Quotients.{ceil_covers}
 use Rattle.plan_places.proofs.AfterLemmas.{after-is}
 use Rattle.plan_places.proofs.FirstPlaces.{first_place-is}
@@ -14,7 +14,7 @@ use Rattle.journal_records.specs.Places.{place_of_scan, place_of_integration, pl
 use Rattle.journal_records.proofs.OrderLemmas.{IsPast}
 
 -- the job's first place
-pub place_of_scan-first : (job : JobSizes) → place_of_scan job 0 ≡ first_place 0 job.scans
+pub place_of_scan-first : (job : JobSizes) → place_of_scan job 0 ≡ job_start job
 unfolding place_of_scan
 place_of_scan-first job = refl
 
@@ -29,12 +29,9 @@ drop-here (s ∷ scans) (suc n) size at =
 
 -- a scan begins with its first integration
 pub place_of_integration-first : (job : JobSizes) (number : ℕ) (size : ScanSize) → slice_get job.scans number ≡ Some size
-    → place_of_integration job number size 0 ≡ place_of_scan job number
+    → place_of_integration job number size size.first ≡ place_of_scan job number
 unfolding place_of_scan place_of_integration
-place_of_integration-first job number size at =
-    let none : 0 * job.integration ≡ 0 = omega arith in
-    ap {B = Option Place} (λ n. if ltb n size.samples then Some (record { scan = number; m = 0; from = n }) else first_place (number + 1) (drop (number + 1) job.scans)) none
-    ∙ ap (first_place number) (sym (drop-here job.scans number size at))
+place_of_integration-first job number size at = ap (first_place job.integration number) (sym (drop-here job.scans number size at))
 
 -- behind the last integration the next scan begins
 pub place_of_integration-last : (job : JobSizes) (number : ℕ) (size : ScanSize) (m : ℕ) → 0 < job.integration → m ≡ div_ceil size.samples job.integration
@@ -92,7 +89,7 @@ place_from-past job number size m to ends p due =
     let later : m + 1 ≡ p.m = ap (λ (q : Place). q.m) same in
     record { scan = omega (arith, scan); later = λ s. omega (arith, later) })
     (λ last.
-    let first = first_place-is (number + 1) (drop (number + 1) job.scans) p (sym (cond-false (ltb to size.samples) _ _ (le-ltb _ _ last)) ∙ past) in
+    let first = first_place-is job.integration (number + 1) (drop (number + 1) job.scans) p (sym (cond-false (ltb to size.samples) _ _ (le-ltb _ _ last)) ∙ past) in
     record { scan = omega (arith, first.scan); later = λ s. absurd (omega (arith, first.scan, s)) })
     (cases_lt to size.samples)
 
@@ -108,4 +105,4 @@ place_from-after job number size m e at scan same =
     else
     (if ltb e.to size.samples
     then Some (record { scan = scan i; m = same i + 1; from = e.to })
-    else first_place (scan i + 1) (drop (scan i + 1) job.scans)))
+    else first_place job.integration (scan i + 1) (drop (scan i + 1) job.scans)))

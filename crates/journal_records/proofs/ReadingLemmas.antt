@@ -8,7 +8,7 @@ use Rattle.corr_model.specs.declared.cell.Cell.{Cell}
 use Rattle.piece_plan.specs.declared.job.ScanSize.{ScanSize}
 use Rattle.piece_plan.specs.declared.epoch.EpochPlan.{EpochPlan}
 use Rattle.piece_plan.specs.Epochs.{JobSizes, integration_at, cell_count}
-use Rattle.piece_plan.specs.Order.{Place, place_of, first_place, AreInOrder}
+use Rattle.piece_plan.specs.Order.{Place, place_of, job_start, AreInOrder}
 use Rattle.plan_places.specs.Places.{place_at}
 use Rattle.job_epochs.specs.Added.{add_cells}
 use Rattle.checkpoint_journal.specs.Cells.{body_cells}
@@ -41,23 +41,23 @@ in_order job due end (Turn mark ∷ things) goes = in_order job (next job due (T
 
 -- those that were read go up to the place where it is read on, and the others from there to the job's end
 pub record IsCutAt (job : JobSizes) (kept : List KeptEpoch) (n : ℕ) (due : Option Place) : Type 0 where
-  pub before : AreInOrder job (first_place 0 job.scans) (epochs_kept (take n kept)) due
+  pub before : AreInOrder job (job_start job) (epochs_kept (take n kept)) due
   pub behind : AreInOrder job due (epochs_kept (drop n kept)) None
 
 cut-at : (job : JobSizes) (kept xs ys : List KeptEpoch) (n : ℕ) (due : Option Place) → kept ≡ xs ++ ys → length xs ≡ n
-    → AreInOrder job (first_place 0 job.scans) (epochs_kept kept) None
-    → AreInOrder job (first_place 0 job.scans) (epochs_kept xs) due
+    → AreInOrder job (job_start job) (epochs_kept kept) None
+    → AreInOrder job (job_start job) (epochs_kept xs) due
     → IsCutAt job kept n due
 cut-at job kept xs ys n due is long all front =
     let first : take n kept ≡ xs = ap (take n) is ∙ take_at xs ys n long in
     let rest : drop n kept ≡ ys = ap (drop n) is ∙ drop_at xs ys n long in
     let both : epochs_kept kept ≡ epochs_kept xs ++ epochs_kept ys = ap epochs_kept is ∙ map-append (λ (k : KeptEpoch). k.epoch) xs ys in
     record {
-      before = subst (λ (l : List KeptEpoch). AreInOrder job (first_place 0 job.scans) (epochs_kept l) due) (sym first) front;
+      before = subst (λ (l : List KeptEpoch). AreInOrder job (job_start job) (epochs_kept l) due) (sym first) front;
       behind =
           subst (λ (l : List KeptEpoch). AreInOrder job due (epochs_kept l) None) (sym rest)
-          (order-cut job (first_place 0 job.scans) due None (epochs_kept xs) (epochs_kept ys)
-          (subst (λ (l : List EpochPlan). AreInOrder job (first_place 0 job.scans) l None) both all) front);
+          (order-cut job (job_start job) due None (epochs_kept xs) (epochs_kept ys)
+          (subst (λ (l : List EpochPlan). AreInOrder job (job_start job) l None) both all) front);
     }
 
 module _ {D : Type 0} (seen : D → Option (List ℕ)) (moment : D → ℕ) (may_leave : D → ℕ → List ℕ → Type 0) (job : JobSizes) (id : List ℕ) (kept : List KeptEpoch)
@@ -76,12 +76,12 @@ module _ {D : Type 0} (seen : D → Option (List ℕ)) (moment : D → ℕ) (may
       let is : kept ≡ records k.here.before ++ records k.here.after =
       sym (same_kept (records r.things) (inr (r, k.reads, refl))) ∙ ap records k.here.is ∙ records-append k.here.before k.here.after in
       let last : r.due.place ≡ None = ap (λ (d : Due). d.place) (sym k.end.due) ∙ ap (option_map place_at) t.covers in
-      let all : AreInOrder job (first_place 0 job.scans) (epochs_kept (records r.things)) None =
-      subst (λ (o : Option Place). AreInOrder job (first_place 0 job.scans) (epochs_kept (records r.things)) o) last (reads_in_order id job t.image r k.reads) in
-      let whole : AreInOrder job (first_place 0 job.scans) (epochs_kept kept) None =
-      subst (λ (l : List KeptEpoch). AreInOrder job (first_place 0 job.scans) (epochs_kept l) None) (same_kept (records r.things) (inr (r, k.reads, refl))) all in
-      let front : AreInOrder job (first_place 0 job.scans) (epochs_kept (records k.here.before)) due =
-      subst (λ (o : Option Place). AreInOrder job (first_place 0 job.scans) (epochs_kept (records k.here.before)) o) t.up_to
+      let all : AreInOrder job (job_start job) (epochs_kept (records r.things)) None =
+      subst (λ (o : Option Place). AreInOrder job (job_start job) (epochs_kept (records r.things)) o) last (reads_in_order id job t.image r k.reads) in
+      let whole : AreInOrder job (job_start job) (epochs_kept kept) None =
+      subst (λ (l : List KeptEpoch). AreInOrder job (job_start job) (epochs_kept l) None) (same_kept (records r.things) (inr (r, k.reads, refl))) all in
+      let front : AreInOrder job (job_start job) (epochs_kept (records k.here.before)) due =
+      subst (λ (o : Option Place). AreInOrder job (job_start job) (epochs_kept (records k.here.before)) o) t.up_to
       (in_order job (start job r.old) (due_of s.journal.here) k.here.before k.here.goes) in
       cut-at job kept (records k.here.before) (records k.here.after) s.journal.here.kept due is (sym k.here.kept) whole front
 
@@ -126,13 +126,13 @@ module _ (job : JobSizes) (number : ℕ) (size : ScanSize) (m from to : ℕ) (is
       → IsCutAt job kept j.here.kept (place_from job number size m from)
       → IsAdded job number size m from kept start start j
   added-begin j start due cut =
-      let begun : AreInOrder job (first_place 0 job.scans) (epochs_kept (take j.here.kept kept)) (Some (record { scan = number; m = m; from = from })) =
-      subst (λ (o : Option Place). AreInOrder job (first_place 0 job.scans) (epochs_kept (take j.here.kept kept)) o) (place_from-begin job number size m from to is) cut.before in
+      let begun : AreInOrder job (job_start job) (epochs_kept (take j.here.kept kept)) (Some (record { scan = number; m = m; from = from })) =
+      subst (λ (o : Option Place). AreInOrder job (job_start job) (epochs_kept (take j.here.kept kept)) o) (place_from-begin job number size m from to is) cut.before in
       record {
         within = omega (arith, is.some, is.ends);
         up_to = due;
         added = sym (added_kept-other number m start (take j.here.kept kept)
-            (AreOther-before job number m (first_place 0 job.scans) (epochs_kept (take j.here.kept kept)) (record { scan = number; m = m; from = from }) refl refl
+            (AreOther-before job number m (job_start job) (epochs_kept (take j.here.kept kept)) (record { scan = number; m = m; from = from }) refl refl
             (omega (arith, is.begins)) begun));
       }
 

@@ -6,15 +6,15 @@ use Rattle.piece_plan.specs.Order.{Place, first_place}
 
 -- where the first epoch of a scan begins, or of the first later one that has samples
 unfoldable pub place_of_scan : JobSizes → ℕ → Option Place
-place_of_scan job number = first_place number (drop number job.scans)
+place_of_scan job number = first_place job.integration number (drop number job.scans)
 
--- where the first epoch of integration m of a scan begins, by the scan's number and size; behind the last one, that of the
--- later scans
+-- where the first epoch of integration m of a scan begins, from the scan's first integration on, by the scan's number and size;
+-- behind the last one, that of the later scans
 unfoldable pub place_of_integration : JobSizes → ℕ → ScanSize → ℕ → Option Place
 place_of_integration job number size m =
     if nat_lt (m * job.integration) size.samples
     then Some (record { scan = number; m = m; from = m * job.integration })
-    else first_place (number + 1) (drop (number + 1) job.scans)
+    else first_place job.integration (number + 1) (drop (number + 1) job.scans)
 
 -- where the epoch begins that is next behind a sample of integration m: in the integration, else in the next one of the scan,
 -- else in the later scans
@@ -25,7 +25,7 @@ place_from job number size m at =
     else
     (if nat_lt at size.samples
     then Some (record { scan = number; m = m + 1; from = at })
-    else first_place (number + 1) (drop (number + 1) job.scans))
+    else first_place job.integration (number + 1) (drop (number + 1) job.scans))
 
 -- integration m of the scan of a number goes from one sample to another
 pub record IsIntegration (job : JobSizes) (number : ℕ) (size : ScanSize) (m from to : ℕ) : Type 0 where

@@ -32,60 +32,71 @@ slice_get-integration_epochs job number size m k h =
     slice_get-map (range_of job number size m) (parts (integration_at job size m).from (integration_at job size m).to job.epoch) k
     ∙ ap (option_map (range_of job number size m)) (slice_get-parts (integration_at job size m).from (integration_at job size m).to job.epoch k h)
 
+-- the samples of an integration, counted from a scan's first, are those that it has in a scan that begins there
+counted_from : (samples first integration j : ℕ)
+    → min (0 + (first + j + 1) * integration) samples - (0 + (first + j) * integration)
+    ≡ min (0 + (j + 1) * integration) (samples - first * integration) - (0 + j * integration)
+counted_from samples first integration j = omega arith
+
 -- an integration before the last one is whole
-whole-length : (job : JobSizes) (number : ℕ) (size : ScanSize) (j : ℕ) → 0 < job.integration → j < size.samples / job.integration
-    → length (integration_epochs job number size (0 + j)) ≡ div_ceil job.integration job.epoch
-whole-length job number size j some below =
-    let step : job.integration * (j + 1) ≤ job.integration * (size.samples / job.integration) =
-    mul-le-mul_left job.integration (omega arith) in
-    let whole : job.integration * (size.samples / job.integration) + size.samples % job.integration ≡ size.samples = omega arith in
-    let long : min (0 + (0 + j + 1) * job.integration) size.samples - (0 + (0 + j) * job.integration) ≡ job.integration =
-    omega (arith, step, whole) in
-    length-integration_epochs job number size (0 + j) ∙ ap (λ n. div_ceil n job.epoch) long
+whole-length : (job : JobSizes) (number : ℕ) (size : ScanSize) (left j : ℕ) → left ≡ size.samples - size.first * job.integration
+    → 0 < job.integration → j < left / job.integration
+    → length (integration_epochs job number size (size.first + j)) ≡ div_ceil job.integration job.epoch
+whole-length job number size left j is some below =
+    let step : job.integration * (j + 1) ≤ job.integration * (left / job.integration) = mul-le-mul_left job.integration (omega arith) in
+    let whole : job.integration * (left / job.integration) + left % job.integration ≡ left = omega arith in
+    let long : min (0 + (size.first + j + 1) * job.integration) size.samples - (0 + (size.first + j) * job.integration) ≡ job.integration =
+    omega (arith, step, whole, is) in
+    length-integration_epochs job number size (size.first + j) ∙ ap (λ n. div_ceil n job.epoch) long
 
 -- the last one has the rest
-rest-length : (job : JobSizes) (number : ℕ) (size : ScanSize) → 0 < job.integration
-    → length (integration_epochs job number size (0 + size.samples / job.integration))
-    ≡ div_ceil (size.samples % job.integration) job.epoch
-rest-length job number size some =
-    let q : ℕ = size.samples / job.integration in
-    let small : size.samples % job.integration < job.integration = omega arith in
-    let whole : job.integration * (size.samples / job.integration) + size.samples % job.integration ≡ size.samples = omega arith in
-    let long : min (0 + (0 + size.samples / job.integration + 1) * job.integration) size.samples - (0 + (0 + size.samples / job.integration) * job.integration)
-    ≡ size.samples % job.integration =
-    omega (arith, small, whole) in
-    length-integration_epochs job number size (0 + size.samples / job.integration) ∙ ap (λ n. div_ceil n job.epoch) long
+rest-length : (job : JobSizes) (number : ℕ) (size : ScanSize) (left : ℕ) → left ≡ size.samples - size.first * job.integration
+    → 0 < job.integration
+    → length (integration_epochs job number size (size.first + left / job.integration)) ≡ div_ceil (left % job.integration) job.epoch
+rest-length job number size left is some =
+    let small : left % job.integration < job.integration = omega arith in
+    let whole : job.integration * (left / job.integration) + left % job.integration ≡ left = omega arith in
+    let long : min (0 + (size.first + left / job.integration + 1) * job.integration) size.samples
+    - (0 + (size.first + left / job.integration) * job.integration)
+    ≡ left % job.integration =
+    omega (arith, small, whole, is) in
+    length-integration_epochs job number size (size.first + left / job.integration) ∙ ap (λ n. div_ceil n job.epoch) long
 
 ceil_none : (y : ℕ) → 0 < y → div_ceil 0 y ≡ 0
 ceil_none y some = omega (arith, ceil_le 0 y some)
 
-pub length-scan_epochs : (job : JobSizes) (number : ℕ) (size : ScanSize) → 0 < job.integration → 0 < job.epoch
-    → length (scan_epochs job number size) ≡ count_in size.samples job.integration job.epoch
-unfolding scan_epochs
-length-scan_epochs job number size some cut =
+-- the epochs of a scan with so many samples from its first integration on
+length-left : (job : JobSizes) (number : ℕ) (size : ScanSize) (left : ℕ) → left ≡ size.samples - size.first * job.integration
+    → 0 < job.integration → 0 < job.epoch
+    → length (flat_map (integration_epochs job number size) (range_with_len size.first (div_ceil left job.integration)))
+    ≡ count_in left job.integration job.epoch
+length-left job number size left is some cut =
     let f : ℕ → List EpochPlan = integration_epochs job number size in
-    let from_0 : size.samples - 0 ≡ size.samples = omega arith in
     ⊎_elim
     (λ rest.
-    let more : div_ceil size.samples job.integration ≡ size.samples / job.integration + 1 = omega (arith, rest) in
-    let count : integration_count job size ≡ size.samples / job.integration + 1 = ap (λ n. div_ceil n job.integration) from_0 ∙ more in
-    ap (λ n. length (flat_map f (range_with_len 0 n))) count
-    ∙ length-last f (div_ceil job.integration job.epoch) (div_ceil (size.samples % job.integration) job.epoch) 0
-    (size.samples / job.integration)
-    (λ j below. whole-length job number size j some below)
-    (rest-length job number size some))
+    let count : div_ceil left job.integration ≡ left / job.integration + 1 = omega (arith, rest) in
+    ap (λ n. length (flat_map f (range_with_len size.first n))) count
+    ∙ length-last f (div_ceil job.integration job.epoch) (div_ceil (left % job.integration) job.epoch) size.first
+    (left / job.integration)
+    (λ j below. whole-length job number size left j is some below)
+    (rest-length job number size left is some))
     (λ even.
-    let none : size.samples % job.integration ≡ 0 = omega (arith, even) in
-    let same : div_ceil size.samples job.integration ≡ size.samples / job.integration = omega (arith, none) in
-    let count : integration_count job size ≡ size.samples / job.integration = ap (λ n. div_ceil n job.integration) from_0 ∙ same in
-    let empty : div_ceil (size.samples % job.integration) job.epoch ≡ 0 =
+    let none : left % job.integration ≡ 0 = omega (arith, even) in
+    let count : div_ceil left job.integration ≡ left / job.integration = omega (arith, none) in
+    let empty : div_ceil (left % job.integration) job.epoch ≡ 0 =
     ap (λ n. div_ceil n job.epoch) none ∙ ceil_none job.epoch cut in
-    let sum : length (flat_map f (range_with_len 0 (size.samples / job.integration)))
-    ≡ size.samples / job.integration * div_ceil job.integration job.epoch =
-    length-equal f (div_ceil job.integration job.epoch) 0 (size.samples / job.integration)
-    (λ j below. whole-length job number size j some below) in
-    ap (λ n. length (flat_map f (range_with_len 0 n))) count ∙ omega (arith, sum, empty))
-    (cases_lt 0 (size.samples % job.integration))
+    let sum : length (flat_map f (range_with_len size.first (left / job.integration)))
+    ≡ left / job.integration * div_ceil job.integration job.epoch =
+    length-equal f (div_ceil job.integration job.epoch) size.first (left / job.integration)
+    (λ j below. whole-length job number size left j is some below) in
+    ap (λ n. length (flat_map f (range_with_len size.first n))) count ∙ omega (arith, sum, empty))
+    (cases_lt 0 (left % job.integration))
+
+pub length-scan_epochs : (job : JobSizes) (number : ℕ) (size : ScanSize) → 0 < job.integration → 0 < job.epoch
+    → length (scan_epochs job number size) ≡ count_in (size.samples - size.first * job.integration) job.integration job.epoch
+unfolding scan_epochs
+length-scan_epochs job number size some cut =
+    length-left job number size (size.samples - size.first * job.integration) refl some cut
 
 -- where the j-th epoch of a scan lies: in an integration of the scan, behind whole ones, and inside it
 pub record IsPlaced (samples integration epoch j : ℕ) : Type 0 where
@@ -147,22 +158,23 @@ epoch-IsPlaced samples integration epoch j some cut inside =
     (cases_lt (j / div_ceil integration epoch) (samples / integration))
 
 pub slice_get-scan_epochs : (job : JobSizes) (number : ℕ) (size : ScanSize) (j : ℕ) → 0 < job.integration → 0 < job.epoch
-    → j < count_in size.samples job.integration job.epoch
+    → j < count_in (size.samples - size.first * job.integration) job.integration job.epoch
     → slice_get (scan_epochs job number size) j ≡ Some (epoch_at job number size j)
 unfolding scan_epochs
 slice_get-scan_epochs job number size j some cut inside =
-    let from_0 : size.samples - 0 ≡ size.samples = omega arith in
-    let placed = epoch-IsPlaced size.samples job.integration job.epoch j some cut inside in
+    let placed = epoch-IsPlaced (size.samples - size.first * job.integration) job.integration job.epoch j some cut inside in
     let one : 0 < div_ceil job.integration job.epoch = ceil_above job.integration job.epoch 0 cut (omega arith) in
-    let here : 0 + j / div_ceil job.integration job.epoch ≡ j / div_ceil job.integration job.epoch = omega arith in
     let place : j ≡ j / div_ceil job.integration job.epoch * div_ceil job.integration job.epoch + j % div_ceil job.integration job.epoch = omega (arith, one) in
-    ap (slice_get (flat_map (integration_epochs job number size) (range_with_len 0 (integration_count job size)))) place
-    ∙ slice_get-equal (integration_epochs job number size) (div_ceil job.integration job.epoch) 0 (integration_count job size)
+    let long = counted_from size.samples size.first job.integration (j / div_ceil job.integration job.epoch) in
+    ap (slice_get (flat_map (integration_epochs job number size) (range_with_len size.first (integration_count job size)))) place
+    ∙ slice_get-equal (integration_epochs job number size) (div_ceil job.integration job.epoch) size.first (integration_count job size)
     (j / div_ceil job.integration job.epoch) (j % div_ceil job.integration job.epoch) (epoch_at job number size j)
-    (rw from_0 placed.inside)
-    (λ i below. whole-length job number size i some (omega (arith, placed.whole, below)))
-    (ap (λ m. slice_get (integration_epochs job number size m) (j % div_ceil job.integration job.epoch)) here
-    ∙ slice_get-integration_epochs job number size (j / div_ceil job.integration job.epoch) (j % div_ceil job.integration job.epoch) placed.part)
+    placed.inside
+    (λ i below.
+    whole-length job number size (size.samples - size.first * job.integration) i refl some (omega (arith, placed.whole, below)))
+    (slice_get-integration_epochs job number size (size.first + j / div_ceil job.integration job.epoch)
+    (j % div_ceil job.integration job.epoch)
+    (rw long placed.part))
 
 -- an epoch has a sample, so a scan has no more epochs than samples
 pub count_in-le : (samples integration epoch per last : ℕ) → 0 < integration → 0 < epoch

@@ -19,52 +19,64 @@ pub same_epoch : (scan m m' from from' to to' products baselines lags : ℕ) →
 same_epoch scan m m' from from' to to' products baselines lags p q r = cc
 
 -- where epoch j of a scan begins
-pub record IsWithin (samples integration epoch j per : ℕ) : Type 0 where
-  pub start : j / per * integration < samples
-  pub from : j / per * integration + j % per * epoch < min samples (j / per * integration + integration)
+pub record IsWithin (first samples integration epoch j per : ℕ) : Type 0 where
+  pub start : (first + j / per) * integration < samples
+  pub from : (first + j / per) * integration + j % per * epoch < min samples ((first + j / per) * integration + integration)
 
-pub epoch-IsWithin : (samples integration epoch j per : ℕ) → 0 < integration → 0 < epoch → j < count_in samples integration epoch
-    → per ≡ div_ceil integration epoch → IsWithin samples integration epoch j per
-epoch-IsWithin samples integration epoch j per some cut inside is =
-    let placed = epoch-IsPlaced samples integration epoch j some cut inside in
-    let start = below_ceil samples integration (j / div_ceil integration epoch) some placed.inside in
+pub epoch-IsWithin : (first samples integration epoch j per : ℕ) → 0 < integration → 0 < epoch
+    → j < count_in (samples - first * integration) integration epoch → per ≡ div_ceil integration epoch
+    → IsWithin first samples integration epoch j per
+epoch-IsWithin first samples integration epoch j per some cut inside is =
+    let placed = epoch-IsPlaced (samples - first * integration) integration epoch j some cut inside in
+    let start = below_ceil (samples - first * integration) integration (j / div_ceil integration epoch) some placed.inside in
     let from = below_ceil
-    (min (0 + (j / div_ceil integration epoch + 1) * integration) samples - (0 + j / div_ceil integration epoch * integration))
+    (min (0 + (j / div_ceil integration epoch + 1) * integration) (samples - first * integration) - (0 + j / div_ceil integration epoch * integration))
     epoch (j % div_ceil integration epoch) cut placed.part in
-    rw is (record { start = start; from = omega (arith, start, from) })
+    rw is (record { start = omega (arith, start); from = omega (arith, start, from) })
 
-pub epoch-is : (samples integration epoch j per number products baselines lags end to : ℕ) → per ≡ div_ceil integration epoch
-    → end ≡ min samples (j / per * integration + integration)
-    → to ≡ min end (j / per * integration + j % per * epoch + epoch)
+pub epoch-is : (first samples integration epoch j per number products baselines lags end to : ℕ) → per ≡ div_ceil integration epoch
+    → end ≡ min samples ((first + j / per) * integration + integration)
+    → to ≡ min end ((first + j / per) * integration + j % per * epoch + epoch)
     → ◌≡◌ {A = EpochPlan}
-    (record { scan = number; m = j / per; from = j / per * integration + j % per * epoch; to = to; products = products; baselines = baselines; lags = lags })
-    (epoch_at (job_sizes [] integration epoch lags) number (record { samples = samples; products = products; baselines = baselines }) j)
-epoch-is samples integration epoch j per number products baselines lags end to is close last =
-    let m : j / per ≡ j / div_ceil integration epoch = ap (λ (p : ℕ). j / p) is in
-    let start : j / per * integration ≡ j / div_ceil integration epoch * integration = ap (λ (n : ℕ). n * integration) m in
+    (record {
+      scan = number;
+      m = first + j / per;
+      from = (first + j / per) * integration + j % per * epoch;
+      to = to;
+      products = products;
+      baselines = baselines;
+      lags = lags;
+    })
+    (epoch_at (job_sizes [] integration epoch lags) number
+    (record { first = first; samples = samples; products = products; baselines = baselines }) j)
+epoch-is first samples integration epoch j per number products baselines lags end to is close last =
+    let m : first + j / per ≡ first + j / div_ceil integration epoch = ap (λ (p : ℕ). first + j / p) is in
+    let start : (first + j / per) * integration ≡ (first + j / div_ceil integration epoch) * integration = ap (λ (n : ℕ). n * integration) m in
     let past : j % per * epoch ≡ j % div_ceil integration epoch * epoch = ap (λ (p : ℕ). j % p * epoch) is in
     same_epoch _ _ _ _ _ _ _ _ _ _ m (omega (arith, start, past)) (omega (arith, start, past, close, last))
 
 pub epoch_at-IsEpoch : (job : JobSizes) (number : ℕ) (size : ScanSize) (j : ℕ) → IsJob job → slice_get job.scans number ≡ Some size
-    → j < count_in size.samples job.integration job.epoch → IsEpoch job (epoch_at job number size j)
+    → j < count_in (size.samples - size.first * job.integration) job.integration job.epoch → IsEpoch job (epoch_at job number size j)
 epoch_at-IsEpoch job number size j is at inside =
-    let within = epoch-IsWithin size.samples job.integration job.epoch j (div_ceil job.integration job.epoch) is.integration is.epoch inside refl in
+    let within = epoch-IsWithin size.first size.samples job.integration job.epoch j (div_ceil job.integration job.epoch)
+    is.integration is.epoch inside refl in
     record {
       size = size;
       scan = at;
       products = refl;
       baselines = refl;
       lags = refl;
+      begins = omega arith;
       from = omega arith;
       some = omega (arith, within.from, is.epoch);
       to = omega arith;
       short = omega (arith, is.short);
     }
 
-pub scan-IsScan : (job : JobSizes) (number : ℕ) (size : ScanSize) → IsJob job → slice_get job.scans number ≡ Some size → IsScan job.lags size
+pub scan-IsScan : (job : JobSizes) (number : ℕ) (size : ScanSize) → IsJob job → slice_get job.scans number ≡ Some size → IsScan job.integration job.lags size
 scan-IsScan job number size is at =
     let inside = slice_get_within job.scans number size at in
-    subst (IsScan job.lags) (get_or_from_slice_get job.scans number size size at) (is.scans number size inside)
+    subst (IsScan job.integration job.lags) (get_or_from_slice_get job.scans number size size at) (is.scans number size inside)
 
 pub IsEpoch-IsOfPlan : (job : JobSizes) (e : EpochPlan) → IsJob job → IsEpoch job e → IsOfPlan e
 IsEpoch-IsOfPlan job e is inside =
@@ -83,7 +95,7 @@ IsEpoch-IsOfPlan job e is inside =
 pub record IsFound (job : JobSizes) (i number before : ℕ) (size : ScanSize) : Type 0 where
   pub scan : slice_get job.scans number ≡ Some size
   pub low : before ≤ i
-  pub inside : i - before < count_in size.samples job.integration job.epoch
+  pub inside : i - before < count_in (size.samples - size.first * job.integration) job.integration job.epoch
   pub at : slice_get (epochs_of job) i ≡ Some (epoch_at job number size (i - before))
 
 before-is : (job : JobSizes) (ends : List ℕ) (scan before : ℕ) → AreEnds job ends → scan < length ends
@@ -112,7 +124,7 @@ epoch-IsFound job ends i scan before size is are above first later at =
     let end = are.each scan above.within in
     let more = epochs_before-more job scan size at in
     let count = length-scan_epochs job scan size is.integration is.epoch in
-    let inside : i - before < count_in size.samples job.integration job.epoch = omega (arith, low, start, end, more, count, above.above) in
+    let inside : i - before < count_in (size.samples - size.first * job.integration) job.integration job.epoch = omega (arith, low, start, end, more, count, above.above) in
     let place : epochs_before job scan + (i - before) ≡ i = omega (arith, low, start) in
     record {
       scan = at;

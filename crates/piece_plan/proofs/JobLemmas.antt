@@ -13,20 +13,24 @@ use Rattle.piece_plan.proofs.EndLemmas.{epochs_before-none, epochs_before-more, 
 use Rattle.piece_plan.proofs.EpochLemmas.{scan-IsScan}
 
 -- an epoch has a sample
+epochs_before-scan : (job : JobSizes) (k : ℕ) (size : ScanSize) → IsJob job → slice_get job.scans k ≡ Some size
+    → epochs_before job (k + 1) ≤ epochs_before job k + 2 ^ 40
+epochs_before-scan job k size is at =
+    let scan = scan-IsScan job k size is at in
+    let more = epochs_before-more job k size at in
+    let count = length-scan_epochs job k size is.integration is.epoch in
+    let small = count_in-le (size.samples - size.first * job.integration) job.integration job.epoch _ _ is.integration is.epoch refl refl in
+    omega (arith, more, count, small, scan.samples)
+
 pub epochs_before-bound : (job : JobSizes) (k : ℕ) → IsJob job → k ≤ length job.scans → epochs_before job k ≤ k * 2 ^ 40
 epochs_before-bound job zero is within = omega (arith, epochs_before-none job)
 epochs_before-bound job (suc k) is within =
     let less = epochs_before-bound job k is (omega (arith, within)) in
-    let no_size : ScanSize = record { samples = 0; products = 0; baselines = 0 } in
-    let size : ScanSize = get_or job.scans k (record { samples = 0; products = 0; baselines = 0 }) in
-    let at = slice_get-get_or job.scans k (record { samples = 0; products = 0; baselines = 0 }) (omega (arith, within)) in
-    let scan = scan-IsScan job k (get_or job.scans k (record { samples = 0; products = 0; baselines = 0 })) is at in
-    let more = epochs_before-more job k (get_or job.scans k (record { samples = 0; products = 0; baselines = 0 })) at in
-    let count = length-scan_epochs job k (get_or job.scans k (record { samples = 0; products = 0; baselines = 0 })) is.integration is.epoch in
-    let small = count_in-le (get_or job.scans k (record { samples = 0; products = 0; baselines = 0 })).samples job.integration job.epoch _ _ is.integration is.epoch refl refl in
+    let at = slice_get-get_or job.scans k (record { first = 0; samples = 0; products = 0; baselines = 0 }) (omega (arith, within)) in
+    let more = epochs_before-scan job k (get_or job.scans k (record { first = 0; samples = 0; products = 0; baselines = 0 })) is at in
     let next : k + 1 ≡ suc k = omega arith in
     let same = ap (epochs_before job) next in
-    omega (arith, same, more, count, small, scan.samples, less)
+    omega (arith, same, more, less)
 
 -- the ends of the first i scans, and the number of their epochs
 pub record AreCounted (job : JobSizes) (ends : List ℕ) (i end : ℕ) : Type 0 where
@@ -44,7 +48,7 @@ AreCounted-none job ends is =
     }
 
 pub AreCounted-more : (job : JobSizes) (ends next : List ℕ) (i end n : ℕ) (size : ScanSize) → IsJob job → AreCounted job ends i end
-    → slice_get job.scans i ≡ Some size → n ≡ count_in size.samples job.integration job.epoch
+    → slice_get job.scans i ≡ Some size → n ≡ count_in (size.samples - size.first * job.integration) job.integration job.epoch
     → next ≡ ends ++ (end + n) ∷ [] → AreCounted job next (i + 1) (end + n)
 AreCounted-more job ends next i end n size is counted at count pushed =
     let sum : end + n ≡ epochs_before job (i + 1) =

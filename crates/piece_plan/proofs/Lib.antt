@@ -9,3 +9,4 @@ pub mod EpochLemmas
 pub mod WalkLemmas
 pub mod JobLemmas
 pub mod PieceLemmas
+pub mod LimitLemmas

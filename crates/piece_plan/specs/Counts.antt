@@ -7,17 +7,18 @@ use Rattle.piece_plan.specs.declared.epoch.EpochPlan.{EpochPlan}
 use Rattle.piece_plan.specs.Parts.{part_at}
 use Rattle.piece_plan.specs.Epochs.{JobSizes, range_of, integration_at, scan_epochs}
 
--- the epochs of a scan of so many samples: those of its whole integrations, and those of the rest
+-- the epochs of so many samples: those of their whole integrations, and those of the rest
 abbrev pub count_in : ℕ → ℕ → ℕ → ℕ
 count_in samples integration epoch =
     samples / integration * div_ceil integration epoch + div_ceil (samples % integration) epoch
 
--- epoch j of a scan, by the number of epochs in a whole integration
+-- epoch j of a scan, counted from its first integration, by the number of epochs in a whole one
 abbrev pub epoch_at : JobSizes → ℕ → ScanSize → ℕ → EpochPlan
 epoch_at job number size j =
     let per = div_ceil job.integration job.epoch in
-    let whole = integration_at job size (j / per) in
-    range_of job number size (j / per) (part_at whole.from whole.to job.epoch (j % per))
+    let m = size.first + j / per in
+    let whole = integration_at job size m in
+    range_of job number size m (part_at whole.from whole.to job.epoch (j % per))
 
 -- the number of epochs of the first so many scans
 unfoldable pub epochs_before : JobSizes → ℕ → ℕ

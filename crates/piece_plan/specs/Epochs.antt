@@ -31,8 +31,10 @@ pub record AreLags (lags : ℕ) : Type 0 where
   pub within : lags ≤ 1024
   pub even : lags % 2 ≡ 0
 
--- a scan has a product and a baseline, at most 2^40 samples and at most 4,194,304 cells
-pub record IsScan (lags : ℕ) (size : ScanSize) : Type 0 where
+-- a scan has a product and a baseline, at most 4,194,304 cells, and at most 2^40 samples up to the last that belongs to the job, before
+-- which its first integration does not begin
+pub record IsScan (integration lags : ℕ) (size : ScanSize) : Type 0 where
+  pub first : size.first * integration ≤ size.samples
   pub samples : size.samples ≤ 2 ^ 40
   pub products : 0 < size.products
   pub baselines : 0 < size.baselines
@@ -40,7 +42,7 @@ pub record IsScan (lags : ℕ) (size : ScanSize) : Type 0 where
 
 pub record IsJob (job : JobSizes) : Type 0 where
   pub many : length job.scans ≤ 2 ^ 23
-  pub scans : All (IsScan job.lags) job.scans
+  pub scans : All (IsScan job.integration job.lags) job.scans
   pub integration : 1 ≤ job.integration
   pub longest : job.integration ≤ 2 ^ 36
   pub epoch : 1 ≤ job.epoch
@@ -63,8 +65,9 @@ range_of job number size m r = record {
 abbrev pub integration_at : JobSizes → ScanSize → ℕ → Range
 integration_at job size m = part_at 0 size.samples job.integration m
 
+-- how many of them belong to the job: from the scan's first on
 abbrev pub integration_count : JobSizes → ScanSize → ℕ
-integration_count job size = part_count 0 size.samples job.integration
+integration_count job size = part_count (size.first * job.integration) size.samples job.integration
 
 -- the epochs of integration m: it is cut in its turn
 unfoldable pub integration_epochs : JobSizes → ℕ → ScanSize → ℕ → List EpochPlan
@@ -79,7 +82,7 @@ ranges_of epochs = map (λ e. record { from = e.from; to = e.to }) epochs
 -- the epochs of a scan, integration after integration
 unfoldable pub scan_epochs : JobSizes → ℕ → ScanSize → List EpochPlan
 scan_epochs job number size =
-    flat_map (integration_epochs job number size) (range_with_len 0 (integration_count job size))
+    flat_map (integration_epochs job number size) (range_with_len size.first (integration_count job size))
 
 -- the epochs of the job, scan after scan
 unfoldable pub epochs_of : JobSizes → List EpochPlan
@@ -93,6 +96,7 @@ pub record IsEpoch (job : JobSizes) (e : EpochPlan) : Type 0 where
   pub products : e.products ≡ size.products
   pub baselines : e.baselines ≡ size.baselines
   pub lags : e.lags ≡ job.lags
+  pub begins : size.first ≤ e.m
   pub from : (integration_at job size e.m).from ≤ e.from
   pub some : e.from < e.to
   pub to : e.to ≤ (integration_at job size e.m).to

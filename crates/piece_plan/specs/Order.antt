@@ -1,5 +1,5 @@
 -- Epochs in order, from a place of the job to a later one.
-use Rattle.std.specs.Prelude.{◌≡◌, ℕ, ◌+◌, nat_lt, if◌then◌else◌, List, [], ◌∷◌, drop, slice_get, Option, Some, None}
+use Rattle.std.specs.Prelude.{◌≡◌, ℕ, ◌+◌, ◌*◌, nat_lt, if◌then◌else◌, List, [], ◌∷◌, drop, slice_get, Option, Some, None}
 use Rattle.piece_plan.specs.declared.job.ScanSize.{ScanSize}
 use Rattle.piece_plan.specs.declared.epoch.EpochPlan.{EpochPlan}
 use Rattle.piece_plan.specs.Epochs.{JobSizes, IsEpoch, integration_at}
@@ -13,13 +13,17 @@ pub record Place : Type 0 where
 abbrev pub place_of : EpochPlan → Place
 place_of e = record { scan = e.scan; m = e.m; from = e.from }
 
--- the first sample of these scans, which are numbered from here on; none where no scan has a sample
-abbrev pub first_place : ℕ → List ScanSize → Option Place
-first_place number [] = None
-first_place number (size ∷ scans) =
-    if nat_lt 0 size.samples
-    then Some (record { scan = number; m = 0; from = 0 })
-    else first_place (number + 1) scans
+-- the first sample of these scans, which are numbered from here on, by the samples of an integration; none where no scan has one
+abbrev pub first_place : ℕ → ℕ → List ScanSize → Option Place
+first_place integration number [] = None
+first_place integration number (size ∷ scans) =
+    if nat_lt (size.first * integration) size.samples
+    then Some (record { scan = number; m = size.first; from = size.first * integration })
+    else first_place integration (number + 1) scans
+
+-- the first sample of the job
+abbrev pub job_start : JobSizes → Option Place
+job_start job = first_place job.integration 0 job.scans
 
 -- the place after an epoch: in its integration, else the first sample of the next integration of the scan, else that
 -- of the later scans
@@ -31,7 +35,7 @@ place_in job e (Some size) =
     else
     (if nat_lt e.to size.samples
     then Some (record { scan = e.scan; m = e.m + 1; from = e.to })
-    else first_place (e.scan + 1) (drop (e.scan + 1) job.scans))
+    else first_place job.integration (e.scan + 1) (drop (e.scan + 1) job.scans))
 
 unfoldable pub place_after : JobSizes → EpochPlan → Option Place
 place_after job e = place_in job e (slice_get job.scans e.scan)
@@ -45,4 +49,4 @@ AreInOrder job due (e ∷ epochs) end =
 
 -- epochs in order from the job's first sample to its end
 abbrev pub CoverJob : JobSizes → List EpochPlan → Type 0
-CoverJob job epochs = AreInOrder job (first_place 0 job.scans) epochs None
+CoverJob job epochs = AreInOrder job (job_start job) epochs None

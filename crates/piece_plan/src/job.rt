@@ -2,13 +2,16 @@
 ghost use Rattle.std.specs.Prelude.{◌≡◌, ◌^◌, ◌<◌, ◌≤◌, length, slice_get, Some, IfOk};
 
 use crate::EpochPlan;
+use crate::limit::{integrations_in, limited_scan};
 use crate::numbering::{epoch_in, epochs_in, first_above, number_before};
 use std::alloc::{AllocError, Global};
 use std::marker::Model;
 
-/// The size of a scan: its length in samples, and how many products and baselines it has.
+/// The size of a scan as far as it belongs to a job: the number of its first integration, its length in
+/// samples up to the last one that does, and how many products and baselines it has.
 #[derive(Clone, Copy, Debug, PartialEq, Eq)]
 pub struct ScanSize {
+    pub first: u64,
     pub samples: u64,
     pub products: u32,
     pub baselines: u32,
@@ -40,11 +43,12 @@ impl Model for JobPlan {
 impl JobPlan {
     ghost use Rattle.piece_plan.specs.Epochs.{IsJob, job_sizes, epochs_of, IsEpoch, IsOfPlan};
     ghost use Rattle.piece_plan.specs.Order.{CoverJob};
+    ghost use Rattle.piece_plan.specs.Limited.{integrations, limited};
 
     /// The epochs of these scans, at most 2^23, of up to 2^40 samples each: each scan is cut into
-    /// integrations of so many samples, 1 to 2^36, and each of these into epochs of so many samples, 1 to
-    /// 4,194,304. `lags` is even, 2 to 1,024; each scan has a product and a baseline, and at most
-    /// 4,194,304 cells.
+    /// integrations of so many samples, 1 to 2^36, and each of these from the scan's first one on into
+    /// epochs of so many samples, 1 to 4,194,304. `lags` is even, 2 to 1,024; each scan has a product and
+    /// a baseline, and at most 4,194,304 cells.
     pub fn new(
         alloc: Global,
         scans: &[ScanSize],
@@ -58,7 +62,7 @@ impl JobPlan {
         let mut ends = Vec::new(alloc);
         let mut end = 0;
         for size in scans {
-            end += epochs_in(size.samples, integration, epoch);
+            end += epochs_in(size.samples - size.first * integration, integration, epoch);
             ends.push(end)?;
         }
         Ok(JobPlan {
@@ -99,5 +103,34 @@ impl JobPlan {
             self.lags,
             i - before,
         )
+    }
+
+    /// The number of integrations of all scans.
+    pub fn integrations(&self) -> u64
+        ensures many { result ≡ integrations self.now }
+        ensures bound { result ≤ 2 ^ 63 }
+    {
+        let mut count = 0;
+        for size in &self.scans {
+            count += integrations_in(size, self.integration);
+        }
+        count
+    }
+
+    /// The same job with those integrations alone that have a number from `from` up to, not including,
+    /// `to`, counted from 0 through all scans. Scans and integrations keep their numbers.
+    pub fn limited(&self, alloc: Global, from: u64, to: u64) -> Result<JobPlan, AllocError>
+        ensures { IfOk result (λ p. p ≡ limited self.now from to) }
+    {
+        let mut scans = Vec::new(alloc);
+        let mut first = from;
+        let mut end = to;
+        for size in &self.scans {
+            let count = integrations_in(size, self.integration);
+            scans.push(limited_scan(size, self.integration, first, end.min(count)))?;
+            first = first.saturating_sub(count);
+            end = end.saturating_sub(count);
+        }
+        JobPlan::new(alloc, &scans, self.integration, self.epoch, self.lags)
     }
 }

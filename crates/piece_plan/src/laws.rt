@@ -1,11 +1,13 @@
 //! What follows from the definitions. The functions do nothing: a call brings its law.
-ghost use Rattle.std.specs.Prelude.{◌≡◌, ◌≤◌, ◌<◌, ℕ, ℤ, List};
+ghost use Rattle.std.specs.Prelude.{◌≡◌, ◌↔◌, ◌+◌, ◌≤◌, ◌<◌, ℕ, ℤ, List, length};
 ghost use Rattle.corr_model.specs.declared.cell.Pair.{Pair};
 ghost use Rattle.corr_model.specs.Cell.{Samples, cell_in};
 ghost use Rattle.piece_plan.specs.declared.job.ScanSize.{ScanSize};
 ghost use Rattle.piece_plan.specs.Parts.{Range, GoThrough, parts};
-ghost use Rattle.piece_plan.specs.Epochs.{JobSizes, IsJob, integration_at, integration_count, integration_epochs, ranges_of, epochs_of};
-ghost use Rattle.piece_plan.specs.Order.{CoverJob};
+ghost use Rattle.piece_plan.specs.declared.epoch.EpochPlan.{EpochPlan};
+ghost use Rattle.piece_plan.specs.Epochs.{JobSizes, IsJob, IsEpoch, integration_at, integration_count, integration_epochs, ranges_of, epochs_of};
+ghost use Rattle.piece_plan.specs.Order.{place_of, CoverJob};
+ghost use Rattle.piece_plan.specs.Limited.{integration_number, limited};
 ghost use Rattle.piece_plan.specs.Sums.{cell_over};
 
 /// The parts of a range go through it.
@@ -15,7 +17,7 @@ pub fn parts_go_through()
 
 /// The epochs of an integration go through it.
 pub fn epochs_go_through_integration()
-    ensures { (job : JobSizes) (number m : ℕ) (size : ScanSize) → IsJob job → m < integration_count job size
+    ensures { (job : JobSizes) (number m : ℕ) (size : ScanSize) → IsJob job → size.first ≤ m → m < size.first + integration_count job size
         → GoThrough (integration_at job size m).from (integration_at job size m).to
         (ranges_of (integration_epochs job number size m)) }
 {}
@@ -23,6 +25,23 @@ pub fn epochs_go_through_integration()
 /// The epochs of a job go through it in order.
 pub fn epochs_cover_job()
     ensures { (job : JobSizes) → IsJob job → CoverJob job (epochs_of job) }
+{}
+
+/// A job that is limited to some of its integrations is a job.
+pub fn limited_jobs_are_jobs()
+    ensures { (job : JobSizes) (from to : ℕ) → IsJob job → IsJob (limited job from to) }
+{}
+
+/// Its epochs are those of the job whose integrations have such a number.
+pub fn epochs_of_limited()
+    ensures { (job : JobSizes) (from to : ℕ) (e : EpochPlan) → IsJob job
+        → IsEpoch (limited job from to) e
+        ↔ (IsEpoch job e × (from ≤ integration_number job (place_of e)) × (integration_number job (place_of e) < to)) }
+{}
+
+/// It is cut into no more epochs than the job.
+pub fn limited_jobs_are_shorter()
+    ensures { (job : JobSizes) (from to : ℕ) → IsJob job → length (epochs_of (limited job from to)) ≤ length (epochs_of job) }
 {}
 
 /// The cell of a range is the sum of that cell over ranges that go through it.

@@ -1,6 +1,6 @@
 //! The numbers of epochs: how many a scan has, which scan has the one with a number, and which epoch of
 //! its scan that is.
-ghost use Rattle.std.specs.Prelude.{◌≡◌, ◌-◌, ◌^◌, ◌<◌, ◌≤◌, ℕ, List, length, slice_index};
+ghost use Rattle.std.specs.Prelude.{◌≡◌, ◌-◌, ◌*◌, ◌^◌, ◌<◌, ◌≤◌, ℕ, List, length, slice_index};
 ghost use Rattle.std.specs.List.Sorted.{IsNonDecreasingBy};
 ghost use Rattle.piece_plan.specs.declared.job.ScanSize.{ScanSize};
 ghost use Rattle.piece_plan.specs.Epochs.{job_sizes};
@@ -8,7 +8,7 @@ ghost use Rattle.piece_plan.specs.Counts.{count_in, epoch_at};
 
 use crate::{EpochPlan, ScanSize};
 
-// The number of epochs of a scan of so many samples.
+// The number of epochs of so many samples.
 pub(crate) fn epochs_in(samples: u64, integration: u64, epoch: u64) -> u64
     requires integration { 0 < integration }
     requires epoch { 0 < epoch }
@@ -39,7 +39,7 @@ pub(crate) fn number_before(ends: &[u64], at: usize) -> u64
     if at == 0 { 0 } else { ends[at - 1] }
 }
 
-// Epoch `j` of a scan, counted from the scan's first.
+// Epoch `j` of a scan, counted from the first of its first integration.
 pub(crate) fn epoch_in(
     number: u32,
     size: &ScanSize,
@@ -53,12 +53,13 @@ pub(crate) fn epoch_in(
     requires longest { integration ≤ 2 ^ 36 }
     requires epoch { 0 < epoch }
     requires short { epoch ≤ 4194304 }
-    requires inside { j < count_in size.now.samples integration epoch }
+    requires first { size.now.first * integration ≤ size.now.samples }
+    requires inside { j < count_in (size.now.samples - size.now.first * integration) integration epoch }
     ensures { (scans : List ScanSize)
         → result ≡ epoch_at (job_sizes scans integration epoch lags) number size.now j }
 {
     let per = integration.div_ceil(epoch);
-    let m = j / per;
+    let m = size.first + j / per;
     let start = m * integration;
     let end = size.samples.min(start + integration);
     let from = start + j % per * epoch;

@@ -5,9 +5,10 @@ use std::process::Abort;
 use std::test::*;
 
 fn size(samples: u64, products: u32, baselines: u32) -> ScanSize
-    ensures { result ≡ record { samples = samples; products = products; baselines = baselines } }
+    ensures { result ≡ record { first = 0; samples = samples; products = products; baselines = baselines } }
 {
     ScanSize {
+        first: 0,
         samples,
         products,
         baselines,
@@ -120,6 +121,43 @@ fn epochs_of_several_scans(rt: HostRuntime) -> Result<(), Fail> {
             (17, piece(1, 2, 32, 40)),
         ],
     );
+    Ok(())
+}
+
+// Integrations are counted through all scans, and those that a limited job has keep their numbers.
+#[test]
+fn epochs_of_limited_jobs(rt: HostRuntime) -> Result<(), Fail> {
+    let scans = [size(100, 2, 3), size(0, 1, 1), size(70, 1, 1)];
+    let plan = JobPlan::new(rt.alloc(), &scans, 64, 40, 2)?;
+    assert_eq!(rt; plan.integrations(), 4);
+    let part = plan.limited(rt.alloc(), 1, 3)?;
+    assert_eq!(rt; part.integrations(), 2);
+    has_epochs(
+        &rt,
+        &part,
+        &[
+            epoch(0, 1, 64, 100, 2, 3),
+            epoch(2, 0, 0, 40, 1, 1),
+            epoch(2, 0, 40, 64, 1, 1),
+        ],
+    );
+    let whole = plan.limited(rt.alloc(), 0, 4)?;
+    assert_eq!(rt; whole.integrations(), 4);
+    has_epochs(
+        &rt,
+        &whole,
+        &[
+            epoch(0, 0, 0, 40, 2, 3),
+            epoch(0, 0, 40, 64, 2, 3),
+            epoch(0, 1, 64, 100, 2, 3),
+            epoch(2, 0, 0, 40, 1, 1),
+            epoch(2, 0, 40, 64, 1, 1),
+            epoch(2, 1, 64, 70, 1, 1),
+        ],
+    );
+    let none = plan.limited(rt.alloc(), 2, 2)?;
+    assert_eq!(rt; none.integrations(), 0);
+    has_epochs(&rt, &none, &[]);
     Ok(())
 }
 

@@ -6,11 +6,11 @@ use Rattle.std.proofs.lemmas.Bool.{cases_lt, cond-true, cond-false, lt-ltb, le-l
 use Rattle.piece_plan.specs.declared.job.ScanSize.{ScanSize}
 use Rattle.piece_plan.specs.declared.epoch.EpochPlan.{EpochPlan}
 use Rattle.piece_plan.specs.Epochs.{JobSizes, IsJob, IsEpoch, integration_at}
-use Rattle.piece_plan.specs.Order.{Place, place_of, first_place, place_in, place_after}
+use Rattle.piece_plan.specs.Order.{Place, place_of, first_place, job_start, place_in, place_after}
 use Rattle.plan_places.specs.Places.{IsPlace, IsUpTo, IsBefore}
 use Rattle.plan_places.specs.Search.{IsIn}
-use Rattle.plan_places.proofs.Orders.{place-eq}
-use Rattle.plan_places.proofs.FirstPlaces.{slice_get-drop, first_place-is, first_place-reaches}
+use Rattle.plan_places.proofs.Orders.{not-before, place-eq}
+use Rattle.plan_places.proofs.FirstPlaces.{slice_get-drop, begin_of, IsFirst, first_place-is, first_place-reaches}
 
 pub after-is : (job : JobSizes) (e : EpochPlan) (size : ScanSize) → slice_get job.scans e.scan ≡ Some size
     → place_after job e ≡ place_in job e (Some size)
@@ -31,10 +31,16 @@ after-integration job e size at end inside =
 
 pub after-scan : (job : JobSizes) (e : EpochPlan) (size : ScanSize) → slice_get job.scans e.scan ≡ Some size
     → (integration_at job size e.m).to ≤ e.to → size.samples ≤ e.to
-    → place_after job e ≡ first_place (e.scan + 1) (drop (e.scan + 1) job.scans)
+    → place_after job e ≡ first_place job.integration (e.scan + 1) (drop (e.scan + 1) job.scans)
 after-scan job e size at end last =
     after-is job e size at ∙ cond-false (ltb e.to (integration_at job size e.m).to) _ _ (le-ltb _ _ end)
     ∙ cond-false (ltb e.to size.samples) _ _ (le-ltb _ _ last)
+
+-- behind the end of a scan it is the first of the later ones
+pub first-later : (job : JobSizes) (e : EpochPlan) (q : Place) (is : IsEpoch job e) → (integration_at job is.size e.m).to ≤ e.to
+    → is.size.samples ≤ e.to → place_after job e ≡ Some q → IsFirst job.integration (e.scan + 1) (drop (e.scan + 1) job.scans) q
+first-later job e q is end last after =
+    first_place-is job.integration (e.scan + 1) (drop (e.scan + 1) job.scans) q (sym (after-scan job e is.size is.scan end last) ∙ after)
 
 -- it is behind the epoch's begin
 pub after-before : (job : JobSizes) (e : EpochPlan) (q : Place) → IsEpoch job e → place_after job e ≡ Some q → IsBefore (place_of e) q
@@ -55,7 +61,7 @@ after-before job e q is after =
     subst (λ (p : Place). IsBefore (place_of e) p) place
     (record { scan = omega arith; m = λ s. omega arith; from = λ s t. is.some }))
     (λ last.
-    let first = first_place-is (e.scan + 1) (drop (e.scan + 1) job.scans) q (sym (after-scan job e is.size is.scan end last) ∙ after) in
+    let first = first-later job e q is end last after in
     record {
       scan = omega (arith, first.scan);
       m = λ s. absurd (omega (arith, first.scan, s));
@@ -68,6 +74,13 @@ pub same_size : (job : JobSizes) (p : Place) (e : EpochPlan) (place : IsPlace jo
 same_size job p e place is scan =
     let other : slice_get job.scans p.scan ≡ Some is.size = ap (slice_get job.scans) (sym scan) ∙ is.scan in
     let both : ◌≡◌ {A = Option ScanSize} (Some place.size) (Some is.size) = sym place.scan ∙ other in
+    cc
+
+-- the size of a place's scan
+place-size : (job : JobSizes) (p : Place) (place : IsPlace job p) (k : ℕ) (size : ScanSize) → slice_get job.scans k ≡ Some size → k ≡ p.scan
+    → place.size ≡ size
+place-size job p place k size at same =
+    let both : ◌≡◌ {A = Option ScanSize} (Some place.size) (Some size) = sym place.scan ∙ ap (slice_get job.scans) (sym same) ∙ at in
     cc
 
 -- before the place after it that is in the same scan
@@ -100,21 +113,40 @@ in-integration job p e place is begun end before =
     absurd (omega (arith, place.from, is.to, from, times)))
     (cases_lt p.m (e.m + 1))
 
+-- where an integration begins, and those before it
+times-le : (job : JobSizes) (m n : ℕ) → m ≤ n → m * job.integration ≤ n * job.integration
+times-le job m n le =
+    let step : job.integration * m ≤ job.integration * n = mul-le-mul_left job.integration le in
+    omega (arith, step)
+
+-- a scan with a place has a sample
+place-some : (job : JobSizes) (p : Place) (place : IsPlace job p) → place.size.first * job.integration < place.size.samples
+place-some job p place = omega (arith, times-le job place.size.first p.m place.first, place.from, place.inside)
+
+-- a place of a scan is not before the scan's first sample
+place-begun : (job : JobSizes) (p : Place) (place : IsPlace job p) (k : ℕ) (size : ScanSize) → k ≤ p.scan
+    → (k ≡ p.scan → place.size ≡ size) → IsUpTo (begin_of job.integration k size) p
+place-begun job p place k size le same = record {
+  scan = le;
+  m = λ s. omega (arith, ap (λ (x : ScanSize). x.first) (same s), place.first);
+  from = λ s t. omega (arith, ap (λ n. n * job.integration) t, place.from);
+}
+
 -- at the end of a scan
 in-scan : (job : JobSizes) (p : Place) (e : EpochPlan) → IsPlace job p → (is : IsEpoch job e) → IsUpTo (place_of e) p
     → is.size.samples ≤ e.to
-    → ((q : Place) → first_place (e.scan + 1) (drop (e.scan + 1) job.scans) ≡ Some q → IsBefore p q) → IsIn p e
+    → ((q : Place) → first_place job.integration (e.scan + 1) (drop (e.scan + 1) job.scans) ≡ Some q → IsBefore p q) → IsIn p e
 in-scan job p e place is begun last before =
     ⊎_elim
     (λ later.
     let count : e.scan + 1 + (p.scan - (e.scan + 1)) ≡ p.scan = omega (arith, later) in
     let at : slice_get (drop (e.scan + 1) job.scans) (p.scan - (e.scan + 1)) ≡ Some place.size =
     slice_get-drop (e.scan + 1) job.scans (p.scan - (e.scan + 1)) ∙ ap (slice_get job.scans) count ∙ place.scan in
-    let reached = first_place-reaches (e.scan + 1) (drop (e.scan + 1) job.scans) (p.scan - (e.scan + 1)) place.size at (omega (arith, place.inside)) in
-    let less = before _ reached.is in
-    let scan : p.scan ≡ e.scan + 1 + reached.j = omega (arith, less.scan, reached.within, count) in
-    let m : p.m ≡ 0 = omega (arith, less.m scan) in
-    absurd (omega (arith, less.from scan m)))
+    let reached = first_place-reaches job.integration (e.scan + 1) (drop (e.scan + 1) job.scans) (p.scan - (e.scan + 1)) place.size at (place-some job p place) in
+    let there : slice_get job.scans (e.scan + 1 + reached.j) ≡ Some reached.size =
+    sym (slice_get-drop (e.scan + 1) job.scans reached.j) ∙ reached.at in
+    let begun = place-begun job p place (e.scan + 1 + reached.j) reached.size (omega (arith, reached.within, count)) (place-size job p place _ _ there) in
+    absurd (not-before _ p begun (before _ reached.is)))
     (λ same.
     let scan : e.scan ≡ p.scan = omega (arith, begun.scan, same) in
     let size = same_size job p e place is scan in
@@ -143,35 +175,40 @@ in-epoch job p e place is begun before =
     (cases_lt e.to (integration_at job is.size e.m).to)
 
 -- some place of the job is not before its first
-pub first-before : (job : JobSizes) (p : Place) → IsPlace job p → (q : Place) × (first_place 0 job.scans ≡ Some q) × IsUpTo q p
+pub first-before : (job : JobSizes) (p : Place) → IsPlace job p → (q : Place) × (job_start job ≡ Some q) × IsUpTo q p
 first-before job p place =
-    let reached = first_place-reaches 0 job.scans p.scan place.size place.scan (omega (arith, place.inside)) in (
-      record { scan = 0 + reached.j; m = 0; from = 0 },
+    let reached = first_place-reaches job.integration 0 job.scans p.scan place.size place.scan (place-some job p place) in
+    let count : reached.j ≡ 0 + reached.j = omega arith in
+    let at : slice_get job.scans (0 + reached.j) ≡ Some reached.size = ap (slice_get job.scans) (sym count) ∙ reached.at in (
+      begin_of job.integration (0 + reached.j) reached.size,
       reached.is,
-      record { scan = omega (arith, reached.within); m = λ s. omega arith; from = λ s t. omega arith },
+      place-begun job p place (0 + reached.j) reached.size (omega (arith, reached.within)) (place-size job p place _ _ at),
     )
 
-begin-IsPlace : (job : JobSizes) (k : ℕ) (size : ScanSize) → IsJob job → slice_get job.scans k ≡ Some size → 0 < size.samples
-    → IsPlace job (record { scan = k; m = 0; from = 0 })
-begin-IsPlace job k size is at some = record {
-  size = size;
-  scan = at;
-  from = omega arith;
-  inside = omega (arith, is.integration, some);
-}
+begin-IsPlace : (job : JobSizes) (k : ℕ) (size : ScanSize) → IsJob job → slice_get job.scans k ≡ Some size
+    → size.first * job.integration < size.samples → IsPlace job (begin_of job.integration k size)
+begin-IsPlace job k size is at some =
+    let next : (size.first + 1) * job.integration ≡ size.first * job.integration + job.integration = omega arith in
+    record {
+      size = size;
+      scan = at;
+      first = omega arith;
+      from = omega arith;
+      inside = omega (arith, is.integration, some, next);
+    }
 
-pub first-IsPlace : (job : JobSizes) (n : ℕ) (p : Place) → IsJob job → first_place n (drop n job.scans) ≡ Some p → IsPlace job p
+pub first-IsPlace : (job : JobSizes) (n : ℕ) (p : Place) → IsJob job → first_place job.integration n (drop n job.scans) ≡ Some p → IsPlace job p
 first-IsPlace job n p is first =
-    let there = first_place-is n (drop n job.scans) p first in
+    let there = first_place-is job.integration n (drop n job.scans) p first in
     let at : slice_get job.scans (n + there.k) ≡ Some there.size = sym (slice_get-drop n job.scans there.k) ∙ there.at in
-    let place = begin-IsPlace job (n + there.k) there.size is at there.some in
-    let same : ◌≡◌ {A = Place} (record { scan = n + there.k; m = 0; from = 0 }) p = place-eq _ _ (sym there.scan) (sym there.m) (sym there.from) in
-    subst (λ (q : Place). IsPlace job q) same place
+    let same : begin_of job.integration (n + there.k) there.size ≡ p = place-eq _ _ (sym there.scan) (sym there.m) (sym there.from) in
+    subst (λ (q : Place). IsPlace job q) same (begin-IsPlace job (n + there.k) there.size is at there.some)
 
 pub begin_of-IsPlace : (job : JobSizes) (e : EpochPlan) → IsEpoch job e → IsPlace job (place_of e)
 begin_of-IsPlace job e is = record {
   size = is.size;
   scan = is.scan;
+  first = is.begins;
   from = is.from;
   inside = omega (arith, is.some, is.to);
 }
@@ -182,6 +219,7 @@ pub end-IsPlace : (job : JobSizes) (e : EpochPlan) → (is : IsEpoch job e) → 
 end-IsPlace job e is inside = record {
   size = is.size;
   scan = is.scan;
+  first = is.begins;
   from = omega (arith, is.from, is.some);
   inside = inside;
 }
@@ -194,6 +232,7 @@ next-IsPlace job e job_is is end inside =
     record {
       size = is.size;
       scan = is.scan;
+      first = omega (arith, is.begins);
       from = omega (arith, here);
       inside = omega (arith, here, next, inside, job_is.integration);
     }

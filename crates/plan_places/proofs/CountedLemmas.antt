@@ -1,30 +1,23 @@
 -- The count of a walk, scan by scan.
 use Rattle.std.specs.Prelude.{slice_get, option_map}
 use Rattle.std.specs.Int.{div_ceil}
-use Rattle.std.proofs.Common.{◌≡◌, ◌∙◌, sym, ap, refl, subst, ℕ, ◌+◌, ◌-◌, ◌*◌, ◌^◌, ◌<◌, ◌≤◌, min, List, [], ◌∷◌, length, get_or, drop, Option, Some, None, ⊎_elim, arith}
+use Rattle.std.proofs.Common.{◌≡◌, ◌∙◌, sym, ap, refl, subst, ℕ, ◌+◌, ◌-◌, ◌*◌, ◌^◌, ◌<◌, ◌≤◌, min, List, [], ◌∷◌, length, get_or, Option, Some, None, ⊎_elim, arith}
 use Rattle.std.proofs.lemmas.Bool.{cases_lt}
 use Rattle.std.proofs.lemmas.Option.{slice_get_within, slice_get-get_or, slice_get_past}
 use Rattle.piece_plan.specs.declared.job.ScanSize.{ScanSize}
 use Rattle.piece_plan.specs.declared.epoch.EpochPlan.{EpochPlan}
 use Rattle.piece_plan.specs.Counts.{count_in}
 use Rattle.piece_plan.specs.Epochs.{JobSizes, IsJob, IsEpoch, integration_at, epochs_of}
-use Rattle.piece_plan.specs.Order.{Place, place_of, first_place, place_after}
+use Rattle.piece_plan.specs.Order.{Place, place_of, job_start, place_after}
 use Rattle.piece_plan.proofs.WalkLemmas.{epochs-CoverJob}
 use Rattle.plan_places.specs.Places.{IsPlace}
 use Rattle.plan_places.specs.Search.{begin_at, BeginsAt, EndsIntegration, EndsScan}
 use Rattle.plan_places.specs.Walk.{IsWalk, IsScanLeft}
-use Rattle.plan_places.proofs.FirstPlaces.{IsFirst, first_place-is}
-use Rattle.plan_places.proofs.AfterLemmas.{after-integration, after-scan, begin_of-IsPlace}
+use Rattle.plan_places.proofs.AfterLemmas.{after-integration, first-later, begin_of-IsPlace}
 use Rattle.plan_places.proofs.OrderedEpochs.{begin_at-is, order-at, order-le}
 use Rattle.plan_places.proofs.CutLemmas.{same-sizes}
 use Rattle.plan_places.proofs.Counts.{count-by-first}
 use Rattle.plan_places.proofs.WalkLemmas.{IsRest, integration-walk, scan-walk}
-
--- behind the end of a scan stands the first place of the later ones
-next-first : (job : JobSizes) (d : EpochPlan) (q : Place) (is : IsEpoch job d) → is.size.samples ≤ d.to → place_after job d ≡ Some q
-    → IsFirst (d.scan + 1) (drop (d.scan + 1) job.scans) q
-next-first job d q is last after =
-    first_place-is (d.scan + 1) (drop (d.scan + 1) job.scans) q (sym (after-scan job d is.size is.scan (omega (arith, last)) last) ∙ after)
 
 -- behind the end of an integration one begins
 next-begins : (job : JobSizes) (d : EpochPlan) (q : Place) (is : IsEpoch job d) → (integration_at job is.size d.m).to ≤ d.to
@@ -38,15 +31,14 @@ next-begins job d q is end after =
     let here : d.to ≡ (d.m + 1) * job.integration = omega (arith, end, inside, is.to) in
     subst (λ (p : Place). p.from ≡ p.m * job.integration) same here)
     (λ last.
-    let first = next-first job d q is last after in
-    let none : q.m * job.integration ≡ 0 * job.integration = ap (λ n. n * job.integration) first.m in
-    omega (arith, first.from, none))
+    let first = first-later job d q is end last after in
+    first.from ∙ ap (λ n. n * job.integration) (sym first.m))
     (cases_lt d.to is.size.samples)
 
 next-is : (job : JobSizes) (k : ℕ) (d e : EpochPlan) → IsJob job → slice_get (epochs_of job) k ≡ Some d → slice_get (epochs_of job) (k + 1) ≡ Some e
     → place_after job d ≡ Some (place_of e)
 next-is job k d e is at there =
-    let follow = order-at job (first_place 0 job.scans) (epochs_of job) k d (epochs-CoverJob job is) at in
+    let follow = order-at job (job_start job) (epochs_of job) k d (epochs-CoverJob job is) at in
     follow.next ∙ begin_at-is (epochs_of job) (k + 1) e there
 
 pub next-BeginsAt : (job : JobSizes) (k : ℕ) (d : EpochPlan) → IsJob job → slice_get (epochs_of job) k ≡ Some d → (is : IsEpoch job d)
@@ -57,7 +49,7 @@ next-BeginsAt job k d job_is at is end e there = next-begins job d (place_of e) 
 next-scan : (job : JobSizes) (k : ℕ) (d e : EpochPlan) → IsJob job → slice_get (epochs_of job) k ≡ Some d → slice_get (epochs_of job) (k + 1) ≡ Some e
     → (is : IsEpoch job d) → is.size.samples ≤ d.to → d.scan < e.scan
 next-scan job k d e job_is at there is last =
-    let first = next-first job d (place_of e) is last (next-is job k d e job_is at there) in
+    let first = first-later job d (place_of e) is (omega (arith, last)) last (next-is job k d e job_is at there) in
     omega (arith, first.scan)
 
 -- the last epoch of a scan is not before another one of it
@@ -70,7 +62,7 @@ after-first job i k e d job_is at there is last scan =
     let x : EpochPlan = get_or (epochs_of job) (k + 1) e in
     let next = slice_get-get_or (epochs_of job) (k + 1) e (omega (arith, past, slice_get_within (epochs_of job) i e at)) in
     let later = next-scan job k d (get_or (epochs_of job) (k + 1) e) job_is there next is last in
-    let order = order-le job (first_place 0 job.scans) (epochs_of job) (k + 1) i (get_or (epochs_of job) (k + 1) e) e (epochs-CoverJob job job_is) past next at in
+    let order = order-le job (job_start job) (epochs_of job) (k + 1) i (get_or (epochs_of job) (k + 1) e) e (epochs-CoverJob job job_is) past next at in
     absurd (omega (arith, later, order.scan, scan)))
     (cases_lt i (k + 1))
 
@@ -81,8 +73,8 @@ scan-left-walk : (job : JobSizes) (epoch i k count : ℕ) (e first d : EpochPlan
     → IsRest job epoch (begin_at (epochs_of job) (k + 1)) walk count
 scan-left-walk job epoch i k count e first d walk is some at there begin integration scan count_is goes =
     let cover = epochs-CoverJob job is in
-    let here = order-at job (first_place 0 job.scans) (epochs_of job) i e cover at in
-    let last = order-at job (first_place 0 job.scans) (epochs_of job) k d cover there in
+    let here = order-at job (job_start job) (epochs_of job) i e cover at in
+    let last = order-at job (job_start job) (epochs_of job) k d cover there in
     let due : IsWalk job epoch (Some (place_of e)) walk = subst (λ (o : Option Place). IsWalk job epoch o walk) (begin_at-is (epochs_of job) i e at) goes in
     let whole = scan-walk (d.to - e.from) job epoch (place_of e) d walk some is.integration (begin_of-IsPlace job e here.is) begin scan (omega arith) due in
     let sizes = same-sizes job first d integration.is scan.is (integration.scan ∙ sym scan.scan) in
@@ -137,7 +129,7 @@ counted-none job epoch first within begin = record {
 -- the scan of an epoch is one of the job
 scan-within : (job : JobSizes) (i : ℕ) (e : EpochPlan) → IsJob job → slice_get (epochs_of job) i ≡ Some e → e.scan < length job.scans
 scan-within job i e is at =
-    let here = order-at job (first_place 0 job.scans) (epochs_of job) i e (epochs-CoverJob job is) at in
+    let here = order-at job (job_start job) (epochs_of job) i e (epochs-CoverJob job is) at in
     slice_get_within job.scans e.scan here.is.size here.is.scan
 
 pub counted-more : (job : JobSizes) (epoch first i count next more : ℕ) (e : EpochPlan) → IsJob job → IsCounted job epoch first i count

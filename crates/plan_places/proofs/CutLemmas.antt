@@ -27,6 +27,7 @@ cut_of-IsEpoch job epoch p place some short = record {
   products = refl;
   baselines = refl;
   lags = refl;
+  begins = place.first;
   from = place.from;
   some = omega (arith, some, place.inside);
   to = omega arith;

@@ -1,17 +1,16 @@
 -- Epochs of any length: they are the walk from a job's start, and from no place are more of them left.
 use Rattle.std.specs.Prelude.{slice_get, IfSome}
-use Rattle.std.proofs.Common.{◌≡◌, ◌∙◌, sym, ap, refl, subst, ℕ, ◌+◌, ◌*◌, ◌≤◌, min, List, [], ◌∷◌, length, drop, Option, Some, None, ◌⊎◌, inl, inr, ⊎_elim, arith}
+use Rattle.std.proofs.Common.{◌≡◌, ◌∙◌, sym, ap, refl, subst, ℕ, ◌+◌, ◌*◌, ◌≤◌, min, List, [], ◌∷◌, length, Option, Some, None, ◌⊎◌, inl, inr, ⊎_elim, arith}
 use Rattle.std.proofs.lemmas.Bool.{cases_lt}
 use Rattle.piece_plan.specs.declared.job.ScanSize.{ScanSize}
 use Rattle.piece_plan.specs.declared.epoch.EpochPlan.{EpochPlan}
 use Rattle.piece_plan.specs.Epochs.{JobSizes, IsJob, IsEpoch, integration_at}
-use Rattle.piece_plan.specs.Order.{Place, place_of, first_place, place_in, place_after}
+use Rattle.piece_plan.specs.Order.{Place, place_of, job_start, place_in, place_after}
 use Rattle.plan_places.specs.Places.{IsPlace, IsUpTo, IsBefore}
 use Rattle.plan_places.specs.Search.{IsIn}
 use Rattle.plan_places.specs.Walk.{cut_in, cut_at, next_epoch, IsWalk, AreLeft, epochs_by}
 use Rattle.plan_places.proofs.Orders.{up_to-refl, up_to-or-before}
-use Rattle.plan_places.proofs.FirstPlaces.{first_place-is}
-use Rattle.plan_places.proofs.AfterLemmas.{after-inside, after-integration, after-scan, after-same, after-IsPlace, in-epoch, first-before}
+use Rattle.plan_places.proofs.AfterLemmas.{after-inside, after-integration, first-later, after-same, after-IsPlace, in-epoch, first-before}
 use Rattle.plan_places.proofs.CutLemmas.{cut-IsEpoch, same-sizes}
 use Rattle.plan_places.proofs.WalkLemmas.{walk-first}
 use Rattle.plan_places.proofs.WholeWalks.{first-IfSome}
@@ -46,7 +45,7 @@ walk-by-length job n epoch due (e ∷ epochs) walk = (
       (subst (λ (o : Option Place). IsWalk (record job { epoch = n }) epoch o epochs) (after-by job n e) walk.1),
 )
 
-IsJob-by : (job : JobSizes) (epoch : ℕ) → IsJob job → 1 ≤ epoch → epoch ≤ 4194304 → IsJob (record job { epoch = epoch })
+pub IsJob-by : (job : JobSizes) (epoch : ℕ) → IsJob job → 1 ≤ epoch → epoch ≤ 4194304 → IsJob (record job { epoch = epoch })
 IsJob-by job epoch is some short = record {
   many = is.many;
   scans = is.scans;
@@ -58,9 +57,9 @@ IsJob-by job epoch is some short = record {
 }
 
 pub epochs_by-IsWalk : (job : JobSizes) (epoch : ℕ) → IsJob job → 1 ≤ epoch → epoch ≤ 4194304
-    → IsWalk job epoch (first_place 0 job.scans) (epochs_by job epoch)
+    → IsWalk job epoch (job_start job) (epochs_by job epoch)
 epochs_by-IsWalk job epoch is some short =
-    walk-by-length job epoch epoch (first_place 0 job.scans) (epochs_by job epoch) (epochs-IsWalk (record job { epoch = epoch }) (IsJob-by job epoch is some short))
+    walk-by-length job epoch epoch (job_start job) (epochs_by job epoch) (epochs-IsWalk (record job { epoch = epoch }) (IsJob-by job epoch is some short))
 
 -- a walk stands no later than another one
 abbrev Leads : Option Place → Option Place → Type 0
@@ -98,7 +97,7 @@ after-Leads job e f is other scan m to q after =
           (record { scan = omega (arith, scan); m = λ s. omega (arith, m); from = λ s t. to }),
     ))
     (λ last.
-    let first = first_place-is (f.scan + 1) (drop (f.scan + 1) job.scans) q (sym (after-scan job f other.size other.scan end last) ∙ after) in (
+    let first = first-later job f q other end last after in (
       record { scan = e.scan; m = e.m; from = e.to },
       there,
       record {
@@ -181,7 +180,7 @@ walk-le job epoch (Some p) (Some q) (e ∷ epochs) (f ∷ others) is some short 
     omega (arith, rest))
     (in-or-after job q e (place_after job e) there here from refl)
 
-first-Leads : (job : JobSizes) (due : Option Place) → IfSome due (IsPlace job) → Leads (first_place 0 job.scans) due
+first-Leads : (job : JobSizes) (due : Option Place) → IfSome due (IsPlace job) → Leads (job_start job) due
 first-Leads job None place q is = absurd (cc (is))
 first-Leads job (Some p) place q is =
     let same : p ≡ q = cc in
@@ -190,6 +189,6 @@ first-Leads job (Some p) place q is =
 pub left-within : (job : JobSizes) (epoch : ℕ) (due : Option Place) (n : ℕ) → IsJob job → 1 ≤ epoch → epoch ≤ 4194304
     → IfSome due (IsPlace job) → AreLeft job epoch due n → n ≤ length (epochs_by job epoch)
 left-within job epoch due n is some short place left =
-    let few = walk-le job epoch (first_place 0 job.scans) due (epochs_by job epoch) left.epochs is some short (first-IfSome job is) place
+    let few = walk-le job epoch (job_start job) due (epochs_by job epoch) left.epochs is some short (first-IfSome job is) place
     (first-Leads job due place) (epochs_by-IsWalk job epoch is some short) left.walk in
     omega (arith, few, left.many)

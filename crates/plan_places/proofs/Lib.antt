@@ -10,3 +10,4 @@ pub mod CountedLemmas
 pub mod WholeWalks
 pub mod OwnWalk
 pub mod LeftLemmas
+pub mod LimitLemmas

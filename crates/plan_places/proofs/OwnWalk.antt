@@ -7,7 +7,7 @@ use Rattle.piece_plan.specs.declared.job.ScanSize.{ScanSize}
 use Rattle.piece_plan.specs.declared.epoch.EpochPlan.{EpochPlan}
 use Rattle.piece_plan.specs.Parts.{part_at, part_count, parts}
 use Rattle.piece_plan.specs.Epochs.{JobSizes, IsJob, IsEpoch, range_of, integration_at, integration_count, integration_epochs, scan_epochs, epochs_of}
-use Rattle.piece_plan.specs.Order.{Place, place_of, first_place, place_after, AreInOrder}
+use Rattle.piece_plan.specs.Order.{Place, place_of, job_start, place_after, AreInOrder}
 use Rattle.piece_plan.proofs.ListPlaces.{slice_get-right}
 use Rattle.piece_plan.proofs.WalkLemmas.{epochs-CoverJob}
 use Rattle.plan_places.specs.Places.{IsPlace, IsUpTo}
@@ -59,7 +59,7 @@ integrations-AreCut job number size m (suc n) at =
 
 scan-AreCut : (job : JobSizes) (number : ℕ) (size : ScanSize) → slice_get job.scans number ≡ Some size → AreCut job (scan_epochs job number size)
 unfolding scan_epochs
-scan-AreCut job number size at = integrations-AreCut job number size 0 (integration_count job size) at
+scan-AreCut job number size at = integrations-AreCut job number size size.first (integration_count job size) at
 
 scans-AreCut : (job : JobSizes) (number : ℕ) (front rest : List ScanSize) → job.scans ≡ front ++ rest → number ≡ length front
     → AreCut job (flat_map (λ (s : ℕ × ScanSize). scan_epochs job s.0 s.1) (enumerate_from number rest))
@@ -84,8 +84,8 @@ cut-IsWalk job due (e ∷ epochs) order cut = (
   cut-IsWalk job (place_after job e) epochs order.2 cut.1,
 )
 
-pub epochs-IsWalk : (job : JobSizes) → IsJob job → IsWalk job job.epoch (first_place 0 job.scans) (epochs_of job)
-epochs-IsWalk job is = cut-IsWalk job (first_place 0 job.scans) (epochs_of job) (epochs-CoverJob job is) (job-AreCut job)
+pub epochs-IsWalk : (job : JobSizes) → IsJob job → IsWalk job job.epoch (job_start job) (epochs_of job)
+epochs-IsWalk job is = cut-IsWalk job (job_start job) (epochs_of job) (epochs-CoverJob job is) (job-AreCut job)
 
 AreCut-at : (job : JobSizes) (epochs : List EpochPlan) (k : ℕ) (e : EpochPlan) (size : ScanSize) → AreCut job epochs → slice_get epochs k ≡ Some e
     → slice_get job.scans e.scan ≡ Some size → cut_of job job.epoch (place_of e) size ≡ e

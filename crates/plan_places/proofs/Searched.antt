@@ -7,7 +7,7 @@ use Rattle.std.proofs.lemmas.Bool.{cases_lt}
 use Rattle.std.proofs.lemmas.Option.{slice_get_within}
 use Rattle.piece_plan.specs.declared.epoch.EpochPlan.{EpochPlan}
 use Rattle.piece_plan.specs.Epochs.{JobSizes, IsEpoch, integration_at, epochs_of}
-use Rattle.piece_plan.specs.Order.{Place, place_of, first_place, place_after, AreInOrder, CoverJob}
+use Rattle.piece_plan.specs.Order.{Place, place_of, job_start, place_after, AreInOrder, CoverJob}
 use Rattle.plan_places.specs.Places.{IsPlace, IsUpTo, IsBefore}
 use Rattle.plan_places.specs.Search.{begin_at, IsIn, IsCount, EndsIntegration, EndsScan}
 use Rattle.plan_places.proofs.Orders.{up_to-trans, not-before, up_to-or-before, up_to-before, before-up_to-trans}
@@ -66,7 +66,7 @@ count-some job p q n cover place le count =
     (λ some. some)
     (λ none.
     let first = first-before job p place in
-    let due : begin_at (epochs_of job) 0 ≡ Some first.0 = sym (order-first job (first_place 0 job.scans) (epochs_of job) cover) ∙ first.1 in
+    let due : begin_at (epochs_of job) 0 ≡ Some first.0 = sym (order-first job (job_start job) (epochs_of job) cover) ∙ first.1 in
     let there = begin_at-some (epochs_of job) 0 first.0 due in
     let past = count.above 0 there.e (omega (arith, none)) there.at in
     let same : IsUpTo (place_of there.e) q = rw there.is (up_to-trans first.0 p q first.2 le) in
@@ -77,7 +77,7 @@ count-some job p q n cover place le count =
 pub count-IsIn : (job : JobSizes) (p : Place) (k n : ℕ) (e : EpochPlan) → CoverJob job (epochs_of job) → IsPlace job p
     → IsCount (epochs_of job) p n → n ≡ k + 1 → slice_get (epochs_of job) k ≡ Some e → IsIn p e
 count-IsIn job p k n e cover place count next at =
-    let follow = order-at job (first_place 0 job.scans) (epochs_of job) k e cover at in
+    let follow = order-at job (job_start job) (epochs_of job) k e cover at in
     in-epoch job p e place follow.is (count.up_to k e (omega (arith, next)) at)
     (λ q after.
     let there = begin_at-some (epochs_of job) (k + 1) q (sym follow.next ∙ after) in
@@ -91,6 +91,7 @@ IsIn-IsPlace job p e is scan m from to =
     record {
       size = is.size;
       scan = ap (slice_get job.scans) (sym scan) ∙ is.scan;
+      first = omega (arith, is.begins, m);
       from = omega (arith, is.from, from, times);
       inside = omega (arith, is.to, to, more);
     }
@@ -105,7 +106,7 @@ pub record IsLastTo (job : JobSizes) (p q : Place) (e : EpochPlan) : Type 0 wher
 pub count-IsLastTo : (job : JobSizes) (p q : Place) (k n : ℕ) (e : EpochPlan) → CoverJob job (epochs_of job) → IsPlace job p
     → IsUpTo p q → q.scan ≡ p.scan → IsCount (epochs_of job) q n → n ≡ k + 1 → slice_get (epochs_of job) k ≡ Some e → IsLastTo job p q e
 count-IsLastTo job p q k n e cover place le scan count next at =
-    let follow = order-at job (first_place 0 job.scans) (epochs_of job) k e cover at in
+    let follow = order-at job (job_start job) (epochs_of job) k e cover at in
     let reached : IsUpTo (place_of e) q = count.up_to k e (omega (arith, next)) at in
     let past : (r : Place) → place_after job e ≡ Some r → IsBefore q r =
     λ r after.
@@ -199,5 +200,5 @@ last-within job p q n cover place le count =
 pub epoch-next : (job : JobSizes) (i : ℕ) (e : EpochPlan) → CoverJob job (epochs_of job) → slice_get (epochs_of job) i ≡ Some e
     → place_after job e ≡ begin_at (epochs_of job) (i + 1)
 epoch-next job i e cover at =
-    let follow = order-at job (first_place 0 job.scans) (epochs_of job) i e cover at in
+    let follow = order-at job (job_start job) (epochs_of job) i e cover at in
     follow.next

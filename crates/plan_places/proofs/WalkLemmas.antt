@@ -33,6 +33,7 @@ moved-IsPlace : (job : JobSizes) (p : Place) (place : IsPlace job p) (epoch : �
 moved-IsPlace job p place epoch inside = record {
   size = place.size;
   scan = place.scan;
+  first = place.first;
   from = omega (arith, place.from);
   inside = inside;
 }
@@ -86,6 +87,7 @@ last_of-Ends job p place = record {
     products = refl;
     baselines = refl;
     lags = refl;
+    begins = place.first;
     from = omega (arith, place.from, place.inside);
     some = omega (arith, place.inside);
     to = omega arith;
@@ -107,6 +109,7 @@ next-place job p place whole inside =
     record {
       size = place.size;
       scan = place.scan;
+      first = omega (arith, place.first);
       from = omega (arith, inside);
       inside = omega (arith, inside, next, whole);
     }
@@ -142,7 +145,7 @@ scan-walk (suc n) job epoch p d epochs some whole place begin ends few walk =
     (λ last.
     let after : place_after job (last_of job p place.size) ≡ place_after job d =
     after-scan job (last_of job p place.size) place.size place.scan (omega arith) last
-    ∙ ap (λ n. first_place (n + 1) (drop (n + 1) job.scans)) (sym ends.scan)
+    ∙ ap (λ n. first_place job.integration (n + 1) (drop (n + 1) job.scans)) (sym ends.scan)
     ∙ sym (after-scan job d ends.is.size ends.is.scan (omega (arith, ends.to)) (omega (arith, ends.to))) in
     let end : (integration_at job place.size p.m).to ≡ d.to = omega (arith, last, all) in
     let long : (integration_at job place.size p.m).to - p.from ≡ d.to - p.from = ap (λ n. n - p.from) end in

@@ -6,12 +6,11 @@ use Rattle.std.proofs.lemmas.Bool.{cases_lt}
 use Rattle.piece_plan.specs.declared.job.ScanSize.{ScanSize}
 use Rattle.piece_plan.specs.declared.epoch.EpochPlan.{EpochPlan}
 use Rattle.piece_plan.specs.Epochs.{JobSizes, IsJob, IsEpoch, integration_at, epochs_of}
-use Rattle.piece_plan.specs.Order.{Place, place_of, first_place, place_after, AreInOrder, CoverJob}
+use Rattle.piece_plan.specs.Order.{Place, place_of, job_start, place_after, AreInOrder, CoverJob}
 use Rattle.plan_places.specs.Places.{IsPlace}
 use Rattle.plan_places.specs.Walk.{IsWalk, AreLeft}
 use Rattle.plan_places.specs.Search.{begin_at, EndsIntegration}
-use Rattle.plan_places.proofs.FirstPlaces.{first_place-is}
-use Rattle.plan_places.proofs.AfterLemmas.{after-inside, after-integration, after-scan, after-IsPlace, first-IsPlace, some-IfSome}
+use Rattle.plan_places.proofs.AfterLemmas.{after-inside, after-integration, first-later, after-IsPlace, first-IsPlace, some-IfSome}
 use Rattle.plan_places.proofs.CutLemmas.{cut_of, cut-is, cut-IsEpoch, cut_of-IsEpoch}
 use Rattle.plan_places.proofs.WalkLemmas.{walk-first}
 use Rattle.plan_places.proofs.CountedLemmas.{left-is}
@@ -26,13 +25,13 @@ walk-AreInOrder job epoch (Some p) (e ∷ epochs) is some short place walk =
     let here = cut-IsEpoch job epoch p e place some short walk.0 in
     (ap Some begin, here, walk-AreInOrder job epoch (place_after job e) epochs is some short (after-IsPlace job e is here) walk.1)
 
-pub first-IfSome : (job : JobSizes) → IsJob job → IfSome (first_place 0 job.scans) (IsPlace job)
-first-IfSome job is = some-IfSome (first_place 0 job.scans) (IsPlace job) (λ p first. first-IsPlace job 0 p is first)
+pub first-IfSome : (job : JobSizes) → IsJob job → IfSome (job_start job) (IsPlace job)
+first-IfSome job is = some-IfSome (job_start job) (IsPlace job) (λ p first. first-IsPlace job 0 p is first)
 
 pub walk-CoverJob : (job : JobSizes) (epoch : ℕ) (epochs : List EpochPlan) → IsJob job → 1 ≤ epoch → epoch ≤ 4194304
-    → IsWalk job epoch (first_place 0 job.scans) epochs → CoverJob job epochs
+    → IsWalk job epoch (job_start job) epochs → CoverJob job epochs
 walk-CoverJob job epoch epochs is some short walk =
-    walk-AreInOrder job epoch (first_place 0 job.scans) epochs is some short (first-IfSome job is) walk
+    walk-AreInOrder job epoch (job_start job) epochs is some short (first-IfSome job is) walk
 
 -- the samples of scans
 abbrev samples_of : List ScanSize → ℕ
@@ -96,7 +95,7 @@ after-less job e (Some q) is after =
     subst (λ (p : Place). samples_of (drop p.scan job.scans) - p.from < samples_of (drop e.scan job.scans) - e.from) same
     (omega (arith, sum, is.some, is.to)))
     (λ last.
-    let first = first_place-is (e.scan + 1) (drop (e.scan + 1) job.scans) q (sym (after-scan job e is.size is.scan end last) ∙ after) in
+    let first = first-later job e q is end last after in
     let same : samples_of (drop q.scan job.scans) ≡ samples_of (drop (e.scan + 1 + first.k) job.scans) = ap (λ n. samples_of (drop n job.scans)) first.scan in
     omega (arith, sum, is.some, is.to, same, ahead-less (e.scan + 1) first.k job.scans))
     (cases_lt e.to is.size.samples))

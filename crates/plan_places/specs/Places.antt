@@ -9,10 +9,11 @@ use Rattle.plan_places.specs.declared.place.Place.{Place as Spot}
 abbrev pub place_at : Spot → Place
 place_at p = record { scan = p.scan; m = p.m; from = p.from }
 
--- a place of a job: a sample of an integration of a scan that the job has
+-- a place of a job: a sample of an integration that the job has of a scan
 pub record IsPlace (job : JobSizes) (p : Place) : Type 0 where
   pub size : ScanSize
   pub scan : slice_get job.scans p.scan ≡ Some size
+  pub first : size.first ≤ p.m
   pub from : (integration_at job size p.m).from ≤ p.from
   pub inside : p.from < (integration_at job size p.m).to
 

@@ -1,7 +1,7 @@
 //! Places, and the epochs between them.
 ghost use Rattle.std.specs.Prelude.{◌≡◌, ◌<◌, ◌≤◌, ◌↔◌, IsTrue, IfSome, option_map, slice_get, length, Some};
 ghost use Rattle.piece_plan.specs.Epochs.{epochs_of, IsEpoch, IsOfPlan};
-ghost use Rattle.piece_plan.specs.Order.{first_place, place_after, CoverJob};
+ghost use Rattle.piece_plan.specs.Order.{job_start, place_after, CoverJob};
 ghost use Rattle.plan_places.specs.Places.{place_at, IsPlace};
 ghost use Rattle.plan_places.specs.Search.{begin_at};
 ghost use Rattle.plan_places.specs.Walk.{cut_at};
@@ -18,9 +18,9 @@ pub struct Place {
     pub from: u64,
 }
 
-/// The first place of a job; none exactly where no scan has a sample.
+/// The first place of a job; none exactly where no scan has a sample that belongs to the job.
 pub fn start(plan: &JobPlan) -> Option<Place>
-    ensures first { option_map place_at result ≡ first_place 0 plan.now.scans }
+    ensures first { option_map place_at result ≡ job_start plan.now }
     ensures place { IfSome result (λ p. IsPlace plan.now (place_at p)) }
 {
     begin_of(plan, 0)

@@ -7,9 +7,10 @@ use std::process::Abort;
 use std::test::*;
 
 fn size(samples: u64) -> ScanSize
-    ensures { result ≡ record { samples = samples; products = 2; baselines = 3 } }
+    ensures { result ≡ record { first = 0; samples = samples; products = 2; baselines = 3 } }
 {
     ScanSize {
+        first: 0,
         samples,
         products: 2,
         baselines: 3,
@@ -163,6 +164,63 @@ fn walks_from_inside(rt: HostRuntime) -> Result<(), Fail> {
     assert!(rt; is_place(&plan, &last));
     has_walk(&rt, &plan, Some(last), 4194304, &[epoch(3, 1, 69, 70)]);
     has_walk(&rt, &plan, None, 64, &[]);
+    Ok(())
+}
+
+// Integrations 1 and 2 of a job are the shorter one of scan 0 and the whole one of scan 2.
+#[test]
+fn places_of_a_limited_job(rt: HostRuntime) -> Result<(), Fail> {
+    let scans = [size(100), size(0), size(70)];
+    let whole = JobPlan::new(rt.alloc(), &scans, 64, 40, 4)?;
+    let plan = whole.limited(rt.alloc(), 1, 3)?;
+    assert_eq!(rt; start(&plan), Some(place(0, 1, 64)));
+    are_places(
+        &rt,
+        &plan,
+        true,
+        &[
+            place(0, 1, 64),
+            place(0, 1, 99),
+            place(2, 0, 0),
+            place(2, 0, 63),
+        ],
+    );
+    are_places(
+        &rt,
+        &plan,
+        false,
+        &[
+            place(0, 0, 0),
+            place(0, 0, 63),
+            place(0, 1, 100),
+            place(1, 0, 0),
+            place(2, 0, 64),
+            place(2, 1, 64),
+        ],
+    );
+    let none = whole.limited(rt.alloc(), 2, 2)?;
+    assert_eq!(rt; start(&none), None);
+    Ok(())
+}
+
+#[test]
+fn walk_of_a_limited_job(rt: HostRuntime) -> Result<(), Fail> {
+    let scans = [size(100), size(0), size(70)];
+    let whole = JobPlan::new(rt.alloc(), &scans, 64, 40, 4)?;
+    let plan = whole.limited(rt.alloc(), 1, 3)?;
+    has_walk(
+        &rt,
+        &plan,
+        start(&plan),
+        28,
+        &[
+            epoch(0, 1, 64, 92),
+            epoch(0, 1, 92, 100),
+            epoch(2, 0, 0, 28),
+            epoch(2, 0, 28, 56),
+            epoch(2, 0, 56, 64),
+        ],
+    );
     Ok(())
 }
 

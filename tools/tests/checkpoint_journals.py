@@ -120,6 +120,54 @@ class Job:
         """The cells that the table has of an epoch."""
         return [(1000 * epoch.scan + 10 * epoch.m + epoch.begin, -epoch.end, number + 1) for number in range(self.count(epoch))]
 
+    def walk(self, place: Optional[Place], samples: int) -> list[Epoch]:
+        """The epochs of so many samples from a place on."""
+        epochs = []
+        while place is not None:
+            epochs.append(self.cut(place, samples))
+            place = self.after(epochs[-1])
+        return epochs
+
+    def size(self, epochs: list[Epoch]) -> int:
+        """The bytes of a journal that keeps these epochs: with the two gates of one that keeps none."""
+        return 2 + len(self.identity) + sum(29 + 24 * self.count(epoch) for epoch in epochs)
+
+    def integrations(self) -> int:
+        """How many integrations there are, through all scans."""
+        return sum(parts(scan.samples, self.integration) for scan in self.scans)
+
+    def begins(self, begin: int, end: int) -> Iterator[Place]:
+        """The places at which the integrations begin that have a number from one up to, not including, another."""
+        for number, scan in enumerate(self.scans):
+            count = parts(scan.samples, self.integration)
+            yield from (Place(number, m, m * self.integration) for m in range(max(begin, 0), min(end, count)))
+            begin, end = begin - count, end - count
+
+
+class Part(Job):
+    """A part of a job: its integrations from a number up to, not including, another, counted from 0 through all scans."""
+
+    def __init__(self, job: Job, begin: int, end: int) -> None:
+        super().__init__(part_identity(job.identity, begin, end), job.integration, job.epoch, job.lags, job.scans)
+        self.job = job
+        self.places = list(job.begins(begin, end))
+
+    def rule(self, epoch: Epoch) -> list[Cell]:
+        return self.job.rule(epoch)
+
+    def first(self, scan: int = 0) -> Optional[Place]:
+        return next((place for place in self.places if place.scan >= scan), None)
+
+    def after(self, epoch: Epoch) -> Optional[Place]:
+        if epoch.end < self.end(Place(*epoch[:3])):
+            return Place(epoch.scan, epoch.m, epoch.end)
+        return next((place for place in self.places if place[:2] > epoch[:2]), None)
+
+
+def parts(samples: int, most: int) -> int:
+    """How many parts of at most so many samples there are."""
+    return -(-samples // most)
+
 
 def little(number: int) -> bytes:
     return struct.pack("<Q", number)
@@ -128,6 +176,11 @@ def little(number: int) -> bytes:
 def identity(schedule: bytes, text: bytes, recordings: list[int]) -> bytes:
     numbers = [len(schedule), len(text), len(recordings), *recordings]
     return b"VLBIJRN2" + b"".join(map(little, numbers)) + schedule + text
+
+
+def part_identity(named: bytes, begin: int, end: int) -> bytes:
+    """That of a part of a job of this identity: of its integrations from a number up to, not including, another, counted through all scans."""
+    return b"VLBISHD1" + little(begin) + little(end) + named[8:]
 
 
 def of_old(named: bytes) -> bytes:
@@ -175,7 +228,7 @@ def find(job: Job, image: bytes) -> Optional[Journal]:
     """What a file keeps; none where it is blank."""
     if len(image) <= 1 or image[0] != 1:
         return None
-    is_old = image[8:9] == b"1"
+    is_old = image[8:9] == b"1" and job.identity[7:8] == b"2"  # no journal of a part is old
     at = difference(image, 1, of_old(job.identity) if is_old else job.identity)
     if at is not None:
         raise Other(image, at, job.identity[at - 1 : at])
@@ -523,6 +576,8 @@ class Case:
             self.recordings = [int(one) for one in rest.split()]
         elif word == "job":
             self.end_job(rest.split())
+        elif word == "part":
+            self.job = Part(self.job, *map(int, rest.split()))
         elif word == "old":
             self.file = old_journal(self.job, int(rest))
         elif word == "bytes":

@@ -1,13 +1,13 @@
 -- The front of an image, compared with an identity.
 use Rattle.std.specs.Prelude.{slice_get}
-use Rattle.std.proofs.Common.{◌≡◌, ◌≢◌, ◌∙◌, ◌⊎◌, inl, inr, ⊎_elim, ℕ, zero, suc, ◌+◌, ◌-◌, ◌<◌, ◌≤◌, min, Bool, true, false, eqb, List, [], ◌∷◌, length, get_or, take, drop, set, Option, Some, None, refl, sym, ap, subst, arith}
+use Rattle.std.proofs.Common.{◌≡◌, ◌≢◌, ◌∙◌, ◌⊎◌, inl, inr, ⊎_elim, ℕ, zero, suc, ◌+◌, ◌-◌, ◌<◌, ◌≤◌, min, Bool, true, false, not, eqb, List, [], ◌∷◌, length, get_or, take, drop, set, Option, Some, None, refl, sym, ap, subst, arith}
 use Rattle.std.proofs.lemmas.List.{length-take, length-drop, length-take-le, get_or-take, get_or-drop, get_or-set_same, get_or-set_other}
 use Rattle.std.proofs.lemmas.Grind.{same_number_lists}
 use Rattle.std.proofs.lemmas.Bool.Decides.{nat_tests}
 use Rattle.std.proofs.lemmas.Option.{slice_get_within}
 use Rattle.piece_plan.specs.Epochs.{JobSizes, IsJob}
 use Rattle.journal_image.specs.declared.difference.Differs.{Differs}
-use Rattle.journal_image.specs.Image.{is_blank, IsIdentity, begin}
+use Rattle.journal_image.specs.Image.{is_blank, IsIdentity, MayBeOld, begin}
 use Rattle.journal_image.specs.Difference.{IsOurs, IsOfFront, IsDifference}
 use Rattle.journal_image.proofs.FrontLemmas.{length-begin}
 use Rattle.journal_image.proofs.DifferLemmas.{has_no_reading}
@@ -100,31 +100,52 @@ blank_closed image shut = grind (arith, nat_tests)
 eq_or_ne : (p q : ℕ) → (p ≡ q) ⊎ (p ≢ q)
 eq_or_ne p q = grind arith
 
--- by the version that stands in the image, each byte is that of one of the two identities
-byte_begin : (id image : List ℕ) (old : Bool) (k : ℕ) → 8 ≤ length id → old ≡ eqb (get_or image 8 0) 49 → IsOursAt id image k → get_or image (suc k) 0 ≡ get_or (begin id old) (suc k) 0
+-- Where the version that stands in the image is another than the identity's, it is an old journal's.
+abbrev pub is_old : List ℕ → List ℕ → Bool
+is_old id image = not (eqb (get_or image 8 0) (get_or id 7 0))
+
+old_differs : (n m : ℕ) → true ≡ not (eqb n m) → n ≢ m
+old_differs n m e = grind (arith, nat_tests)
+
+-- by that version each byte is the identity's or the old one's
+byte_begin : (id image : List ℕ) (old : Bool) (k : ℕ) → 8 ≤ length id → old ≡ is_old id image → IsOursAt id image k → get_or image (suc k) 0 ≡ get_or (begin id old) (suc k) 0
 byte_begin id image true k long version ours = ⊎_elim
-    (λ (is : k ≡ 7). ap (λ (j : ℕ). get_or image (suc j) 0) is ∙ old_means (get_or image 8 0) version ∙ sym (ap (λ (j : ℕ). get_or (set id 7 49) j 0) is ∙ get_or-set_same id 7 49 0 long))
+    (λ (is : k ≡ 7).
+    ap (λ (j : ℕ). get_or image (suc j) 0) is ∙ old_byte ours is ∙ sym (ap (λ (j : ℕ). get_or (set id 7 49) j 0) is ∙ get_or-set_same id 7 49 0 long))
     (λ (ne : k ≢ 7). other ours ne ∙ sym (get_or-set_other id 7 k 49 0 ne))
     (eq_or_ne k 7)
   where
-    old_means : (n : ℕ) → true ≡ eqb n 49 → n ≡ 49
-    old_means n e = grind (arith, nat_tests)
+    old_byte : IsOursAt id image k → k ≡ 7 → get_or image 8 0 ≡ 49
+    old_byte (inl same) is =
+        let here : get_or image 8 0 ≡ get_or id 7 0 = subst (λ (j : ℕ). get_or image (1 + j) 0 ≡ get_or id j 0) is same in
+        absurd (old_differs (get_or image 8 0) (get_or id 7 0) version here)
+    old_byte (inr both) is = subst (λ (j : ℕ). get_or image (1 + j) 0 ≡ 49) is both.1
 
     other : IsOursAt id image k → k ≢ 7 → get_or image (suc k) 0 ≡ get_or id k 0
     other (inl same) ne = let at : suc k ≡ 1 + k = omega arith in ap (λ (j : ℕ). get_or image j 0) at ∙ same
     other (inr both) ne = absurd (ne both.0)
 byte_begin id image false k long version ours = new ours
   where
-    new_means : (n : ℕ) → false ≡ eqb n 49 → n ≢ 49
-    new_means n e = grind (arith, nat_tests)
+    new_means : (n m : ℕ) → false ≡ not (eqb n m) → n ≡ m
+    new_means n m e = grind (arith, nat_tests)
 
     new : IsOursAt id image k → get_or image (suc k) 0 ≡ get_or id k 0
     new (inl same) = let at : suc k ≡ 1 + k = omega arith in ap (λ (j : ℕ). get_or image j 0) at ∙ same
-    new (inr both) =
-        let eight : get_or image 8 0 ≡ 49 = let at : 1 + k ≡ 8 = omega (arith, both.0) in ap (λ (j : ℕ). get_or image j 0) (sym at) ∙ both.1 in
-        absurd (new_means (get_or image 8 0) version eight)
+    new (inr both) = subst (λ (j : ℕ). get_or image (suc j) 0 ≡ get_or id j 0) (sym both.0) (new_means (get_or image 8 0) (get_or id 7 0) version)
 
-pub front_begin : (id image : List ℕ) (old : Bool) → IsIdentity id → old ≡ eqb (get_or image 8 0) 49 → get_or image 0 0 ≡ 1 → OursTo id image (length id) → take (1 + length id) image ≡ begin id old
+-- and then the identity's is a `2`
+pub front_may : (id image : List ℕ) → IsIdentity id → OursTo id image (length id) → MayBeOld id (is_old id image)
+front_may id image named ours old = which (ours.same 7 named.long) named.version
+  where
+    differs : get_or image 8 0 ≢ get_or id 7 0
+    differs = old_differs (get_or image 8 0) (get_or id 7 0) (sym old)
+
+    which : IsOursAt id image 7 → (get_or id 7 0 ≡ 50) ⊎ (get_or id 7 0 ≡ 49) → get_or id 7 0 ≡ 50
+    which ours (inl new) = new
+    which (inl same) (inr one) = absurd (differs same)
+    which (inr both) (inr one) = absurd (differs (both.1 ∙ sym one))
+
+pub front_begin : (id image : List ℕ) (old : Bool) → IsIdentity id → old ≡ is_old id image → get_or image 0 0 ≡ 1 → OursTo id image (length id) → take (1 + length id) image ≡ begin id old
 front_begin id image old named version is_open ours =
     same_number_lists (take (1 + length id) image) (begin id old) (length-take-le (1 + length id) image (omega (arith, ours.room)) ∙ sym (length-begin id old)) (λ i lt.
     let below : i < 1 + length id = omega (arith, length-take-le (1 + length id) image (omega (arith, ours.room))) in

@@ -10,7 +10,7 @@ use Rattle.plan_places.specs.Places.{place_at}
 use Rattle.journal_image.specs.declared.difference.Differs.{Differs}
 use Rattle.journal_image.specs.declared.finding.Behind.{Behind}
 use Rattle.journal_image.specs.declared.finding.Behind.TheVariants.{Record, Mark, Fault}
-use Rattle.journal_image.specs.Image.{Due, Thing, Kept, Turn, range_text, text, Fits, next, Covers, things_text, records, IsIdentity, begin, start, Reads}
+use Rattle.journal_image.specs.Image.{Due, Thing, Kept, Turn, range_text, text, Fits, next, Covers, things_text, records, IsIdentity, MayBeOld, begin, start, Reads}
 use Rattle.journal_image.specs.Difference.{IsReadTo, due_at, StandsFirst, IsOfThing, end_of}
 use Rattle.journal_image.specs.Finding.{IsBehind, IsFrontOf}
 use Rattle.journal_image.proofs.RowLemmas.{goes-append, row_text-append}
@@ -34,8 +34,8 @@ records-push (Kept e body ∷ things) t = let rest = records-push things t in om
 records-push (Turn mark ∷ things) t = records-push things t
 
 module _ (id : List ℕ) (job : JobSizes) (image : List ℕ) where
-  pub read_start : (old : Bool) → take (1 + length id) image ≡ begin id old → IsReadTo id job image old (start job old) 0 (1 + length id)
-  read_start old front = record { things = []; goes = refl; many = refl; place = omega arith; front = front ∙ sym (append-nil (begin id old)) }
+  pub read_start : (old : Bool) → MayBeOld id old → take (1 + length id) image ≡ begin id old → IsReadTo id job image old (start job old) 0 (1 + length id)
+  read_start old may front = record { version = may; things = []; goes = refl; many = refl; place = omega arith; front = front ∙ sym (append-nil (begin id old)) }
 
   module _ (old : Bool) (due : Due) (kept at : ℕ) (w : IsReadTo id job image old due kept at) where
     pub read_inside : at ≤ length image
@@ -56,6 +56,7 @@ module _ (id : List ℕ) (job : JobSizes) (image : List ℕ) where
         let long : length (before ++ (1 ∷ text due t)) ≡ at + (1 + length (text due t)) =
         omega (arith, length-append before (1 ∷ text due t), length-append (begin id old) (things_text job (start job old) w.things), length-begin id old, w.place) in
         record {
+          version = w.version;
           things = w.things ++ t ∷ [];
           goes = goes-append (Fits job) text (next job) Covers (start job old) due (next job due t) w.things (t ∷ []) w.goes (s.fits, refl);
           many = omega (arith, w.many, records-push w.things t);
@@ -69,7 +70,7 @@ module _ (id : List ℕ) (job : JobSizes) (image : List ℕ) where
     -- the row ends here
     pub read_reads : at < length image → (get_or image at 0 ≡ 1 → Covers due) → Reads id job image record { old = old; things = w.things; due = due }
     read_reads there stops =
-        reads_at id job image record { old = old; things = w.things; due = due } (get_or image at 0) (drop (at + 1) image) w.goes
+        reads_at id job image record { old = old; things = w.things; due = due } (get_or image at 0) (drop (at + 1) image) w.version w.goes
         (whole ∙ ap (λ (l : List ℕ). (begin id old ++ things_text job (start job old) w.things) ++ l) (drop_more image at 0 there)) stops
 
 same_read : (id : List ℕ) (job : JobSizes) (image : List ℕ) (a b : Bool) (d e : Due) (k l m n : ℕ) → a ≡ b → d ≡ e → k ≡ l → m ≡ n → IsReadTo id job image a d k m → IsReadTo id job image b e l n
@@ -77,8 +78,8 @@ same_read id job image a b d e k l m n h1 h2 h3 h4 w = rw (sym h1, sym h2, sym h
 
 -- the first gate
 pub first_at : (id : List ℕ) (job : JobSizes) (image : List ℕ) (old : Bool) (f : Found) → f.old ≡ old → f.kept ≡ 0 → due_of f ≡ start job old → f.gate ≡ 1 + length id
-    → take (1 + length id) image ≡ begin id old → IsAt id job image f
-first_at id job image old f kind kept due gate front = same_read id job image old f.old (start job old) (due_of f) 0 f.kept (1 + length id) f.gate (sym kind) (sym due) (sym kept) (sym gate) (read_start id job image old front)
+    → MayBeOld id old → take (1 + length id) image ≡ begin id old → IsAt id job image f
+first_at id job image old f kind kept due gate may front = same_read id job image old f.old (start job old) (due_of f) 0 f.kept (1 + length id) f.gate (sym kind) (sym due) (sym kept) (sym gate) (read_start id job image old may front)
 
 -- an image that begins so has more than one byte, and its head gate is open
 pub begins : (id image : List ℕ) (old : Bool) → IsIdentity id → take (1 + length id) image ≡ begin id old → (1 < length image) × (get_or image 0 0 ≡ 1)

@@ -3,7 +3,7 @@ use Rattle.std.specs.Prelude.{◌≡◌, ℕ, ◌≤◌, true, List, length, tak
 use Rattle.corr_model.specs.declared.cell.Cell.{Cell}
 use Rattle.piece_plan.specs.declared.epoch.EpochPlan.{EpochPlan}
 use Rattle.piece_plan.specs.Epochs.{JobSizes, IsEpoch, cell_count}
-use Rattle.piece_plan.specs.Order.{first_place}
+use Rattle.piece_plan.specs.Order.{job_start}
 use Rattle.checkpoint_journal.specs.Cells.{body_text, body_cells}
 use Rattle.journal_image.specs.Image.{is_blank, KeptEpoch, Reading, Reads, Keeps}
 use Rattle.plan_places.specs.Places.{place_at}
@@ -40,5 +40,5 @@ HoldsAny job cells = (e : EpochPlan) → IsEpoch job e → cell_count e ≤ leng
 -- where they cover the job.
 pub record Sees (id : List ℕ) (job : JobSizes) (image : List ℕ) (s : Seen) : Type 0 where
   pub many : KeepsMany id job image s.kept
-  pub blank : is_blank image ≡ true → option_map place_at s.next ≡ first_place 0 job.scans
+  pub blank : is_blank image ≡ true → option_map place_at s.next ≡ job_start job
   pub next : (r : Reading) → Reads id job image r → option_map place_at s.next ≡ r.due.place

@@ -3,7 +3,7 @@ use Rattle.std.specs.Prelude.{◌≡◌, ◌≢◌, ℕ, ◌+◌, ◌≤◌, tru
 use Rattle.dev_traits.specs.declared.Failed.{Failed}
 use Rattle.dev_traits.specs.Told.{WhereTold}
 use Rattle.piece_plan.specs.Epochs.{JobSizes}
-use Rattle.piece_plan.specs.Order.{first_place}
+use Rattle.piece_plan.specs.Order.{job_start}
 use Rattle.plan_places.specs.Places.{place_at, IsPlace}
 use Rattle.checkpoint_journal.specs.declared.fault.OpenFault.{OpenFault}
 use Rattle.checkpoint_journal.specs.declared.fault.OpenFault.TheVariants.{Disk, Other as OtherJob}
@@ -58,7 +58,7 @@ AnswersOpening id job (Err fault) answer = answer ≡ Err Disk
 -- nothing is kept, and the job's first place comes next
 pub record SeesNothing (job : JobSizes) (s : Seen) : Type 0 where
   pub kept : s.kept ≡ 0
-  pub next : option_map place_at s.next ≡ first_place 0 job.scans
+  pub next : option_map place_at s.next ≡ job_start job
   pub place : IfSome s.next (λ p. IsPlace job (place_at p))
 
 -- what a look answers

@@ -1,14 +1,14 @@
-//! Which job a journal belongs to.
+//! Which job, or which part of one, a journal belongs to.
 ghost use Rattle.std.specs.Prelude.{◌≡◌, List, ℕ, ◌++◌, length, flat_map, OnOk, IfOk};
 ghost use Rattle.byteorder.specs.Endian.{little_bytes};
 ghost use Rattle.journal_image.specs.Image.{IsIdentity};
-ghost use Rattle.checkpoint_journal.specs.Identity.{identity_of};
+ghost use Rattle.checkpoint_journal.specs.Identity.{identity_of, shard_of};
 
 use byteorder::{ByteOrder, LittleEndian};
 use std::alloc::{AllocError, Global};
 use std::marker::Model;
 
-/// The bytes that name a job in its journal.
+/// The bytes that name a job, or a part of one, in its journal.
 #[derive(Drop)]
 pub struct Identity {
     bytes: Vec<u8>,
@@ -49,6 +49,23 @@ pub fn job_identity(
     push_numbers(&mut bytes, sizes)?;
     bytes.extend_from_slice(schedule)?;
     bytes.extend_from_slice(job)?;
+    Ok(Identity { bytes })
+}
+
+/// The identity of a part of a job: its integrations from number `from` up to, not including, `to`, counted from 0 through
+/// all scans. In a journal with it each record carries its range.
+pub fn shard_identity(
+    alloc: Global,
+    id: &Identity,
+    from: u64,
+    to: u64,
+) -> Result<Identity, AllocError>
+    ensures { IfOk result (λ shard. shard ≡ shard_of id.now from to) }
+{
+    let mut bytes = b"VLBISHD1".to_vec(alloc)?;
+    push_number(&mut bytes, from)?;
+    push_number(&mut bytes, to)?;
+    bytes.extend_from_slice(&id.bytes[8..])?;
     Ok(Identity { bytes })
 }
 

@@ -28,7 +28,7 @@ mod writer;
 pub use body::body_cells;
 pub use fault::{AppendFault, OpenFault, ReadFault};
 pub use finding::{Finding, Found};
-pub use identity::{Identity, job_identity};
+pub use identity::{Identity, job_identity, shard_identity};
 pub use journal::Journal;
 pub use reader::find;
 pub use seen::Seen;

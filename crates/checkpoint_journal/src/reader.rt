@@ -108,8 +108,9 @@ fn find_begun<D: Disk>(
             Ok(Finding::Other(d))
         }
         None => {
+            // the version is the identity's here, or that of an old journal
             let version = byte_at(disk, 8)?;
-            walk(disk, id, plan, version == 49, len)
+            walk(disk, id, plan, version != id[7], len)
         }
     }
 }

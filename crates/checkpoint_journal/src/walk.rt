@@ -6,7 +6,7 @@ ghost use Rattle.checkpoint_journal.specs.Runs.{Looks};
 ghost use Rattle.piece_plan.specs.Epochs.{IsJob, IsEpoch, IsOfPlan};
 ghost use Rattle.piece_plan.specs.Order.{place_after};
 ghost use Rattle.plan_places.specs.Places.{place_at, IsPlace};
-ghost use Rattle.journal_image.specs.Image.{IsIdentity, begin, start};
+ghost use Rattle.journal_image.specs.Image.{IsIdentity, MayBeOld, begin, start};
 ghost use Rattle.journal_image.specs.Finding.{IsBehind, HasEpoch};
 ghost use Rattle.checkpoint_journal.specs.Finding.{Finds, FindsPlace, FindsBehind, HasPlace, due_of, record_size};
 
@@ -31,6 +31,7 @@ pub(crate) fn walk<D: Disk>(
     requires len { len < 2 ^ 63 }
     requires length { WhereTold (D.seen disk.old) (λ image. len ≡ length image) }
     requires begun { WhereTold (D.seen disk.old) (λ image. take (1 + length id.now) image ≡ begin id.now old) }
+    requires version { WhereTold (D.seen disk.old) (λ image. MayBeOld id.now old) }
     ensures finds { IfOk result
         (λ found. WhereTold (D.seen disk.old) (λ image. Finds id.now plan.now image found)) }
     ensures place { IfOk result (FindsPlace plan.now) }

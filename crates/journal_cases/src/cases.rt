@@ -63,6 +63,7 @@ impl Cases {
             "text" => self.text.extend_from_slice(rest.as_bytes())?,
             "recordings" => self.recordings = numbers_of(self.alloc, rest)?,
             "job" => self.end_job(rest)?,
+            "part" => self.take_part(rest)?,
             "old" => self.make_old(rest)?,
             "bytes" => append_runs(&mut self.file, rest)?,
             "byte" => set_byte(&mut self.file, rest)?,
@@ -85,6 +86,16 @@ impl Cases {
         let text = mem::replace(&mut self.text, Vec::new(self.alloc));
         let recordings = mem::replace(&mut self.recordings, Vec::new(self.alloc));
         self.job = Some(Job::new(self.alloc, &schedule, &text, &recordings, rest)?);
+        Ok(())
+    }
+
+    // The job becomes a part of it.
+    fn take_part(&mut self, rest: &str) -> Result<()> {
+        let (from, to) = rest.split_once(' ').context("two numbers")?;
+        let part = self
+            .job()?
+            .part(self.alloc, from.parse::<u64>()?, to.parse::<u64>()?)?;
+        self.job = Some(part);
         Ok(())
     }
 

@@ -7,7 +7,7 @@ use crate::epoch::{cells_of, epoch_sums};
 use crate::plan::plan_of;
 use anyhow::{Result, bail};
 use checkpoint_journal::{
-    AppendFault, Identity, Journal, OpenFault, ReadFault, Seen, job_identity,
+    AppendFault, Identity, Journal, OpenFault, ReadFault, Seen, job_identity, shard_identity,
 };
 use corr_model::Cell;
 use mem_devices::MemDisk;
@@ -18,7 +18,7 @@ use std::alloc::Global;
 /// More epochs than the job of a case has.
 pub const MOST_EPOCHS: u64 = 1_000;
 
-/// A job: its identity and its plan.
+/// A job, or a part of one: its identity and its plan.
 #[derive(Drop)]
 pub struct Job {
     pub identity: Identity,
@@ -81,6 +81,19 @@ impl Job {
         Ok(Job {
             identity,
             plan: plan_of(alloc, rest)?,
+        })
+    }
+
+    /// The part of the job that has its integrations from number `from` up to, not including, `to`, counted from 0 through all scans.
+    pub fn part(&self, alloc: Global, from: u64, to: u64) -> Result<Job> {
+        let _epochs = self.plan.epochs();
+        let identity = shard_identity(alloc, &self.identity, from, to)?;
+        if identity.bytes().len() > 1_000_000 {
+            bail!("too long a job");
+        }
+        Ok(Job {
+            identity,
+            plan: self.plan.limited(alloc, from, to)?,
         })
     }
 

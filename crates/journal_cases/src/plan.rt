@@ -1,5 +1,5 @@
 //! The plan of a job, as a line writes it.
-ghost use Rattle.std.specs.Prelude.{◌≡◌, ◌*◌, All, IfOk, IfSome};
+ghost use Rattle.std.specs.Prelude.{◌≡◌, ◌*◌, ℕ, All, IfOk, IfSome};
 ghost use Rattle.piece_plan.specs.Epochs.{IsScan};
 ghost use Rattle.journal_cases.specs.Few.{HasFewCells, AreFew};
 
@@ -32,7 +32,7 @@ fn plan_of_sizes(
     epoch: u64,
     lags: u32,
 ) -> Result<JobPlan>
-    requires scans { All (IsScan lags) scans.now }
+    requires scans { All (IsScan integration lags) scans.now }
     requires few { All (HasFewCells lags) scans.now }
     ensures { IfOk result AreFew }
 {
@@ -53,7 +53,7 @@ fn plan_of_sizes(
 
 // The size of a scan.
 fn scan_of(word: &str, lags: u32) -> Result<ScanSize>
-    ensures scan { IfOk result (IsScan lags) }
+    ensures scan { IfOk result (λ size. (integration : ℕ) → IsScan integration lags size) }
     ensures few { IfOk result (HasFewCells lags) }
 {
     let mut parts = word.split(',');
@@ -67,6 +67,7 @@ fn scan_of(word: &str, lags: u32) -> Result<ScanSize>
         bail!("no such scan");
     }
     Ok(ScanSize {
+        first: 0,
         samples,
         products,
         baselines,

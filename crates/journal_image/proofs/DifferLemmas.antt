@@ -89,7 +89,7 @@ pub has_no_reading : (id : List ℕ) (job : JobSizes) (image : List ℕ) → IsI
 has_no_reading id job image named is d (inl front) r reads = front.other (begin-IsOurs id image reads.bytes r.old d.at named reads.is front.inside)
 has_no_reading id job image named is d (inr row) r reads =
     let read = row.read in
-    let cut = same_begin id (things_text job (start job row.old) read.things ++ drop row.at image) reads.bytes row.old r.old named
+    let cut = same_begin id (things_text job (start job row.old) read.things ++ drop row.at image) reads.bytes row.old r.old named read.version reads.version
     (sym (read-is id job image row.old row.due row.kept row.at read) ∙ reads.is) in
     let there : IsRowOf job (start job row.old) r.things r.due (things_text job (start job row.old) read.things ++ drop row.at image) =
     subst (IsRowOf job (start job row.old) r.things r.due) (sym cut.1) (subst (λ (b : Bool). IsRowOf job (start job b) r.things r.due reads.bytes) (sym cut.0) reads.row) in
@@ -180,7 +180,7 @@ row_fault-once id job image d e named is one other =
     let read = one.read in
     let read' = other.read in
     let cut = same_begin id (things_text job (start job one.old) read.things ++ drop one.at image) (things_text job (start job other.old) read'.things ++ drop other.at image)
-    one.old other.old named (sym (read-is id job image one.old one.due one.kept one.at read) ∙ read-is id job image other.old other.due other.kept other.at read') in
+    one.old other.old named read.version read'.version (sym (read-is id job image one.old one.due one.kept one.at read) ∙ read-is id job image other.old other.due other.kept other.at read') in
     let goes : ThingsGo job (start job one.old) read'.things other.due = subst (λ (b : Bool). ThingsGo job (start job b) read'.things other.due) (sym cut.0) read'.goes in
     let same : things_text job (start job one.old) read.things ++ drop one.at image ≡ things_text job (start job one.old) read'.things ++ drop other.at image =
     cut.1 ∙ ap (λ (b : Bool). things_text job (start job b) read'.things ++ drop other.at image) (sym cut.0) in

@@ -40,6 +40,7 @@ longest-IsRange job p to e place cut some within =
         products = refl;
         baselines = refl;
         lags = refl;
+        begins = place.first;
         from = place.from;
         some = some;
         to = omega (arith, inside);

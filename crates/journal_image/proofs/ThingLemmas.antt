@@ -32,7 +32,7 @@ length-place p = refl
 
 pub epoch-IsOfPlan : (job : JobSizes) (e : EpochPlan) → IsJob job → IsEpoch job e → IsOfPlan e
 epoch-IsOfPlan job e is inside =
-    let scan : IsScan job.lags inside.size = subst (IsScan job.lags) (get_or_from_slice_get job.scans e.scan inside.size inside.size inside.scan)
+    let scan : IsScan job.integration job.lags inside.size = subst (IsScan job.integration job.lags) (get_or_from_slice_get job.scans e.scan inside.size inside.size inside.scan)
     (is.scans e.scan inside.size (slice_get_within job.scans e.scan inside.size inside.scan)) in
     record {
       some = inside.some;

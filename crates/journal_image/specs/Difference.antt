@@ -6,7 +6,7 @@ use Rattle.piece_plan.specs.Epochs.{JobSizes, IsEpoch}
 use Rattle.piece_plan.specs.Order.{Place, place_of}
 use Rattle.journal_image.specs.declared.difference.Differs.{Differs}
 use Rattle.journal_image.specs.Head.{place_text}
-use Rattle.journal_image.specs.Image.{Due, Thing, text, Fits, ThingsGo, things_text, records, begin, start}
+use Rattle.journal_image.specs.Image.{Due, Thing, text, Fits, ThingsGo, things_text, records, MayBeOld, begin, start}
 
 -- an epoch of the job from a place up to this sample
 pub record IsRange (job : JobSizes) (p : Place) (to : ℕ) (e : EpochPlan) : Type 0 where
@@ -37,6 +37,7 @@ pub record IsOfFront (id image : List ℕ) (d : Differs) : Type 0 where
 
 -- An image up to a gate: things that fit stand before it, so many of them records, and this is due behind it.
 pub record IsReadTo (id : List ℕ) (job : JobSizes) (image : List ℕ) (old : Bool) (due : Due) (kept at : ℕ) : Type 0 where
+  pub version : MayBeOld id old
   pub things : List Thing
   pub goes : ThingsGo job (start job old) things due
   pub many : kept ≡ length (records things)

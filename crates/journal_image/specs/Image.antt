@@ -5,7 +5,7 @@ use Rattle.std.specs.List.{All}
 use Rattle.byteorder.specs.Endian.{little_from}
 use Rattle.piece_plan.specs.declared.epoch.EpochPlan.{EpochPlan}
 use Rattle.piece_plan.specs.Epochs.{JobSizes, IsEpoch, cell_count}
-use Rattle.piece_plan.specs.Order.{Place, place_of, first_place, place_after}
+use Rattle.piece_plan.specs.Order.{Place, place_of, job_start, place_after}
 use Rattle.plan_places.specs.Walk.{cut_at}
 use Rattle.journal_image.specs.Head.{head_text, epoch_range}
 use Rattle.journal_image.specs.Rows.{Goes, row_text, IsRow}
@@ -99,10 +99,15 @@ records [] = []
 records (Kept e body ∷ things) = record { epoch = e; body = body } ∷ records things
 records (Turn bytes ∷ things) = records things
 
--- the identity of a job: its eight first bytes are `VLBIJRN2`, of which the last one tells the version
+-- The identity of a job or of a part of one. The last of its eight first bytes, which are `VLBIJRN2` or `VLBISHD1`, tells the version:
+-- of the first kind there are old journals.
 pub record IsIdentity (id : List ℕ) : Type 0 where
   pub long : 8 ≤ length id
-  pub version : slice_index id 7 ≡ 50
+  pub version : (slice_index id 7 ≡ 50) ⊎ (slice_index id 7 ≡ 49)
+
+-- a journal may be an old one where its identity has a `2` for the version
+abbrev pub MayBeOld : List ℕ → Bool → Type 0
+MayBeOld id old = old ≡ true → slice_index id 7 ≡ 50
 
 -- the front of a file: the open head gate and the identity, which has a `1` for the version in an old journal
 abbrev pub begin : List ℕ → Bool → List ℕ
@@ -110,7 +115,7 @@ begin id old = 1 ∷ (if old then slice_set id 7 49 else id)
 
 -- what is due behind the front
 abbrev pub start : JobSizes → Bool → Due
-start job old = record { ranged = not old; place = first_place 0 job.scans }
+start job old = record { ranged = not old; place = job_start job }
 
 -- What an image of a job's journal says: whether it is an old one, the things behind its open gates, and what is due
 -- behind them.
@@ -121,6 +126,7 @@ pub record Reading : Type 0 where
 
 -- an image of this job's form, and what it says
 pub record Reads (id : List ℕ) (job : JobSizes) (image : List ℕ) (r : Reading) : Type 0 where
+  pub version : MayBeOld id r.old
   pub bytes : List ℕ
   pub is : image ≡ begin id r.old ++ bytes
   pub row : IsRowOf job (start job r.old) r.things r.due bytes

@@ -2,7 +2,7 @@
 use Rattle.std.specs.Prelude.{◌≡◌, ◌≢◌, false, ℕ, ◌<◌, List, [], ◌∷◌, ◌++◌, length, take, map, slice_index}
 use Rattle.piece_plan.specs.declared.epoch.EpochPlan.{EpochPlan}
 use Rattle.piece_plan.specs.Epochs.{JobSizes, epochs_of}
-use Rattle.piece_plan.specs.Order.{first_place, AreInOrder}
+use Rattle.piece_plan.specs.Order.{job_start, AreInOrder}
 use Rattle.journal_image.specs.declared.difference.Differs.{Differs}
 use Rattle.journal_image.specs.Image.{Thing, Kept, Turn, text, Fits, KeptEpoch, records, Reading, Reads, Keeps, nothing, more, gate_of, IsHonest}
 use Rattle.journal_image.specs.Difference.{IsDifference}
@@ -25,7 +25,7 @@ kept_epochs r = map (λ (k : KeptEpoch). k.epoch) (records r.things)
 -- kept epochs are in order, from the first sample of the job to the place that is due
 abbrev pub ReadsInOrder : List ℕ → JobSizes → List ℕ → Type 0
 ReadsInOrder id job image =
-    (r : Reading) → Reads id job image r → AreInOrder job (first_place 0 job.scans) (kept_epochs r) r.due.place
+    (r : Reading) → Reads id job image r → AreInOrder job (job_start job) (kept_epochs r) r.due.place
 
 -- an old journal without a mark keeps the first epochs of the job, as the job's own line cuts them
 abbrev pub ReadsOwn : List ℕ → JobSizes → List ℕ → Type 0

@@ -69,6 +69,7 @@ fn is_found(
 
 fn plan(rt: &HostRuntime) -> Result<JobPlan, Fail> {
     let size = ScanSize {
+        first: 0,
         samples: 100,
         products: 1,
         baselines: 1,

@@ -1,12 +1,11 @@
 use Rattle.std.proofs.Common.{◌≡◌, ◌∙◌, ℕ, ◌+◌, ◌≤◌, List, length, get_or, take, drop, true, IfSome, refl, sym, ap, subst, arith, rules}
 use Rattle.dev_traits.specs.Told.{WhereTold}
-use Rattle.dev_traits.proofs.ToldLemmas.{WhereTold-weaker}
 use Rattle.plan_places.specs.Places.{place_at, IsPlace}
 use Rattle.checkpoint_journal.proofs.RunLemmas.{looks_none, looks_both}
 use Rattle.checkpoint_journal.proofs.ToldLemmas.{told_both, told_three, told_again, told_four}
 use Rattle.journal_image.specs.declared.finding.Behind.{Behind}
 use Rattle.journal_image.specs.declared.finding.Behind.TheVariants.{Record, Mark, Fault}
-use Rattle.journal_image.specs.Image.{begin}
+use Rattle.journal_image.specs.Image.{MayBeOld, begin}
 use Rattle.journal_image.specs.Difference.{end_of}
 use Rattle.journal_image.specs.Finding.{IsBehind}
 use Rattle.checkpoint_journal.specs.declared.finding.Found.{Found}
@@ -23,9 +22,9 @@ loop-here-init g c =
       looks = looks_none g.D.Disk.seen g.D.Disk.moment g.D.Disk.may_leave _;
       faults = refl;
       old = c.first_gate-here.ensures.old;
-      at = WhereTold-weaker _ (λ image. take (1 + length id) image ≡ begin id c.args.old) (λ image. IsAt id job image first)
-          (λ image front. first_at id job image c.args.old first c.first_gate-here.ensures.old c.first_gate-here.ensures.kept c.first_gate-here.ensures.due c.first_gate-here.ensures.gate front)
-          c.requires.begun;
+      at = told_both _ (λ image. take (1 + length id) image ≡ begin id c.args.old) (λ image. MayBeOld id c.args.old) (λ image. IsAt id job image first)
+          (λ image front may. first_at id job image c.args.old first c.first_gate-here.ensures.old c.first_gate-here.ensures.kept c.first_gate-here.ensures.due c.first_gate-here.ensures.gate may front)
+          c.requires.begun c.requires.version;
       place = c.first_gate-here.ensures.place.next;
       many = c.first_gate-here.ensures.place.many;
       behind = omega (arith, c.first_gate-here.ensures.gate);

@@ -1,8 +1,7 @@
 -- What is summed and read ahead, one round after another.
-use Rattle.std.specs.Prelude.{is_some, IfSome}
-use Rattle.std.proofs.Common.{◌≡◌, ◌∙◌, ℕ, ◌+◌, ◌-◌, ◌*◌, ◌<◌, ◌≤◌, true, false, Option, None, Some, option_map, sym, ap, subst, arith}
+use Rattle.std.specs.Prelude.{IfSome}
+use Rattle.std.proofs.Common.{◌≡◌, ◌∙◌, ℕ, ◌+◌, ◌-◌, ◌*◌, ◌<◌, ◌≤◌, Option, None, Some, option_map, sym, ap, subst, arith}
 use Rattle.corr_model.specs.Files.{Files}
-use Rattle.piece_plan.specs.declared.epoch.EpochPlan.{EpochPlan}
 use Rattle.piece_plan.specs.Epochs.{JobSizes}
 use Rattle.piece_plan.specs.Order.{Place, place_of}
 use Rattle.plan_places.specs.declared.place.Place.{Place as Spot}
@@ -11,9 +10,8 @@ use Rattle.plan_places.specs.Walk.{AreLeft, next_epoch}
 use Rattle.ready_job.specs.declared.ready.Ready.{Ready}
 use Rattle.journal_rounds.specs.declared.values.Held.{Held}
 use Rattle.journal_rounds.specs.declared.sums.Summed.{Summed}
-use Rattle.journal_rounds.specs.declared.ahead.Ahead.{Ahead}
 use Rattle.journal_rounds.specs.Epochs.{IsNext, behind}
-use Rattle.journal_rounds.specs.Ahead.{IsHeld, AreSumsOf, IsCut, IsAhead, epoch_read, epoch_summed, steps_done, steps_kept, kept_with}
+use Rattle.journal_rounds.specs.Ahead.{IsHeld, AreSumsOf, IsCut, IsAhead, epoch_summed, steps_done, steps_kept, kept_with}
 use Rattle.journal_rounds.proofs.WalkLemmas.{left-behind}
 
 -- values of an epoch, whether the files are told or not
@@ -32,48 +30,15 @@ sums-untold told ready None are = tt
 sums-untold told ready (Some s) are = record { fits = are.fits; of_plan = are.of_plan; sums = record { count = are.sums.count; cells = tt } }
 
 -- the epoch that is summed begins at the place that is due
-pub begins-due : (told : Option Files) (ready : Ready) (epoch : ℕ) (due : Option Place) (summed : Option Summed) → IsNext ready.epochs epoch due (epoch_summed summed)
+pub begins-due : (job : JobSizes) (epoch : ℕ) (due : Option Place) (summed : Option Summed) → IsNext job epoch due (epoch_summed summed)
     → IfSome summed (λ s. due ≡ Some (place_of s.epoch))
-begins-due told ready epoch due None is = tt
-begins-due told ready epoch due (Some s) is = is.begins
+begins-due job epoch due None is = tt
+begins-due job epoch due (Some s) is = is.begins
 
--- and it is the one of this length from there on
+-- and it is one of the job, of this length from there on
 pub cut-due : (job : JobSizes) (epoch : ℕ) (due : Option Place) (summed : Option Summed) → IsNext job epoch due (epoch_summed summed) → IfSome summed (IsCut job epoch)
 cut-due job epoch due None is = tt
-cut-due job epoch due (Some s) is = ap (next_epoch job epoch) (sym is.begins) ∙ is.cut
-
--- what a round makes of what was there
-pub ahead-next : (told : Option Files) (ready : Ready) (epoch : ℕ) (due : Option Place) (ahead next : Ahead) → IsAhead told ready epoch due ahead
-    → IfSome next.summed (AreSumsOf told ready) → epoch_summed next.summed ≡ epoch_read ahead.held
-    → IfSome next.held (IsHeld told ready) → IsNext ready.epochs epoch (option_map place_at ahead.next) (epoch_read next.held)
-    → option_map place_at next.next ≡ behind ready.epochs (epoch_read next.held) (option_map place_at ahead.next)
-    → IfSome next.next (λ p. IsPlace ready.epochs (place_at p))
-    → IsAhead told ready epoch (behind ready.epochs (epoch_summed ahead.summed) due) next
-ahead-next told ready epoch due ahead next before sums summed values held on place =
-    let job = ready.epochs in
-    let mid : Option Place = behind job (epoch_summed ahead.summed) due in
-    let far : option_map place_at ahead.next ≡ behind job (epoch_summed next.summed) mid = before.next ∙ ap (λ (o : Option EpochPlan). behind job o mid) (sym summed) in
-    record {
-      sums = sums;
-      values = values;
-      first = subst (λ (o : Option EpochPlan). IsNext job epoch mid o) (sym summed) before.second;
-      second = subst (λ (d : Option Place). IsNext job epoch d (epoch_read next.held)) far held;
-      next = on ∙ ap (λ (d : Option Place). behind job (epoch_read next.held) d) far;
-      place = place;
-    }
-
--- a round takes a step
-pub steps-on : (job : JobSizes) (summed more : Option Summed) (held other : Option Held) (at : Option Spot) (due : Option Place) → is_some due ≡ true
-    → option_map place_at at ≡ behind job (epoch_read held) (behind job (epoch_summed summed) due) → epoch_summed more ≡ epoch_read held → is_some other ≡ is_some at
-    → steps_done summed held < steps_done more other + steps_kept summed
-steps-on job (Some s) more held other at due some next sums read = omega arith
-steps-on job None None (Some h) other at due some next sums read = absurd (cc (sums))
-steps-on job None (Some t) (Some h) other at due some next sums read = omega arith
-steps-on job None (Some t) None other at due some next sums read = absurd (cc (sums))
-steps-on job None None None (Some o) at due some next sums read = omega arith
-steps-on job None None None None (Some p) due some next sums read = absurd (cc (read))
-steps-on job None None None None None due some next sums read =
-    let never : false ≡ true = ap is_some next ∙ some in absurd (cc (never))
+cut-due job epoch due (Some s) is = (is.fits, ap (next_epoch job epoch) (sym is.begins) ∙ is.cut)
 
 -- how many epochs are left behind a round
 pub left-round : (job : JobSizes) (epoch left less : ℕ) (due : Option Place) (summed : Option Summed) → AreLeft job epoch due left → IsNext job epoch due (epoch_summed summed)
@@ -101,13 +66,13 @@ steps-fall (Some s) more held other left less some count on = omega arith
 -- ---- the first round
 
 -- nothing is read yet
-pub ahead-none : (told : Option Files) (ready : Ready) (epoch : ℕ) (at here : Option Spot) → here ≡ at → IfSome at (λ p. IsPlace ready.epochs (place_at p))
-    → IsAhead told ready epoch (option_map place_at at) (record { summed = None; held = None; next = here })
-ahead-none told ready epoch at here same place = record {
+pub ahead-none : (told : Option Files) (ready : Ready) (job : JobSizes) (epoch : ℕ) (at here : Option Spot) → here ≡ at → IfSome at (λ p. IsPlace job (place_at p))
+    → IsAhead told ready job epoch (option_map place_at at) (record { summed = None; held = None; next = here })
+ahead-none told ready job epoch at here same place = record {
   sums = tt;
   values = tt;
   first = tt;
   second = tt;
   next = ap (option_map place_at) same;
-  place = subst (λ (o : Option Spot). IfSome o (λ p. IsPlace ready.epochs (place_at p))) (sym same) place;
+  place = subst (λ (o : Option Spot). IfSome o (λ p. IsPlace job (place_at p))) (sym same) place;
 }

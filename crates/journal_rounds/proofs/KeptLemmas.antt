@@ -2,7 +2,7 @@
 use Rattle.std.proofs.Common.{◌≡◌, ◌∙◌, inl, inr, ℕ, List, [], ◌∷◌, map, Option, sym, subst}
 use Rattle.piece_plan.specs.declared.epoch.EpochPlan.{EpochPlan}
 use Rattle.piece_plan.specs.Epochs.{JobSizes}
-use Rattle.piece_plan.specs.Order.{Place, first_place, place_after, AreInOrder}
+use Rattle.piece_plan.specs.Order.{Place, job_start, place_after, AreInOrder}
 use Rattle.journal_image.specs.Image.{KeptEpoch, records, Reading, Reads, Keeps}
 use Rattle.journal_image.proofs.KeptLemmas.{reads_in_order}
 use Rattle.journal_rounds.specs.Room.{DueIn}
@@ -20,11 +20,11 @@ pub due-same : (id : List ℕ) (job : JobSizes) (v image : List ℕ) (kept : Lis
     → Reads id job image r → kept ≡ records r.things → due ≡ r.due.place
 due-same id job v image kept due r (inl blank) is reads same =
     let none : [] ≡ records r.things = sym blank.1 ∙ same in
-    let order : AreInOrder job (first_place 0 job.scans) [] r.due.place =
-    subst (λ (l : List KeptEpoch). AreInOrder job (first_place 0 job.scans) (epochs_in l) r.due.place) (sym none) (reads_in_order id job image r reads) in
+    let order : AreInOrder job (job_start job) [] r.due.place =
+    subst (λ (l : List KeptEpoch). AreInOrder job (job_start job) (epochs_in l) r.due.place) (sym none) (reads_in_order id job image r reads) in
     is.0 blank.0 ∙ order
 due-same id job v image kept due r (inr said) is reads same =
     let records_same : records said.0.things ≡ records r.things = sym said.2 ∙ same in
-    let order : AreInOrder job (first_place 0 job.scans) (epochs_in (records r.things)) said.0.due.place =
-    subst (λ (l : List KeptEpoch). AreInOrder job (first_place 0 job.scans) (epochs_in l) said.0.due.place) records_same (reads_in_order id job v said.0 said.1) in
-    is.1 said.0 said.1 ∙ order-once job (first_place 0 job.scans) said.0.due.place r.due.place (epochs_in (records r.things)) order (reads_in_order id job image r reads)
+    let order : AreInOrder job (job_start job) (epochs_in (records r.things)) said.0.due.place =
+    subst (λ (l : List KeptEpoch). AreInOrder job (job_start job) (epochs_in l) said.0.due.place) records_same (reads_in_order id job v said.0 said.1) in
+    is.1 said.0 said.1 ∙ order-once job (job_start job) said.0.due.place r.due.place (epochs_in (records r.things)) order (reads_in_order id job image r reads)

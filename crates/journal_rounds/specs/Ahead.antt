@@ -29,9 +29,9 @@ pub record AreSumsOf (told : Option Files) (ready : Ready) (s : Summed) : Type 0
   pub of_plan : IsOfPlan s.epoch
   pub sums : AreSums told ready.plan s.epoch s.sums
 
--- the epoch of sums is the one of this length that begins where it does
+-- the epoch of sums is one of the job, of this length where it begins
 abbrev pub IsCut : JobSizes → ℕ → Summed → Type 0
-IsCut job epoch s = cut_at job epoch (place_of s.epoch) ≡ Some s.epoch
+IsCut job epoch s = IsEpoch job s.epoch × (cut_at job epoch (place_of s.epoch) ≡ Some s.epoch)
 
 -- the epoch that is read
 abbrev pub epoch_read : Option Held → Option EpochPlan
@@ -43,16 +43,16 @@ abbrev pub epoch_summed : Option Summed → Option EpochPlan
 epoch_summed None = None
 epoch_summed (Some s) = Some s.epoch
 
--- Where a walk stands at the first sample that is not kept: what is summed is its next epoch, what is read is the one behind that,
--- or its next one where none is summed, and the next one that is to be read begins behind these.
-pub record IsAhead (told : Option Files) (ready : Ready) (epoch : ℕ) (due : Option Place) (ahead : Ahead) : Type 0 where
+-- Where a walk through a part of the job stands at the first sample that is not kept: what is summed is its next epoch, what is read
+-- is the one behind that, or its next one where none is summed, and the next one that is to be read begins behind these.
+pub record IsAhead (told : Option Files) (ready : Ready) (job : JobSizes) (epoch : ℕ) (due : Option Place) (ahead : Ahead) : Type 0 where
   pub sums : IfSome ahead.summed (AreSumsOf told ready)
   pub values : IfSome ahead.held (IsHeld told ready)
-  pub first : IsNext ready.epochs epoch due (epoch_summed ahead.summed)
-  pub second : IsNext ready.epochs epoch (behind ready.epochs (epoch_summed ahead.summed) due) (epoch_read ahead.held)
+  pub first : IsNext job epoch due (epoch_summed ahead.summed)
+  pub second : IsNext job epoch (behind job (epoch_summed ahead.summed) due) (epoch_read ahead.held)
   pub next : option_map place_at ahead.next
-      ≡ behind ready.epochs (epoch_read ahead.held) (behind ready.epochs (epoch_summed ahead.summed) due)
-  pub place : IfSome ahead.next (λ p. IsPlace ready.epochs (place_at p))
+      ≡ behind job (epoch_read ahead.held) (behind job (epoch_summed ahead.summed) due)
+  pub place : IfSome ahead.next (λ p. IsPlace job (place_at p))
 
 -- how many of the three steps are done of the first epoch that is not kept
 abbrev pub steps_done : {A B : Type 0} → Option A → Option B → ℕ

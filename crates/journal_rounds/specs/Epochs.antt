@@ -1,14 +1,15 @@
 -- The epochs of the rest of a job, one behind another.
 use Rattle.std.specs.Prelude.{◌≡◌, ⊤, ℕ, Option, None, Some}
 use Rattle.piece_plan.specs.declared.epoch.EpochPlan.{EpochPlan}
-use Rattle.piece_plan.specs.Epochs.{JobSizes}
+use Rattle.piece_plan.specs.Epochs.{JobSizes, IsEpoch}
 use Rattle.piece_plan.specs.Order.{Place, place_of, place_after}
 use Rattle.plan_places.specs.Walk.{next_epoch}
 
--- an epoch is the next one of a walk that stands at its first sample
+-- an epoch of the job is the next one of a walk that stands at its first sample
 pub record IsNextAt (job : JobSizes) (epoch : ℕ) (due : Option Place) (e : EpochPlan) : Type 0 where
   pub cut : next_epoch job epoch due ≡ Some e
   pub begins : due ≡ Some (place_of e)
+  pub fits : IsEpoch job e
 
 -- the same where there is an epoch
 abbrev pub IsNext : JobSizes → ℕ → Option Place → Option EpochPlan → Type 0

@@ -2,14 +2,14 @@
 use Rattle.std.specs.Prelude.{◌≡◌, ℕ, ◌≤◌, ◌^◌, true, List, length, Option}
 use Rattle.dev_traits.specs.Told.{WhereTold}
 use Rattle.piece_plan.specs.Epochs.{JobSizes}
-use Rattle.piece_plan.specs.Order.{Place, first_place}
+use Rattle.piece_plan.specs.Order.{Place, job_start}
 use Rattle.plan_places.specs.Walk.{AreLeft}
 use Rattle.journal_image.specs.Image.{is_blank, Reading, Reads}
 use Rattle.journal_rounds.specs.Counted.{IsFull}
 
 -- the place of the job that is due behind what an image keeps
 abbrev pub DueIn : List ℕ → JobSizes → List ℕ → Option Place → Type 0
-DueIn id job image due = (is_blank image ≡ true → due ≡ first_place 0 job.scans) × ((r : Reading) → Reads id job image r → due ≡ r.due.place)
+DueIn id job image due = (is_blank image ≡ true → due ≡ job_start job) × ((r : Reading) → Reads id job image r → due ≡ r.due.place)
 
 -- A journal that was read on entry had so many bytes that a run may come to its room's end: 2^62 or more, or there were more than
 -- 2^32 epochs of this length to come.

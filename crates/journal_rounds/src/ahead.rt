@@ -3,6 +3,8 @@ ghost use Rattle.std.specs.Prelude.{◌≡◌, ◌≤◌, None, IfOk, IfSome, is
 ghost use Rattle.dev_traits.specs.Told.{WhereTold};
 ghost use Rattle.station_stream.specs.Faults.{CountsReads};
 ghost use Rattle.station_stream.specs.Recorded.{AreRecorded};
+ghost use Rattle.piece_plan.specs.Epochs.{IsEpoch};
+ghost use Rattle.piece_plan.specs.Limited.{IsPart};
 ghost use Rattle.plan_places.specs.Places.{place_at, IsPlace};
 ghost use Rattle.journal_rounds.specs.Epochs.{IsNext, behind};
 ghost use Rattle.journal_rounds.specs.Ahead.{AreSumsOf, IsHeld, epoch_read, epoch_summed};
@@ -10,6 +12,7 @@ ghost use Rattle.journal_rounds.specs.Ahead.{AreSumsOf, IsHeld, epoch_read, epoc
 use crate::sums::{Summed, sum_held};
 use crate::values::{Held, read_from};
 use dev_traits::{Gate, Shelf};
+use piece_plan::JobPlan;
 use plan_places::{Place, after};
 use ready_job::Ready;
 use run_sums::Spare;
@@ -33,6 +36,7 @@ pub(crate) fn advance<R: Threads + Sync, F: Shelf + Send, G: Gate + Sync>(
     alloc: Global,
     spare: &mut Spare,
     ready: &Ready,
+    part: &JobPlan,
     shelf: &mut F,
     epoch: u64,
     ahead: &Ahead,
@@ -40,31 +44,33 @@ pub(crate) fn advance<R: Threads + Sync, F: Shelf + Send, G: Gate + Sync>(
     piece: u64,
     gate: &G,
 ) -> Result<Ahead, StreamFault>
+    requires part { IsPart ready.now.epochs part.now }
     requires recorded { WhereTold (F.told shelf.old) (λ files. AreRecorded files ready.now.plan.stations ready.now.recordings.items) }
     requires epoch { (1 ≤ epoch) × (epoch ≤ 4194304) }
     requires values { IfSome ahead.now.held (IsHeld (F.told shelf.old) ready.now) }
-    requires place { IfSome ahead.now.next (λ p. IsPlace ready.now.epochs (place_at p)) }
+    requires place { IfSome ahead.now.next (λ p. IsPlace part.now (place_at p)) }
     requires workers { (1 ≤ workers) × (workers ≤ 64) }
     requires piece { (64 ≤ piece) × (piece ≤ 4194304) }
     ensures same { F.told shelf.new ≡ F.told shelf.old }
     ensures sums { IfOk result (λ next. IfSome next.summed (AreSumsOf (F.told shelf.old) ready.now)) }
     ensures summed { IfOk result (λ next. epoch_summed next.summed ≡ epoch_read ahead.now.held) }
     ensures values { IfOk result (λ next. IfSome next.held (IsHeld (F.told shelf.old) ready.now)) }
-    ensures held { IfOk result (λ next. IsNext ready.now.epochs epoch (option_map place_at ahead.now.next) (epoch_read next.held)) }
+    ensures held { IfOk result (λ next. IsNext part.now epoch (option_map place_at ahead.now.next) (epoch_read next.held)) }
     ensures read { IfOk result (λ next. is_some next.held ≡ is_some ahead.now.next) }
     ensures next { IfOk result (λ next. option_map place_at next.next
-        ≡ behind ready.now.epochs (epoch_read next.held) (option_map place_at ahead.now.next)) }
-    ensures place { IfOk result (λ next. IfSome next.next (λ p. IsPlace ready.now.epochs (place_at p))) }
+        ≡ behind part.now (epoch_read next.held) (option_map place_at ahead.now.next)) }
+    ensures place { IfOk result (λ next. IfSome next.next (λ p. IsPlace part.now (place_at p))) }
     ensures counts { CountsReads (F.faults shelf.old) (F.faults shelf.new) result }
 {
     are_held(shelf, ready, &ahead.held);
     let (read, summed) = join_mut(
         rt,
         &mut ||
+            requires part { IsPart ready.now.epochs part.now }
             requires recorded { WhereTold (F.told shelf.now) (λ files. AreRecorded files ready.now.plan.stations ready.now.recordings.items) }
-            requires place { IfSome ahead.now.next (λ p. IsPlace ready.now.epochs (place_at p)) }
+            requires place { IfSome ahead.now.next (λ p. IsPlace part.now (place_at p)) }
             requires epoch { (1 ≤ epoch) × (epoch ≤ 4194304) }
-        { read_from(alloc, spare, ready, shelf, ahead.next, epoch) },
+        { read_from(alloc, spare, ready, part, shelf, ahead.next, epoch) },
         &mut ||
             requires held { IfSome ahead.now.held (IsHeld None ready.now) }
             requires workers { (1 ≤ workers) × (workers ≤ 64) }
@@ -73,7 +79,7 @@ pub(crate) fn advance<R: Threads + Sync, F: Shelf + Send, G: Gate + Sync>(
     );
     let held = read?;
     let summed = summed?;
-    let next = place_behind(ready, &held, ahead.next);
+    let next = place_behind(part, &held, ahead.next);
     Ok(Ahead { summed, held, next })
 }
 
@@ -84,14 +90,14 @@ fn are_held<F: Shelf>(_shelf: &F, _ready: &Ready, _held: &Option<Held>)
 {}
 
 // The place behind the epoch that is read, where one is, and else this place.
-fn place_behind(ready: &Ready, held: &Option<Held>, at: Option<Place>) -> Option<Place>
-    requires held { IfSome held.now (IsHeld None ready.now) }
-    requires place { IfSome at (λ p. IsPlace ready.now.epochs (place_at p)) }
-    ensures behind { option_map place_at result ≡ behind ready.now.epochs (epoch_read held.now) (option_map place_at at) }
-    ensures place { IfSome result (λ p. IsPlace ready.now.epochs (place_at p)) }
+fn place_behind(part: &JobPlan, held: &Option<Held>, at: Option<Place>) -> Option<Place>
+    requires held { IfSome (epoch_read held.now) (IsEpoch part.now) }
+    requires place { IfSome at (λ p. IsPlace part.now (place_at p)) }
+    ensures behind { option_map place_at result ≡ behind part.now (epoch_read held.now) (option_map place_at at) }
+    ensures place { IfSome result (λ p. IsPlace part.now (place_at p)) }
 {
     match held {
-        Some(held) => after(&ready.epochs, &held.epoch),
+        Some(held) => after(part, &held.epoch),
         None => at,
     }
 }

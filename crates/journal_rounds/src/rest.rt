@@ -1,6 +1,7 @@
-//! The journal brought to the job's end.
+//! The journal brought to the end of its part of the job.
 ghost use Rattle.std.specs.Prelude.{◌≡◌, ◌≤◌, ◌<◌, ◌^◌, ◌+◌, ◌-◌, IfOk, IfErr, IfSome, OnOk, None, length, option_map};
 ghost use Rattle.dev_traits.specs.Told.{WhereTold};
+ghost use Rattle.piece_plan.specs.Limited.{IsPart};
 ghost use Rattle.plan_places.specs.Places.{place_at, IsPlace};
 ghost use Rattle.plan_places.specs.Walk.{AreLeft};
 ghost use Rattle.station_stream.specs.Recorded.{AreRecorded};
@@ -20,22 +21,24 @@ use crate::sums::Summed;
 use crate::values::Held;
 use checkpoint_journal::{Identity, Journal};
 use dev_traits::{Disk, Gate, Shelf};
+use piece_plan::JobPlan;
 use plan_places::left;
 use ready_job::Ready;
 use run_sums::Spare;
 use std::alloc::Global;
 use std::thread::Threads;
 
-/// Opens the job's journal, and from the place on where it ends cuts the job into epochs of `epoch` samples, 1 to 4,194,304, or
-/// those up to the end of an integration, and reads, sums and appends them in their order, with `workers` threads for the sums, 1 to
-/// 64, and pieces of at most `piece` samples, 64 to 4,194,304. While an epoch is summed, the next one is read, its planes are made by
-/// the thread that reads, and the one before it is appended. What the journal kept is neither summed nor written again. Where the
-/// journal and the shelf fail at the same time, the fault is the journal's. In memory are at most the planes of two epochs, the codes
-/// of one, and the room that epochs before them have left.
+/// Opens the journal of a part of the job, which may be all of it, and from the place on where it ends cuts the part into epochs of
+/// `epoch` samples, 1 to 4,194,304, or those up to the end of an integration, and reads, sums and appends them in their order, with
+/// `workers` threads for the sums, 1 to 64, and pieces of at most `piece` samples, 64 to 4,194,304. While an epoch is summed, the next
+/// one is read, its planes are made by the thread that reads, and the one before it is appended. What the journal kept is neither
+/// summed nor written again. Where the journal and the shelf fail at the same time, the fault is the journal's. In memory are at most
+/// the planes of two epochs, the codes of one, and the room that epochs before them have left.
 pub fn resume<R: Threads + Sync, F: Shelf + Send, D: Disk + Send, G: Gate + Sync>(
     rt: &R,
     alloc: Global,
     ready: &Ready,
+    part: &JobPlan,
     id: &Identity,
     shelf: &mut F,
     disk: &mut D,
@@ -44,26 +47,27 @@ pub fn resume<R: Threads + Sync, F: Shelf + Send, D: Disk + Send, G: Gate + Sync
     piece: u64,
     gate: &G,
 ) -> Result<Journal, ResumeFault>
+    requires part { IsPart ready.now.epochs part.now }
     requires recorded { WhereTold (F.told shelf.old) (λ files. AreRecorded files ready.now.plan.stations ready.now.recordings.items) }
     requires short { length id.now < 2 ^ 62 }
     requires epoch { (1 ≤ epoch) × (epoch ≤ 4194304) }
     requires workers { (1 ≤ workers) × (workers ≤ 64) }
     requires piece { (64 ≤ piece) × (piece ≤ 4194304) }
     ensures same { F.told shelf.new ≡ F.told shelf.old }
-    ensures stands { IfOk result (λ journal. Stands id.now ready.now.epochs journal (D.seen disk.new) (D.may_leave disk.new (D.moment disk.new))) }
+    ensures stands { IfOk result (λ journal. Stands id.now part.now journal (D.seen disk.new) (D.may_leave disk.new (D.moment disk.new))) }
     ensures covers { IfOk result (λ journal. journal.end.next ≡ None) }
     ensures changes { Changes D.seen D.moment D.may_leave
-        (Extends (IsSummed (F.told shelf.old) ready.now.plan ready.now.epochs epoch) id.now ready.now.epochs) disk.old disk.new }
-    ensures spares { Spares D.seen D.moment D.may_leave id.now ready.now.epochs disk.old disk.new }
-    ensures refused { IfErr result (IsRefusedFor id.now ready.now.epochs (D.seen disk.old) (D.seen disk.new)) }
-    ensures named { IfErr result (KeepsNamed id.now ready.now.epochs (D.may_leave disk.new (D.moment disk.new))) }
+        (Extends (IsSummed (F.told shelf.old) ready.now.plan part.now epoch) id.now part.now) disk.old disk.new }
+    ensures spares { Spares D.seen D.moment D.may_leave id.now part.now disk.old disk.new }
+    ensures refused { IfErr result (IsRefusedFor id.now part.now (D.seen disk.old) (D.seen disk.new)) }
+    ensures named { IfErr result (KeepsNamed id.now part.now (D.may_leave disk.new (D.moment disk.new))) }
     ensures reads { CountsReadsBeside (F.faults shelf.old) (F.faults shelf.new) result }
-    ensures journal { CountsJournal (HasNoPlace id.now ready.now.epochs epoch (D.seen disk.old) (D.seen disk.new))
+    ensures journal { CountsJournal (HasNoPlace id.now part.now epoch (D.seen disk.old) (D.seen disk.new))
         (D.faults disk.old) (D.faults disk.new) result }
 {
-    let mut journal = open(alloc, ready, id, disk)?;
+    let mut journal = open(alloc, part, id, disk)?;
     let first = journal.next_place();
-    let mut due = left(&ready.epochs, first, epoch);
+    let mut due = left(part, first, epoch);
     let mut ahead = Ahead {
         summed: None,
         held: None,
@@ -75,6 +79,7 @@ pub fn resume<R: Threads + Sync, F: Shelf + Send, D: Disk + Send, G: Gate + Sync
             rt,
             alloc,
             ready,
+            part,
             id,
             shelf,
             disk,
@@ -93,25 +98,25 @@ pub fn resume<R: Threads + Sync, F: Shelf + Send, D: Disk + Send, G: Gate + Sync
     Ok(journal)
 }
 
-// Opens the job's journal.
+// Opens the journal of a part of the job.
 fn open<D: Disk>(
     alloc: Global,
-    ready: &Ready,
+    part: &JobPlan,
     id: &Identity,
     disk: &mut D,
 ) -> Result<Journal, ResumeFault>
     requires short { length id.now < 2 ^ 62 }
-    ensures stands { IfOk result (λ journal. Stands id.now ready.now.epochs journal (D.seen disk.new) (D.may_leave disk.new (D.moment disk.new))) }
-    ensures place { IfOk result (λ journal. IfSome journal.end.next (λ p. IsPlace ready.now.epochs (place_at p))) }
-    ensures ours { OnOk result (WhereTold (D.seen disk.old) (IsOurs id.now ready.now.epochs)) }
-    ensures changes { Changes D.seen D.moment D.may_leave (KeepsEpochs id.now ready.now.epochs) disk.old disk.new }
-    ensures spares { Spares D.seen D.moment D.may_leave id.now ready.now.epochs disk.old disk.new }
-    ensures refused { IfErr result (IsRefusedFor id.now ready.now.epochs (D.seen disk.old) (D.seen disk.new)) }
+    ensures stands { IfOk result (λ journal. Stands id.now part.now journal (D.seen disk.new) (D.may_leave disk.new (D.moment disk.new))) }
+    ensures place { IfOk result (λ journal. IfSome journal.end.next (λ p. IsPlace part.now (place_at p))) }
+    ensures ours { OnOk result (WhereTold (D.seen disk.old) (IsOurs id.now part.now)) }
+    ensures changes { Changes D.seen D.moment D.may_leave (KeepsEpochs id.now part.now) disk.old disk.new }
+    ensures spares { Spares D.seen D.moment D.may_leave id.now part.now disk.old disk.new }
+    ensures refused { IfErr result (IsRefusedFor id.now part.now (D.seen disk.old) (D.seen disk.new)) }
     ensures stage { IfErr result IsOfOpening }
-    ensures counts { CountsJournal (IsLongOpened id.now ready.now.epochs (D.seen disk.old) (D.seen disk.new))
+    ensures counts { CountsJournal (IsLongOpened id.now part.now (D.seen disk.old) (D.seen disk.new))
         (D.faults disk.old) (D.faults disk.new) result }
 {
-    match Journal::open_on(alloc, disk, id, &ready.epochs) {
+    match Journal::open_on(alloc, disk, id, part) {
         Ok(journal) => Ok(journal),
         Err(fault) => Err(opening_fault(fault)),
     }

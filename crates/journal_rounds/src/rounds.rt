@@ -3,6 +3,7 @@ ghost use Rattle.std.specs.Prelude.{◌≡◌, ◌+◌, ◌<◌, ◌≤◌, Opti
 ghost use Rattle.dev_traits.specs.Told.{WhereTold};
 ghost use Rattle.corr_model.specs.Files.{Files};
 ghost use Rattle.piece_plan.specs.Order.{place_of, place_after};
+ghost use Rattle.piece_plan.specs.Limited.{IsPart};
 ghost use Rattle.plan_places.specs.Places.{place_at, IsPlace};
 ghost use Rattle.station_stream.specs.Recorded.{AreRecorded};
 ghost use Rattle.checkpoint_journal.specs.Runs.{Changes};
@@ -20,6 +21,7 @@ use crate::spread::join_spread;
 use crate::sums::Summed;
 use checkpoint_journal::{AppendFault, Identity, Journal};
 use dev_traits::{Disk, Gate, Shelf};
+use piece_plan::JobPlan;
 use ready_job::Ready;
 use run_sums::Spare;
 use station_stream::StreamFault;
@@ -32,6 +34,7 @@ pub(crate) fn round<R: Threads + Sync, F: Shelf + Send, D: Disk + Send, G: Gate 
     rt: &R,
     alloc: Global,
     ready: &Ready,
+    part: &JobPlan,
     id: &Identity,
     shelf: &mut F,
     disk: &mut D,
@@ -43,44 +46,46 @@ pub(crate) fn round<R: Threads + Sync, F: Shelf + Send, D: Disk + Send, G: Gate 
     piece: u64,
     gate: &G,
 ) -> Result<Ahead, ResumeFault>
+    requires part { IsPart ready.now.epochs part.now }
     requires recorded { WhereTold (F.told shelf.old) (λ files. AreRecorded files ready.now.plan.stations ready.now.recordings.items) }
-    requires stands { Stands id.now ready.now.epochs journal.old (D.seen disk.old) (D.may_leave disk.old (D.moment disk.old)) }
+    requires stands { Stands id.now part.now journal.old (D.seen disk.old) (D.may_leave disk.old (D.moment disk.old)) }
     requires more { is_some journal.old.end.next ≡ true }
-    requires ahead { IsAhead (F.told shelf.old) ready.now epoch (option_map place_at journal.old.end.next) ahead.now }
+    requires ahead { IsAhead (F.told shelf.old) ready.now part.now epoch (option_map place_at journal.old.end.next) ahead.now }
     requires epoch { (1 ≤ epoch) × (epoch ≤ 4194304) }
     requires workers { (1 ≤ workers) × (workers ≤ 64) }
     requires piece { (64 ≤ piece) × (piece ≤ 4194304) }
     ensures same { F.told shelf.new ≡ F.told shelf.old }
-    ensures stands { OnOk result (Stands id.now ready.now.epochs journal.new (D.seen disk.new) (D.may_leave disk.new (D.moment disk.new))) }
+    ensures stands { OnOk result (Stands id.now part.now journal.new (D.seen disk.new) (D.may_leave disk.new (D.moment disk.new))) }
     ensures kept { OnOk result (journal.new.end.kept ≡ kept_with ahead.now.summed journal.old.end.kept) }
     ensures place { OnOk result (option_map place_at journal.new.end.next
-        ≡ behind ready.now.epochs (epoch_summed ahead.now.summed) (option_map place_at journal.old.end.next)) }
-    ensures ahead { IfOk result (λ next. IsAhead (F.told shelf.old) ready.now epoch (option_map place_at journal.new.end.next) next) }
+        ≡ behind part.now (epoch_summed ahead.now.summed) (option_map place_at journal.old.end.next)) }
+    ensures ahead { IfOk result (λ next. IsAhead (F.told shelf.old) ready.now part.now epoch (option_map place_at journal.new.end.next) next) }
     ensures steps { IfOk result (λ next. steps_done ahead.now.summed ahead.now.held
         < steps_done next.summed next.held + steps_kept ahead.now.summed) }
     ensures changes { Changes D.seen D.moment D.may_leave
-        (Extends (IsSummed (F.told shelf.old) ready.now.plan ready.now.epochs epoch) id.now ready.now.epochs) disk.old disk.new }
+        (Extends (IsSummed (F.told shelf.old) ready.now.plan part.now epoch) id.now part.now) disk.old disk.new }
     ensures stage { IfErr result IsOfEpoch }
-    ensures named { IfErr result (KeepsNamed id.now ready.now.epochs (D.may_leave disk.new (D.moment disk.new))) }
+    ensures named { IfErr result (KeepsNamed id.now part.now (D.may_leave disk.new (D.moment disk.new))) }
     ensures reads { CountsReadsBeside (F.faults shelf.old) (F.faults shelf.new) result }
-    ensures journal { CountsJournal (StaysFull id.now ready.now.epochs (D.seen disk.old) (D.seen disk.new))
+    ensures journal { CountsJournal (StaysFull id.now part.now (D.seen disk.old) (D.seen disk.new))
         (D.faults disk.old) (D.faults disk.new) result }
 {
-    is_due(shelf, ready, journal, epoch, ahead);
+    is_due(shelf, ready, part, journal, epoch, ahead);
     let (appended, advanced) = join_spread(
         rt,
         workers > 1,
-        &mut || append_summed(ready, id, disk, journal, epoch, &ahead.summed),
+        &mut || append_summed(ready, part, id, disk, journal, epoch, &ahead.summed),
         &mut ||
+            requires part { IsPart ready.now.epochs part.now }
             requires recorded { WhereTold (F.told shelf.now) (λ files. AreRecorded files ready.now.plan.stations ready.now.recordings.items) }
             requires epoch { (1 ≤ epoch) × (epoch ≤ 4194304) }
             requires values { IfSome ahead.now.held (IsHeld (F.told shelf.now) ready.now) }
-            requires place { IfSome ahead.now.next (λ p. IsPlace ready.now.epochs (place_at p)) }
+            requires place { IfSome ahead.now.next (λ p. IsPlace part.now (place_at p)) }
             requires workers { (1 ≤ workers) × (workers ≤ 64) }
             requires piece { (64 ≤ piece) × (piece ≤ 4194304) }
         {
             advance(
-                rt, alloc, spare, ready, shelf, epoch, ahead, workers, piece, gate,
+                rt, alloc, spare, ready, part, shelf, epoch, ahead, workers, piece, gate,
             )
         },
     );
@@ -93,68 +98,77 @@ pub(crate) fn round<R: Threads + Sync, F: Shelf + Send, D: Disk + Send, G: Gate 
 }
 
 // What is summed is the epoch that is due, also where the files are not told. The call does nothing: it brings this law.
-fn is_due<F: Shelf>(_shelf: &F, _ready: &Ready, _journal: &Journal, _epoch: u64, _ahead: &Ahead)
-    requires { IsAhead (F.told _shelf.now) _ready.now _epoch (option_map place_at _journal.now.end.next) _ahead.now }
+fn is_due<F: Shelf>(
+    _shelf: &F,
+    _ready: &Ready,
+    _part: &JobPlan,
+    _journal: &Journal,
+    _epoch: u64,
+    _ahead: &Ahead,
+)
+    requires { IsAhead (F.told _shelf.now) _ready.now _part.now _epoch (option_map place_at _journal.now.end.next) _ahead.now }
     ensures begins { IfSome _ahead.now.summed (λ s. option_map place_at _journal.now.end.next ≡ Some (place_of s.epoch)) }
     ensures sums { IfSome _ahead.now.summed (AreSumsOf None _ready.now) }
-    ensures cut { IfSome _ahead.now.summed (IsCut _ready.now.epochs _epoch) }
+    ensures cut { IfSome _ahead.now.summed (IsCut _part.now _epoch) }
 {}
 
 // Appends the sums of the epoch that is due, where they are there.
 fn append_summed<D: Disk>(
     ready: &Ready,
+    part: &JobPlan,
     id: &Identity,
     disk: &mut D,
     journal: &mut Journal,
     epoch: u64,
     summed: &Option<Summed>,
 ) -> Result<(), ResumeFault>
-    requires stands { Stands id.now ready.now.epochs journal.old (D.seen disk.old) (D.may_leave disk.old (D.moment disk.old)) }
+    requires stands { Stands id.now part.now journal.old (D.seen disk.old) (D.may_leave disk.old (D.moment disk.old)) }
     requires begins { IfSome summed.now (λ s. option_map place_at journal.old.end.next ≡ Some (place_of s.epoch)) }
     requires sums { IfSome summed.now (AreSumsOf None ready.now) }
-    requires cut { IfSome summed.now (IsCut ready.now.epochs epoch) }
+    requires cut { IfSome summed.now (IsCut part.now epoch) }
     ensures kept { OnOk result (journal.new.end.kept ≡ kept_with summed.now journal.old.end.kept) }
     ensures place { OnOk result (option_map place_at journal.new.end.next
-        ≡ behind ready.now.epochs (epoch_summed summed.now) (option_map place_at journal.old.end.next)) }
-    ensures stands { OnOk result (Stands id.now ready.now.epochs journal.new (D.seen disk.new) (D.may_leave disk.new (D.moment disk.new))) }
+        ≡ behind part.now (epoch_summed summed.now) (option_map place_at journal.old.end.next)) }
+    ensures stands { OnOk result (Stands id.now part.now journal.new (D.seen disk.new) (D.may_leave disk.new (D.moment disk.new))) }
     ensures changes { (told : Option Files) → IfSome summed.now (AreSumsOf told ready.now) → Changes D.seen D.moment D.may_leave
-        (Extends (IsSummed told ready.now.plan ready.now.epochs epoch) id.now ready.now.epochs) disk.old disk.new }
+        (Extends (IsSummed told ready.now.plan part.now epoch) id.now part.now) disk.old disk.new }
     ensures stage { IfErr result IsOfAppend }
-    ensures named { IfErr result (KeepsNamed id.now ready.now.epochs (D.may_leave disk.new (D.moment disk.new))) }
-    ensures counts { CountsJournal (StaysFull id.now ready.now.epochs (D.seen disk.old) (D.seen disk.new))
+    ensures named { IfErr result (KeepsNamed id.now part.now (D.may_leave disk.new (D.moment disk.new))) }
+    ensures counts { CountsJournal (StaysFull id.now part.now (D.seen disk.old) (D.seen disk.new))
         (D.faults disk.old) (D.faults disk.new) result }
 {
     match summed {
-        Some(summed) => append(ready, id, disk, journal, epoch, summed),
+        Some(summed) => append(ready, part, id, disk, journal, epoch, summed),
         None => Ok(()),
     }
 }
 
 // Appends the sums of the epoch that is due.
 fn append<D: Disk>(
-    ready: &Ready,
+    _ready: &Ready,
+    part: &JobPlan,
     _id: &Identity,
     disk: &mut D,
     journal: &mut Journal,
     _epoch: u64,
     summed: &Summed,
 ) -> Result<(), ResumeFault>
-    requires stands { Stands _id.now ready.now.epochs journal.old (D.seen disk.old) (D.may_leave disk.old (D.moment disk.old)) }
+    requires stands { Stands _id.now part.now journal.old (D.seen disk.old) (D.may_leave disk.old (D.moment disk.old)) }
     requires begins { option_map place_at journal.old.end.next ≡ Some (place_of summed.now.epoch) }
-    requires sums { AreSumsOf None ready.now summed.now }
-    requires cut { IsCut ready.now.epochs _epoch summed.now }
+    requires sums { AreSumsOf None _ready.now summed.now }
+    requires cut { IsCut part.now _epoch summed.now }
     ensures kept { OnOk result (journal.new.end.kept ≡ journal.old.end.kept + 1) }
-    ensures place { OnOk result (option_map place_at journal.new.end.next ≡ place_after ready.now.epochs summed.now.epoch) }
-    ensures stands { OnOk result (Stands _id.now ready.now.epochs journal.new (D.seen disk.new) (D.may_leave disk.new (D.moment disk.new))) }
-    ensures changes { (told : Option Files) → AreSumsOf told ready.now summed.now → Changes D.seen D.moment D.may_leave
-        (Extends (IsSummed told ready.now.plan ready.now.epochs _epoch) _id.now ready.now.epochs) disk.old disk.new }
+    ensures place { OnOk result (option_map place_at journal.new.end.next ≡ place_after part.now summed.now.epoch) }
+    ensures stands { OnOk result (Stands _id.now part.now journal.new (D.seen disk.new) (D.may_leave disk.new (D.moment disk.new))) }
+    ensures changes { (told : Option Files) → AreSumsOf told _ready.now summed.now → Changes D.seen D.moment D.may_leave
+        (Extends (IsSummed told _ready.now.plan part.now _epoch) _id.now part.now) disk.old disk.new }
     ensures stage { IfErr result IsOfAppend }
-    ensures named { IfErr result (KeepsNamed _id.now ready.now.epochs (D.may_leave disk.new (D.moment disk.new))) }
-    ensures counts { CountsJournal (StaysFull _id.now ready.now.epochs (D.seen disk.old) (D.seen disk.new))
+    ensures named { IfErr result (KeepsNamed _id.now part.now (D.may_leave disk.new (D.moment disk.new))) }
+    ensures counts { CountsJournal (StaysFull _id.now part.now (D.seen disk.old) (D.seen disk.new))
         (D.faults disk.old) (D.faults disk.new) result }
 {
     let kept = journal.kept();
-    match journal.append(disk, &ready.epochs, &summed.epoch, &summed.sums) {
+    match journal.append(disk, part, &summed.epoch, &summed.sums) {
         Ok(()) => Ok(()),
         Err(AppendFault::Disk) => Err(ResumeFault::Journal(Some(kept))),
     }

@@ -24,5 +24,5 @@ pub struct Ready {
     pub ghost some_epoch: { 1 ≤ epoch },
     pub ghost short_epoch: { epoch ≤ 4194304 },
     pub ghost few_epochs: { length (epochs_by epochs epoch) ≤ 4294967296 },
-    pub ghost short: { length identity < 2 ^ 62 },
+    pub ghost short: { length identity < 2 ^ 61 },
 }

@@ -1,13 +1,15 @@
 -- A job that goes together with its schedule has at most 2^32 epochs of the length in force.
 use Rattle.std.specs.Prelude.{IfSome, flat_map, filter, fold, unwrap_or, if◌then◌else◌}
 use Rattle.std.specs.List.{enumerate_from, sum_by}
-use Rattle.std.proofs.Common.{◌≡◌, ℕ, ◌+◌, ◌<◌, ◌≤◌, ◌==◌, nat_lt, Bool, true, false, cond, List, [], ◌∷◌, length, map, All, Option, None, Some, Ok, Err, refl, subst, sym, ap, ◌∙◌, arith}
+use Rattle.std.proofs.Common.{◌≡◌, ℕ, ◌+◌, ◌-◌, ◌*◌, ◌<◌, ◌≤◌, ◌==◌, nat_lt, Bool, true, false, cond, List, [], ◌∷◌, length, map, All, Option, None, Some, Ok, Err, refl, subst, sym, ap, ◌∙◌, arith}
 use Rattle.std.proofs.lemmas.Bool.Decides.{nat_tests}
 use Rattle.std.proofs.lemmas.List.{length-append}
 use Rattle.std.proofs.lemmas.List.Folds.{fold-map}
 use Rattle.std.proofs.lemmas.List.Sums.{sum_by-cons}
 use Rattle.scan_list.specs.declared.scan.Scan.{Scan}
+use Rattle.piece_plan.specs.declared.job.ScanSize.{ScanSize}
 use Rattle.piece_plan.specs.Epochs.{JobSizes, scan_epochs, epochs_of}
+use Rattle.piece_plan.specs.Counts.{count_in}
 use Rattle.piece_plan.proofs.CountLemmas.{length-scan_epochs}
 use Rattle.plan_places.specs.Walk.{epochs_by}
 use Rattle.job_plan.specs.declared.plan.ScanPlan.{ScanPlan}
@@ -53,7 +55,10 @@ length-epochs_by job epoch rate channels scans some cut =
     length-kept (scan_epochs sizes) (scan_plan job rate channels) (size_of plan) (λ (scan : ScanPlan). nat_lt 0 (length scan.baselines)) (taken_epochs job epoch rate)
     (λ n scan there.
     let none : (length (baselines_in job scan) == 0) ≡ false = grind (arith, nat_tests) in
-    length-scan_epochs sizes n (size_of plan (scan_plan job rate channels scan)) some cut
+    let size : ScanSize = size_of plan (scan_plan job rate channels scan) in
+    let whole : size.samples - size.first * job.integration ≡ size.samples = omega arith in
+    length-scan_epochs sizes n size some cut
+    ∙ ap (λ (left : ℕ). count_in left job.integration epoch) whole
     ∙ sym (ap (λ (b : Bool). if b then 0 else epochs_in job epoch (samples_of job rate scan)) none))
     (λ scan past.
     let none : (length (baselines_in job scan) == 0) ≡ true = grind (arith, nat_tests) in

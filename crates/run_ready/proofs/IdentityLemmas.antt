@@ -64,7 +64,7 @@ length-pieces a b c d e f g =
 -- an identity is short where its texts are, and there are few stations
 pub length-identity_of : (schedule job : List ℕ) (stations : List StationPlan) (sized : List StationFiles)
     → length schedule ≤ 8388608 → length job ≤ 4194304 → length stations ≤ 32 → AllZip IsSizedBy stations sized
-    → length (identity_of schedule job (sizes_in sized)) < 2 ^ 62
+    → length (identity_of schedule job (sizes_in sized)) < 2 ^ 61
 length-identity_of schedule job stations sized short few_lines few all =
     let sizes : List ℕ = sizes_in sized in
     let whole =

@@ -42,7 +42,7 @@ pub struct Survey {
     pub ghost some_epoch: { 1 ≤ epoch },
     pub ghost short_epoch: { epoch ≤ 4194304 },
     pub ghost few_epochs: { length (epochs_by epochs epoch) ≤ 4294967296 },
-    pub ghost short: { length identity < 2 ^ 62 },
+    pub ghost short: { length identity < 2 ^ 61 },
 }
 
 // The survey of a plan whose stations have these files, of a job with these texts.

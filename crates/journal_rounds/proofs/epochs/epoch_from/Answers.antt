@@ -5,4 +5,4 @@ use Rattle.journal_rounds.proofs.epochs.epoch_from.Goals as goal
 
 pub returns-clause-begins : goal.returns-clause-begins
 returns-clause-begins c =
-    sym (cut-begins c.args.ready.now.epochs c.args.epoch (place_at c.args.at.now) c.cut-e.result c.requires.place c.cut-e.ensures.cut)
+    sym (cut-begins c.args.part.now c.args.epoch (place_at c.args.at.now) c.cut-e.result c.requires.place c.cut-e.ensures.cut)

@@ -25,29 +25,29 @@ round-requires-clause-recorded g c = λ κs lives.
 
 pub round-requires-clause-more : goal.round-requires-clause-more
 round-requires-clause-more g c = λ κs lives.
-    at-some c.epochs.journal.end.next (left-some c.args.ready.now.epochs c.args.epoch c.epochs.due _ c.epochs.invariant.left (omega arith))
+    at-some c.epochs.journal.end.next (left-some c.args.part.now c.args.epoch c.epochs.due _ c.epochs.invariant.left (omega arith))
 
 pub round-requires-clause-ahead : goal.round-requires-clause-ahead
 round-requires-clause-ahead g c = λ κs lives.
     let ready = c.args.ready.now in
     let before = c.epochs.invariant in
-    subst (λ (told : Option Files). IsAhead told ready c.args.epoch (option_map place_at c.epochs.journal.end.next) c.epochs.ahead) (sym before.same) before.ahead
+    subst (λ (told : Option Files). IsAhead told ready c.args.part.now c.args.epoch (option_map place_at c.epochs.journal.end.next) c.epochs.ahead) (sym before.same) before.ahead
 
 pub epochs-init : goal.epochs-init
 epochs-init g c =
     let ready = c.args.ready.now in
-    let job = ready.epochs in
+    let job = c.args.part.now in
     let opened = c.in_ok-journal.ensures in
     let journal = c.in_ok-journal.journal in
     let left = subst (λ (at : Option Spot). AreLeft job c.args.epoch (option_map place_at at) c.left-due.result) c.next_place-first.ensures c.left-due.ensures in
     record {
       same = refl;
       stands = opened.stands;
-      ahead = ahead-none (g.F.Shelf.told c.args.shelf.now) ready c.args.epoch journal.end.next c.next_place-first.result c.next_place-first.ensures opened.place;
+      ahead = ahead-none (g.F.Shelf.told c.args.shelf.now) ready job c.args.epoch journal.end.next c.next_place-first.result c.next_place-first.ensures opened.place;
       left = left;
       begins = begins_told c.args.id.now job c.args.epoch c.left-due.result journal _ _ opened.changes.read opened.stands.image left;
       ours = opened.ours;
-      changes = goes_kept g.D.Disk.seen g.D.Disk.moment g.D.Disk.may_leave (IsSummed (g.F.Shelf.told c.args.shelf.now) ready.plan ready.epochs c.args.epoch) c.args.id.now job _ _ opened.changes;
+      changes = goes_kept g.D.Disk.seen g.D.Disk.moment g.D.Disk.may_leave (IsSummed (g.F.Shelf.told c.args.shelf.now) ready.plan job c.args.epoch) c.args.id.now job _ _ opened.changes;
       reads = refl;
       counts = opened.counts;
     }
@@ -55,7 +55,7 @@ epochs-init g c =
 pub epochs-preserved : goal.epochs-preserved
 epochs-preserved g c =
     let ready = c.args.ready.now in
-    let job = ready.epochs in
+    let job = c.args.part.now in
     let before = c.epochs.invariant in
     let after = c.in_ok-next.ensures in
     let journal = c.round.new.journal in
@@ -65,7 +65,7 @@ epochs-preserved g c =
     record {
       same = after.same ∙ before.same;
       stands = after.stands;
-      ahead = subst (λ (told : Option Files). IsAhead told ready c.args.epoch (option_map place_at journal.end.next) c.in_ok-next.next) before.same after.ahead;
+      ahead = subst (λ (told : Option Files). IsAhead told ready job c.args.epoch (option_map place_at journal.end.next) c.in_ok-next.next) before.same after.ahead;
       left = subst (λ (due : Option Place). AreLeft job c.args.epoch due c.left_behind-due.result) (sym after.place) less;
       begins = subst (λ (n : ℕ). WhereTold (g.D.Disk.seen c.args.disk.now) (Begins c.args.id.now job c.args.epoch n)) (sym all) before.begins;
       ours = before.ours;
@@ -81,24 +81,25 @@ epochs-smaller g c =
 pub returns-in_err-journal-clause-changes : goal.returns-in_err-journal-clause-changes
 returns-in_err-journal-clause-changes g c =
     let ready = c.args.ready.now in
-    goes_kept g.D.Disk.seen g.D.Disk.moment g.D.Disk.may_leave (IsSummed (g.F.Shelf.told c.args.shelf.now) ready.plan ready.epochs c.args.epoch) c.args.id.now ready.epochs _ _ c.open.ensures.changes
+    let job = c.args.part.now in
+    goes_kept g.D.Disk.seen g.D.Disk.moment g.D.Disk.may_leave (IsSummed (g.F.Shelf.told c.args.shelf.now) ready.plan job c.args.epoch) c.args.id.now job _ _ c.open.ensures.changes
 
 pub returns-in_err-journal-clause-journal : goal.returns-in_err-journal-clause-journal
 returns-in_err-journal-clause-journal g c =
     let p = err_from_is_err_and c.from_residual.result c.from_residual.ensures.1 in
-    rw (p.1, p.2) (counts_weaker _ _ _ _ _ (opened-no_place c.args.id.now c.args.ready.now.epochs c.args.epoch _ _) c.in_err-journal.ensures.counts)
+    rw (p.1, p.2) (counts_weaker _ _ _ _ _ (opened-no_place c.args.id.now c.args.part.now c.args.epoch _ _) c.in_err-journal.ensures.counts)
 
 pub returns-in_err-next-clause-changes : goal.returns-in_err-next-clause-changes
 returns-in_err-next-clause-changes g c =
     let ready = c.args.ready.now in
+    let job = c.args.part.now in
     let before = c.epochs.invariant in
-    goes_on g.D.Disk.seen g.D.Disk.moment g.D.Disk.may_leave ready.plan c.args.id.now ready.epochs c.args.epoch _ _ _ _ _ before.stands.named before.stands.plan before.same before.changes c.round.ensures.changes
+    goes_on g.D.Disk.seen g.D.Disk.moment g.D.Disk.may_leave ready.plan c.args.id.now job c.args.epoch _ _ _ _ _ before.stands.named before.stands.plan before.same before.changes c.round.ensures.changes
 
 pub returns-in_err-next-clause-refused : goal.returns-in_err-next-clause-refused
 returns-in_err-next-clause-refused g c =
-    let ready = c.args.ready.now in
     let p = err_from_is_err_and c.from_residual-in_err-next.result c.from_residual-in_err-next.ensures.1 in
-    rw (p.1, p.2) (refused_later c.args.id.now ready.epochs _ _ _ c.in_err-next.ensures.stage c.epochs.invariant.ours)
+    rw (p.1, p.2) (refused_later c.args.id.now c.args.part.now _ _ _ c.in_err-next.ensures.stage c.epochs.invariant.ours)
 
 pub returns-in_err-next-clause-spares : goal.returns-in_err-next-clause-spares
 returns-in_err-next-clause-spares g c = inr c.epochs.invariant.ours
@@ -106,9 +107,10 @@ returns-in_err-next-clause-spares g c = inr c.epochs.invariant.ours
 pub returns-in_err-next-clause-journal : goal.returns-in_err-next-clause-journal
 returns-in_err-next-clause-journal g c =
     let ready = c.args.ready.now in
+    let job = c.args.part.now in
     let before = c.epochs.invariant in
     let p = err_from_is_err_and c.from_residual-in_err-next.result c.from_residual-in_err-next.ensures.1 in
-    let wide = round-no_place (IsSummed (g.F.Shelf.told c.args.shelf.now) ready.plan ready.epochs c.args.epoch) c.args.id.now ready.epochs c.args.epoch c.epochs.due c.epochs.journal
+    let wide = round-no_place (IsSummed (g.F.Shelf.told c.args.shelf.now) ready.plan job c.args.epoch) c.args.id.now job c.args.epoch c.epochs.due c.epochs.journal
     (g.D.Disk.seen c.args.disk.now) (g.D.Disk.seen c.epochs.disk) (g.D.Disk.seen c.round.new.disk) before.stands.named before.stands.plan c.requires.short
     before.begins before.changes.read before.stands.image in
     rw (p.1, p.2) (counts_since _ _ _ _ _ _ before.counts wide c.in_err-next.ensures.journal)
@@ -118,4 +120,4 @@ returns-clause-spares g c = inr c.epochs.invariant.ours
 
 pub returns-clause-covers : goal.returns-clause-covers
 returns-clause-covers g c =
-    at-none c.epochs.journal.end.next (left-none c.args.ready.now.epochs c.args.epoch c.epochs.due _ c.epochs.invariant.left (omega arith))
+    at-none c.epochs.journal.end.next (left-none c.args.part.now c.args.epoch c.epochs.due _ c.epochs.invariant.left (omega arith))

@@ -13,7 +13,7 @@ use Rattle.journal_rounds.proofs.rest.resume.Given as goal
 abbrev pub invariant-epochs : goal.invariant-epochs
 invariant-epochs g l =
     let id = l.id in
-    let job = l.ready.epochs in
+    let job = l.part in
     let told = g.F.Shelf.told in
     let seen = g.D.Disk.seen in
     let moment = g.D.Disk.moment in
@@ -21,7 +21,7 @@ invariant-epochs g l =
     record {
       same : told l.shelf ≡ told l.fn.shelf;
       stands : Stands id job l.journal (seen l.disk) (may_leave l.disk (moment l.disk));
-      ahead : IsAhead (told l.fn.shelf) l.ready l.epoch (option_map place_at l.journal.end.next) l.ahead;
+      ahead : IsAhead (told l.fn.shelf) l.ready job l.epoch (option_map place_at l.journal.end.next) l.ahead;
       left : AreLeft job l.epoch (option_map place_at l.journal.end.next) l.due;
       begins : WhereTold (seen l.fn.disk) (Begins id job l.epoch (l.journal.end.kept + l.due));
       ours : WhereTold (seen l.fn.disk) (IsOurs id job);

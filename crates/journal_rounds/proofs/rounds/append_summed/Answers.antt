@@ -6,5 +6,6 @@ use Rattle.journal_rounds.proofs.rounds.append_summed.Goals as goal
 pub returns-in-None-clause-changes : goal.returns-in-None-clause-changes
 returns-in-None-clause-changes g c told are =
     let ready = c.args.ready.now in
-    changes_none g.D.Disk.seen g.D.Disk.moment g.D.Disk.may_leave (Extends (IsSummed told ready.plan ready.epochs c.args.epoch) c.args.id.now ready.epochs)
-    (extends_same (IsSummed told ready.plan ready.epochs c.args.epoch) c.args.id.now ready.epochs) c.args.disk.now
+    let job = c.args.part.now in
+    changes_none g.D.Disk.seen g.D.Disk.moment g.D.Disk.may_leave (Extends (IsSummed told ready.plan job c.args.epoch) c.args.id.now job)
+    (extends_same (IsSummed told ready.plan job c.args.epoch) c.args.id.now job) c.args.disk.now

@@ -19,7 +19,7 @@ invariant_of-result c =
       short_epoch = c.requires.short_epoch;
       few_epochs = subst (λ (e : JobSizes). length (epochs_by e c.args.epoch) ≤ 4294967296) (sym c.in_ok-epochs.ensures) c.requires.few_epochs;
       short =
-          subst (λ (id : List ℕ). length id < 2 ^ 62) (sym same)
+          subst (λ (id : List ℕ). length id < 2 ^ 61) (sym same)
           (length-identity_of c.args.schedule.now c.args.job.now c.args.plan.stations c.args.files.items
           c.requires.short_schedule c.requires.short_job c.requires.few_stations c.requires.sized);
     }

@@ -14,6 +14,8 @@ pub enum Measure {
     Phase,
     /// The cells of an integration, once for each bin of a pulse.
     BinCells,
+    /// The number of the first integration behind a shard, of which the greatest is the number of integrations of the job.
+    Shard,
 }
 
 impl Measure {
@@ -30,6 +32,7 @@ impl Measure {
             Measure::Amplitude => "amplitude",
             Measure::Phase => "phase",
             Measure::BinCells => "bincells",
+            Measure::Shard => "shard",
         }
     }
 }

@@ -15,7 +15,7 @@ use Rattle.job_plan.specs.declared.plan.Plan.{Plan}
 use Rattle.job_epochs.specs.Sizes.{sizes_of}
 use Rattle.piece_plan.specs.declared.epoch.EpochPlan.{EpochPlan}
 use Rattle.piece_plan.specs.Epochs.{JobSizes}
-use Rattle.piece_plan.specs.Order.{Place, first_place}
+use Rattle.piece_plan.specs.Order.{Place, job_start}
 use Rattle.plan_places.specs.Walk.{IsWalk, AreLeft, epochs_by}
 use Rattle.sink_text.specs.Written.{StretchState, Puts}
 use Rattle.sink_text.proofs.WrittenText.{Puts-then, Puts-nothing, flat_map-next}
@@ -107,9 +107,9 @@ PutsLines-all stations recordings i all lines = record {
 
 -- the epochs that are left at the start of a job are those of the whole job
 pub left-whole : (job : JobSizes) (epoch : ℕ) (due : Option Place) (count : ℕ)
-    → ((epochs others : List EpochPlan) → IsWalk job epoch (first_place 0 job.scans) epochs → IsWalk job epoch (first_place 0 job.scans) others → epochs ≡ others)
-    → IsWalk job epoch (first_place 0 job.scans) (epochs_by job epoch)
-    → due ≡ first_place 0 job.scans
+    → ((epochs others : List EpochPlan) → IsWalk job epoch (job_start job) epochs → IsWalk job epoch (job_start job) others → epochs ≡ others)
+    → IsWalk job epoch (job_start job) (epochs_by job epoch)
+    → due ≡ job_start job
     → AreLeft job epoch due count
     → count ≡ length (epochs_by job epoch)
 left-whole job epoch due count alone whole first left =

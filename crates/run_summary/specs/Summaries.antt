@@ -38,3 +38,7 @@ check_text plan epoch files =
 -- how many epochs are kept, and of how many
 abbrev pub kept_line : ℕ → ℕ → List ℕ
 kept_line kept epochs = decimal kept ++ codes " of " ++ decimal epochs ++ codes " epochs kept" ++ 10 ∷ []
+
+-- a part of a job that is summed, by the numbers of its first integration and of the one behind its last
+abbrev pub shard_line : ℕ → ℕ → List ℕ
+shard_line from to = codes "shard " ++ decimal from ++ codes " " ++ decimal to ++ codes " done" ++ 10 ∷ []

@@ -5,7 +5,7 @@ ghost use Rattle.sink_text.specs.Appends.{Appends};
 ghost use Rattle.sink_text.specs.Written.{Puts};
 ghost use Rattle.station_stream.specs.Recorded.{AreRecorded, AreNamed};
 ghost use Rattle.run_summary.specs.Lines.{PutsLines};
-ghost use Rattle.run_summary.specs.Summaries.{check_text, counts_line, kept_line, station_line};
+ghost use Rattle.run_summary.specs.Summaries.{check_text, counts_line, kept_line, shard_line, station_line};
 
 use dev_traits::{Failed, Sink};
 use frame_index::Counts;
@@ -108,6 +108,23 @@ pub fn write_kept<S: Sink>(kept: u64, epochs: u64, out: &mut S) -> Result<(), Fa
             Piece::Text(" of "),
             Piece::Number(epochs),
             Piece::Text(" epochs kept\n"),
+        ],
+        out,
+    )
+}
+
+/// Appends that a part of a job is summed, by the numbers of its first integration and of the one behind its last: `shard FROM TO
+/// done`.
+pub fn write_shard<S: Sink>(from: u64, to: u64, out: &mut S) -> Result<(), Failed>
+    ensures { Appends (S.told out.old) (S.told out.new) (shard_line from to) (S.faults out.old) (S.faults out.new) result }
+{
+    append_pieces(
+        &[
+            Piece::Text("shard "),
+            Piece::Number(from),
+            Piece::Text(" "),
+            Piece::Number(to),
+            Piece::Text(" done\n"),
         ],
         out,
     )

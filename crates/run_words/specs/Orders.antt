@@ -1,12 +1,12 @@
 -- What `clap` takes behind the name of each command, the order that is read of it, or the first fault, and what an order is that was read.
 use Rattle.read_steps.specs.Steps as steps
-use Rattle.std.specs.Prelude.{ℕ, ◌≤◌, ◌^◌, ◌-◌, List, [], ◌∷◌, Option, Result, Ok, Err, IfSome, codes, bytes_eq, if◌then◌else◌}
+use Rattle.std.specs.Prelude.{ℕ, ◌<◌, ◌≤◌, ◌^◌, ◌-◌, nat_lt, List, [], ◌∷◌, Option, Result, Ok, Err, IfSome, codes, bytes_eq, if◌then◌else◌}
 use Rattle.std.specs.Str.{IsUtf8}
 use Rattle.clap.specs.Words.{App, Row, Text, with_rule, first_of}
 use Rattle.run_words.specs.declared.fault.WordsFault.{WordsFault}
-use Rattle.run_words.specs.declared.fault.WordsFault.TheVariants.{NoCommand, UnknownCommand, Memory}
+use Rattle.run_words.specs.declared.fault.WordsFault.TheVariants.{NoCommand, UnknownCommand, Value, Memory}
 use Rattle.run_words.specs.declared.order.Order.{Order}
-use Rattle.run_words.specs.declared.order.Order.TheVariants.{Run, Plain, Check, Status, Dump, Gen, Fringe, Verify, Bins}
+use Rattle.run_words.specs.declared.order.Order.TheVariants.{Run, Plain, Check, Status, Dump, Gen, Fringe, Verify, Bins, Shard}
 use Rattle.run_words.specs.Numbers.{number_in, epoch_in, workers_in, piece_in}
 use Rattle.run_words.specs.Options.{◌>>=◌, option_rule, needed_option, needed_word, bare_app, work_app, needed, given, taken_by}
 
@@ -116,6 +116,31 @@ bins_of rows =
     piece_in piece_text >>= λ piece.
     Ok (Bins job (first_of (codes "vex") rows) phase workers piece)
 
+-- ---- `shard`: a job as of `run`, and the part of it that is summed
+
+abbrev pub shard_app : App
+shard_app = with_rule (with_rule (work_app (cut_app (codes "shard"))) (needed_option (codes "from"))) (needed_option (codes "to"))
+
+-- the integrations from a number up to, not including, another, of which there is at least one
+unfoldable pub part_in : Text → Text → Result (ℕ × ℕ) WordsFault
+part_in from_text to_text =
+    number_in 0 (2 ^ 64 - 1) from_text >>= λ from.
+    number_in 0 (2 ^ 64 - 1) to_text >>= λ to.
+    if nat_lt from to then Ok (from, to) else Err Value
+
+unfoldable pub shard_of : List Row → Result Order WordsFault
+shard_of rows =
+    needed (codes "job") rows >>= λ job.
+    needed (codes "workers") rows >>= λ workers_text.
+    needed (codes "piece") rows >>= λ piece_text.
+    needed (codes "from") rows >>= λ from_text.
+    needed (codes "to") rows >>= λ to_text.
+    given (codes "epoch") epoch_in rows >>= λ epoch.
+    workers_in workers_text >>= λ workers.
+    piece_in piece_text >>= λ piece.
+    part_in from_text to_text >>= λ part.
+    Ok (Shard job (first_of (codes "vex") rows) epoch workers piece part.0 part.1)
+
 -- ---- the order of words
 
 -- the order of a command and the words behind it
@@ -130,6 +155,7 @@ order_after command words =
     else if bytes_eq command (codes "fringe") then taken_by fringe_app fringe_of words
     else if bytes_eq command (codes "verify") then taken_by verify_app verify_of words
     else if bytes_eq command (codes "bins") then taken_by bins_app bins_of words
+    else if bytes_eq command (codes "shard") then taken_by shard_app shard_of words
     else Err UnknownCommand
 
 abbrev pub order_of : List Text → Result Order WordsFault
@@ -179,3 +205,4 @@ IsOrder (Gen seed seconds workers piece) = IsSample seconds × IsWork workers pi
 IsOrder (Fringe file rates divide) = IsUtf8 file × IsGrid rates divide
 IsOrder (Verify file certificate) = IsUtf8 file × IsUtf8 certificate
 IsOrder (Bins job vex phase workers piece) = AreNames job vex × (IsUtf8 phase × IsWork workers piece)
+IsOrder (Shard job vex epoch workers piece from to) = AreNames job vex × (IsCut epoch × (IsWork workers piece × (from < to)))

@@ -1,7 +1,8 @@
 //! Numbers among the words.
-ghost use Rattle.std.specs.Prelude.{◌≡◌, ◌≤◌, IfOk};
+ghost use Rattle.std.specs.Prelude.{◌≡◌, ◌≤◌, ◌<◌, IfOk};
 ghost use Rattle.num_time.specs.Numerals.{are_digits};
 ghost use Rattle.run_words.specs.Numbers.{is_count, number_in, within, epoch_in, workers_in, piece_in};
+ghost use Rattle.run_words.specs.Orders.{part_in};
 
 use crate::fault::WordsFault;
 
@@ -69,4 +70,19 @@ pub(crate) fn piece_in(text: &str) -> Result<u64, WordsFault>
     ensures range { IfOk result (λ piece. (64 ≤ piece) × (piece ≤ 4194304)) }
 {
     number_in(text, 64, 4_194_304)
+}
+
+/// The numbers of a part's first integration, and of the first one behind it, that two texts write.
+#[tactic(auto, unfolding(crate::specs::Orders::part_in))]
+pub(crate) fn part_in(from: &str, to: &str) -> Result<(u64, u64), WordsFault>
+    ensures numbers { result ≡ part_in from.now to.now }
+    ensures some { IfOk result (λ part. part.0 < part.1) }
+{
+    let from = number_in(from, 0, u64::MAX)?;
+    let to = number_in(to, 0, u64::MAX)?;
+    if from < to {
+        Ok((from, to))
+    } else {
+        Err(WordsFault::Value)
+    }
 }

@@ -2,11 +2,11 @@
 ghost use Rattle.std.specs.Prelude.{◌≡◌, IfOk, map, string_bytes};
 ghost use Rattle.clap.specs.Words.{app_of, rows_of, found_of};
 ghost use Rattle.run_words.specs.Options.{taken_by};
-ghost use Rattle.run_words.specs.Orders.{job_app, job_names_of, cut_app, cut_names_of, run_app, run_of, dump_app, dump_of, gen_app, gen_of, fringe_app, fringe_of, verify_app, verify_of, bins_app, bins_of, order_after, Gives, AreNames, IsCut, IsOrder};
+ghost use Rattle.run_words.specs.Orders.{job_app, job_names_of, cut_app, cut_names_of, run_app, run_of, dump_app, dump_of, gen_app, gen_of, fringe_app, fringe_of, verify_app, verify_of, bins_app, bins_of, shard_app, shard_of, order_after, Gives, AreNames, IsCut, IsOrder};
 
 use crate::fault::WordsFault;
 use crate::given::{epoch_given, name_given, name_of, needed};
-use crate::numbers::{number_in, piece_in, workers_in};
+use crate::numbers::{number_in, part_in, piece_in, workers_in};
 use crate::options::{bare, needed_option, needed_word, option, parsed, with, with_work};
 use clap::{ArgMatches, Command};
 use num_time::Name;
@@ -15,7 +15,9 @@ use std::alloc::{AllocError, Global};
 /// What a call asks for, by its command: the name of the job's file and that of the schedule's, where there is one; the samples
 /// of an epoch, where they are not those of the job's own line; how many workers share the work, and the samples of a piece of it; the name of a record file; of a generated job the seed and the
 /// length in seconds; of a search for fringes how many rates lie on either side of 0, and what divides a rate to steps of a
-/// sixteenth of a turn in an integration; the name of a certificate's file; and that of the file of a pulse's phase.
+/// sixteenth of a turn in an integration; the name of a certificate's file; that of the file of a pulse's phase; and of a shard,
+/// which sums a part of a job into a journal of its own, the numbers of the part's first integration and of the first one behind it.
+/// Integrations are numbered from 0 through the whole job.
 #[derive(Debug, Drop)]
 pub enum Order {
     Run {
@@ -64,6 +66,15 @@ pub enum Order {
         workers: u32,
         piece: u64,
     },
+    Shard {
+        job: Name,
+        vex: Option<Name>,
+        epoch: Option<u64>,
+        workers: u32,
+        piece: u64,
+        from: u64,
+        to: u64,
+    },
 }
 
 /// The order of a command and the words behind it.
@@ -97,6 +108,8 @@ pub(crate) fn order_after(
         verify_order(alloc, words)
     } else if command == "bins" {
         bins_order(alloc, words)
+    } else if command == "shard" {
+        shard_order(alloc, words)
     } else {
         Err(WordsFault::UnknownCommand)
     }
@@ -403,4 +416,51 @@ fn bins_order(alloc: Global, words: &[String]) -> Result<Order, WordsFault>
 {
     let matches = parsed(bins_command(alloc)?, words)?;
     bins_of(alloc, &matches)
+}
+
+// ---- `shard`: a job as of `run`, and the numbers of the first integration of a part and of the first one behind it
+
+// The command.
+fn shard_command<'a>(alloc: Global) -> Result<Command<'a>, AllocError>
+    ensures { IfOk result (λ command. app_of command ≡ shard_app) }
+{
+    let command = with_work(alloc, cut_command(alloc, "shard")?)?;
+    let command = with(command, needed_option(alloc, "from"))?;
+    with(command, needed_option(alloc, "to"))
+}
+
+// Its order.
+#[tactic(auto, unfolding(crate::specs::Orders::shard_of))]
+fn shard_of(alloc: Global, matches: &ArgMatches) -> Result<Order, WordsFault>
+    ensures order { Gives result (shard_of (rows_of (found_of matches.now))) }
+    ensures is_order { IfOk result IsOrder }
+{
+    let job = needed(matches, "job")?;
+    let workers = needed(matches, "workers")?;
+    let piece = needed(matches, "piece")?;
+    let from = needed(matches, "from")?;
+    let to = needed(matches, "to")?;
+    let epoch = epoch_given(matches)?;
+    let workers = workers_in(workers)?;
+    let piece = piece_in(piece)?;
+    let (from, to) = part_in(from, to)?;
+    Ok(Order::Shard {
+        job: name_of(alloc, job)?,
+        vex: name_given(alloc, matches, "vex")?,
+        epoch,
+        workers,
+        piece,
+        from,
+        to,
+    })
+}
+
+// The order of the words behind `shard`.
+#[tactic(auto, unfolding(crate::specs::Options::taken_by))]
+fn shard_order(alloc: Global, words: &[String]) -> Result<Order, WordsFault>
+    ensures order { Gives result (taken_by shard_app shard_of (map string_bytes words.now)) }
+    ensures is_order { IfOk result IsOrder }
+{
+    let matches = parsed(shard_command(alloc)?, words)?;
+    shard_of(alloc, &matches)
 }

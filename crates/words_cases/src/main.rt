@@ -116,6 +116,18 @@ fn order_of(alloc: Global, order: &Order) -> Result<String> {
             let phase = text_of(phase)?.escape_debug();
             Ok(format!(in alloc; "{names} phase \"{phase}\" workers {workers} piece {piece}")?)
         }
+        Order::Shard {
+            job,
+            vex,
+            epoch,
+            workers,
+            piece,
+            from,
+            to,
+        } => {
+            let names = cut_of(alloc, "shard", job, vex, epoch)?;
+            Ok(format!(in alloc; "{names} workers {workers} piece {piece} from {from} to {to}")?)
+        }
     }
 }
 

@@ -4,7 +4,7 @@ use Rattle.job_epochs.specs.Sizes.{sizes_of}
 use Rattle.job_epochs.proofs.SizeLemmas.{sizes_of-IsJob}
 use Rattle.job_plan.specs.declared.plan.Plan.{Plan}
 use Rattle.piece_plan.specs.Epochs.{JobSizes, IsJob}
-use Rattle.piece_plan.specs.Order.{first_place}
+use Rattle.piece_plan.specs.Order.{job_start}
 use Rattle.plan_places.specs.Walk.{epochs_by}
 use Rattle.sink_text.proofs.WrittenText.{Puts-then, Appends-written}
 use Rattle.run_summary.proofs.SummaryLemmas.{left-whole, check_text-lines}
@@ -20,7 +20,7 @@ returns g c =
     let job : IsJob ready.epochs = subst IsJob (sym ready.cut) (sizes_of-IsJob ready.plan c.plan-plan.ensures.ranges ready.few) in
     let all : c.left.result ≡ length (epochs_by (sizes_of ready.plan) ready.epoch) =
     left-whole ready.epochs ready.epoch _ c.left.result
-    (c.walks_are_alone.ensures ready.epochs ready.epoch (first_place 0 ready.epochs.scans))
+    (c.walks_are_alone.ensures ready.epochs ready.epoch (job_start ready.epochs))
     (c.epochs_by_length_are_walk.ensures ready.epochs ready.epoch job ready.some_epoch ready.short_epoch)
     c.start.ensures.first c.left.ensures
     ∙ ap (λ (e : JobSizes). length (epochs_by e ready.epoch)) ready.cut in (

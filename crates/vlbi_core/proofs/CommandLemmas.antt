@@ -9,7 +9,7 @@ use Rattle.checkpoint_journal.specs.Runs.{Looks}
 use Rattle.checkpoint_journal.proofs.RunLemmas.{looks_none}
 use Rattle.run_words.specs.declared.fault.WordsFault.{WordsFault}
 use Rattle.run_words.specs.declared.order.Order.{Order}
-use Rattle.run_words.specs.declared.order.Order.TheVariants.{Run, Status}
+use Rattle.run_words.specs.declared.order.Order.TheVariants.{Run, Status, Shard}
 use Rattle.run_notes.specs.declared.refusal.Refusal.{Refusal}
 use Rattle.run_notes.specs.declared.refusal.Refusal.TheVariants.{Memory, Words, Due as DueRefusal, Other, Read, Journal, Write}
 use Rattle.run_notes.specs.Answers.{Answer, words_answer}
@@ -25,28 +25,23 @@ use Rattle.station_stream.specs.Recorded.{AreRecorded}
 use Rattle.run_summary.specs.Summaries.{check_text}
 use Rattle.vis_writer.proofs.WritesLemmas.{where_then}
 use Rattle.run_bins.specs.Outcome.{WhereVerdict}
-use Rattle.vlbi_core.specs.Calls.{Call, call_of, Task, OfJob, OfText, JobFor, TextFor, TaskFor, is_run}
+use Rattle.run_part.specs.Outcome.{PartOf}
+use Rattle.vlbi_core.specs.Calls.{Call, call_of, Task, OfJob, OfText, TextFor, TaskFor, is_writer}
 use Rattle.vlbi_core.specs.Texts.{IsPart}
 use Rattle.vlbi_core.specs.Faults.{written_with}
 use Rattle.vlbi_core.specs.Steps.{OutcomeFrom, IsOfWords, IsBehindWords, IsUnnumbered, MatchDue, MatchEarly, IsCauseOf, IsPartly, Does, MatchVerdict, Leaves}
 
--- an order of a job and its journal, by the plans that its files come to
-abbrev pub IsJobOf : Files → Order → Bool → List ℕ → Option (List ℕ) → Option ℕ → Outcomes Plan → Type 0
-IsJobOf files order sums job vex epoch plans = (o : Result Task Answer) → JobFor sums job vex epoch plans o → TaskFor files order o
-
-planned : (files : Files) (order : Order) (sums : Bool) (job : List ℕ) (vex : Option (List ℕ)) (epoch : Option ℕ) (plans : Outcomes Plan) (plan : Plan)
-    → IsJobOf files order sums job vex epoch plans → plans (Ok plan) → OutcomeFrom (Ok order) files (Ok (OfJob (call_of sums job vex epoch plan)))
-planned files order sums job vex epoch plans plan of_job there = (order, refl, of_job (Ok (OfJob (call_of sums job vex epoch plan))) (refl, there))
-
--- what a call of `run` comes to, and one of `status`
-pub run-planned : (files : Files) (job : List ℕ) (vex : Option (List ℕ)) (epoch : Option ℕ) (workers piece : ℕ) (plan : Plan) → PlanOf files job vex epoch (Ok plan)
-    → OutcomeFrom (Ok (Run job vex epoch workers piece)) files (Ok (OfJob (call_of true job vex epoch plan)))
-run-planned files job vex epoch workers piece plan there =
-    planned files (Run job vex epoch workers piece) true job vex epoch (PlanOf files job vex epoch) plan (λ o p. p) there
+-- what an order of a call on a job comes to, and one of `status`
+pub run-planned : (files : Files) (order : Order) (call : Call) → TaskFor files order (Ok (OfJob call)) → OutcomeFrom (Ok order) files (Ok (OfJob call))
+run-planned files order call there = (order, refl, there)
 
 pub status-planned : (files : Files) (job : List ℕ) (vex : Option (List ℕ)) (epoch : Option ℕ) (plan : Plan) → SurveyOf files job vex epoch (Ok plan)
-    → OutcomeFrom (Ok (Status job vex epoch)) files (Ok (OfJob (call_of false job vex epoch plan)))
-status-planned files job vex epoch plan there = planned files (Status job vex epoch) false job vex epoch (SurveyOf files job vex epoch) plan (λ o p. p) there
+    → OutcomeFrom (Ok (Status job vex epoch)) files (Ok (OfJob (call_of false job vex epoch None plan)))
+status-planned files job vex epoch plan there = run-planned files (Status job vex epoch) (call_of false job vex epoch None plan) (refl, there)
+
+-- an order that is refused where its files come to no plan
+abbrev pub IsRefusedBy : Files → Order → Outcomes Plan → Type 0
+IsRefusedBy files order plans = (answer : Answer) → plans (Err answer) → TaskFor files order (Err answer)
 
 pub not_both : (b : Bool) → b ≡ true → b ≡ false → ⊥
 not_both b first second = cc
@@ -106,15 +101,15 @@ words-cause wanted files images before after old new Read of = absurd of
 words-cause wanted files images before after old new (Journal kept) of = absurd of
 words-cause wanted files images before after old new Write of = absurd of
 
-files-cause : (files : Files) (order : Order) (sums : Bool) (job : List ℕ) (vex : Option (List ℕ)) (epoch : Option ℕ) (plans : Outcomes Plan) → IsJobOf files order sums job vex epoch plans → (images : List ℕ → Type 0) (before after old new : Option (List ℕ)) (r : Refusal)
+files-cause : (files : Files) (order : Order) (plans : Outcomes Plan) → IsRefusedBy files order plans → (images : List ℕ → Type 0) (before after old new : Option (List ℕ)) (r : Refusal)
     → IsOfFiles r → IsCause r plans → IsCauseOf r (OutcomeFrom (Ok order) files) files images before after old new
-files-cause files order sums job vex epoch plans of_job images before after old new Memory stage cause = tt
-files-cause files order sums job vex epoch plans of_job images before after old new (Words fault) stage cause = absurd stage
-files-cause files order sums job vex epoch plans of_job images before after old new (DueRefusal due) stage cause = inr (order, refl, of_job _ cause)
-files-cause files order sums job vex epoch plans of_job images before after old new (Other d) stage cause = absurd stage
-files-cause files order sums job vex epoch plans of_job images before after old new Read stage cause = tt
-files-cause files order sums job vex epoch plans of_job images before after old new (Journal kept) stage cause = absurd stage
-files-cause files order sums job vex epoch plans of_job images before after old new Write stage cause = absurd stage
+files-cause files order plans refused images before after old new Memory stage cause = tt
+files-cause files order plans refused images before after old new (Words fault) stage cause = absurd stage
+files-cause files order plans refused images before after old new (DueRefusal due) stage cause = inr (order, refl, refused _ cause)
+files-cause files order plans refused images before after old new (Other d) stage cause = absurd stage
+files-cause files order plans refused images before after old new Read stage cause = tt
+files-cause files order plans refused images before after old new (Journal kept) stage cause = absurd stage
+files-cause files order plans refused images before after old new Write stage cause = absurd stage
 
 -- a call that was refused before its output
 abbrev pub NoWrite : Refusal → Type 0
@@ -216,22 +211,27 @@ module _ {D : Type 0} (seen : D → Option (List ℕ)) (moment : D → ℕ) (may
     part = nothing-partly (OutcomeFrom wanted files) files (seen d) (seen d) old r (words-NoWrite wanted r of);
   }
 
-  does-files : (files : Files) (order : Order) (sums : Bool) (job : List ℕ) (vex : Option (List ℕ)) (epoch : Option ℕ) (plans : Outcomes Plan) → IsJobOf files order sums job vex epoch plans → (d : D) (old : Option (List ℕ)) (r : Refusal) → IsOfFiles r → IsCause r plans
+  does-files : (files : Files) (order : Order) (plans : Outcomes Plan) → IsRefusedBy files order plans → (d : D) (old : Option (List ℕ)) (r : Refusal) → IsOfFiles r → IsCause r plans
       → Does (Ok order) files seen moment may_leave d d old old (Err r)
-  does-files files order sums job vex epoch plans of_job d old r stage cause = record {
+  does-files files order plans refused d old r stage cause = record {
     goes = inl (looks_none seen moment may_leave d);
     done = tt;
-    cause = files-cause files order sums job vex epoch plans of_job (may_leave d (moment d)) (seen d) (seen d) old old r stage cause;
+    cause = files-cause files order plans refused (may_leave d (moment d)) (seen d) (seen d) old old r stage cause;
     part = nothing-partly (OutcomeFrom (Ok order) files) files (seen d) (seen d) old r (files-NoWrite r stage);
   }
 
   pub run-files : (files : Files) (job : List ℕ) (vex : Option (List ℕ)) (epoch : Option ℕ) (workers piece : ℕ) (d : D) (old : Option (List ℕ)) (r : Refusal) → IsOfFiles r
       → IsCause r (PlanOf files job vex epoch) → Does (Ok (Run job vex epoch workers piece)) files seen moment may_leave d d old old (Err r)
-  run-files files job vex epoch workers piece = does-files files (Run job vex epoch workers piece) true job vex epoch (PlanOf files job vex epoch) (λ o p. p)
+  run-files files job vex epoch workers piece = does-files files (Run job vex epoch workers piece) (PlanOf files job vex epoch) (λ answer p. p)
 
   pub status-files : (files : Files) (job : List ℕ) (vex : Option (List ℕ)) (epoch : Option ℕ) (d : D) (old : Option (List ℕ)) (r : Refusal) → IsOfFiles r
       → IsCause r (SurveyOf files job vex epoch) → Does (Ok (Status job vex epoch)) files seen moment may_leave d d old old (Err r)
-  status-files files job vex epoch = does-files files (Status job vex epoch) false job vex epoch (SurveyOf files job vex epoch) (λ o p. p)
+  status-files files job vex epoch = does-files files (Status job vex epoch) (SurveyOf files job vex epoch) (λ answer p. p)
+
+  pub shard-files : (files : Files) (job : List ℕ) (vex : Option (List ℕ)) (epoch : Option ℕ) (workers piece from to : ℕ) (d : D) (old : Option (List ℕ)) (r : Refusal) → IsOfFiles r
+      → IsCause r (PartOf files job vex epoch to) → Does (Ok (Shard job vex epoch workers piece from to)) files seen moment may_leave d d old old (Err r)
+  shard-files files job vex epoch workers piece from to =
+      does-files files (Shard job vex epoch workers piece from to) (PartOf files job vex epoch to) (λ answer p. p)
 
   -- ---- commands that leave the journal alone
 
@@ -315,11 +315,11 @@ module _ {D : Type 0} (seen : D → Option (List ℕ)) (moment : D → ℕ) (may
       does-text told order given outcomes (λ (files : Files). text) same is_for d old new result stage
       (where_then told _ _ (λ files shown. shows-tells (outcomes files) text old new result stage shown) shows)
 
-  pub leaves-tells : (order : Order) (d : D) (old new : Option (List ℕ)) (result : Result (Unit {0}) Refusal) → is_run order ≡ false
+  pub leaves-tells : (order : Order) (d : D) (old new : Option (List ℕ)) (result : Result (Unit {0}) Refusal) → is_writer order ≡ false
       → IfErr result (λ r. MatchDue r (new ≡ old)) → Leaves (Ok order) seen moment may_leave d d old new result
   leaves-tells order d old new result no_run nothing = record {
     nothing = nothing;
-    whole = λ run. absurd (not_both (is_run order) run no_run);
+    whole = λ run. absurd (not_both (is_writer order) run no_run);
     untouched = λ _. looks_none seen moment may_leave d;
     verdict = by result;
   }

@@ -1,4 +1,4 @@
--- What a call of `run` did.
+-- What a call did that sums into its journal, and the records of `run`.
 use Rattle.std.specs.Prelude.{OnOk, IfErr, unwrap_or, option_map}
 use Rattle.std.specs.List.{All}
 use Rattle.std.proofs.Common.{◌≡◌, ◌⊎◌, ◌∙◌, ⊎_elim, inl, inr, ℕ, ◌≤◌, ◌^◌, true, List, ◌++◌, length, map, Option, Some, None, Result, Ok, Err, refl, sym, ap, subst}
@@ -7,7 +7,7 @@ use Rattle.dev_traits.specs.Fault.{HasRisen}
 use Rattle.dev_traits.specs.Told.{more, WhereTold}
 use Rattle.corr_model.specs.Files.{Files}
 use Rattle.piece_plan.specs.Epochs.{JobSizes, IsJob}
-use Rattle.piece_plan.specs.Order.{Place, CoverJob, AreInOrder, first_place}
+use Rattle.piece_plan.specs.Order.{Place, CoverJob, AreInOrder, job_start}
 use Rattle.plan_places.specs.declared.place.Place.{Place as Spot}
 use Rattle.plan_places.specs.Places.{place_at}
 use Rattle.plan_places.specs.Walk.{epochs_by}
@@ -24,6 +24,7 @@ use Rattle.checkpoint_journal.specs.Kept.{KeepsMany}
 use Rattle.checkpoint_journal.specs.Standing.{JournalState, Knows, Stands}
 use Rattle.checkpoint_journal.specs.Runs.{Looks, Changes, Spares, StepTold, KeepsEpochs, IsOurs}
 use Rattle.checkpoint_journal.proofs.RunLemmas.{changes_looks, changes_both, durable_looks, told_value}
+use Rattle.run_words.specs.declared.order.Order.{Order}
 use Rattle.run_words.specs.declared.order.Order.TheVariants.{Run}
 use Rattle.run_notes.specs.declared.refusal.Refusal.{Refusal}
 use Rattle.run_notes.specs.declared.refusal.Refusal.TheVariants.{Memory, Words, Due as DueRefusal, Other, Read, Journal, Write}
@@ -40,11 +41,11 @@ use Rattle.journal_rounds.proofs.ExtendLemmas.{extends_same, extends_joined, kno
 use Rattle.journal_records.specs.Kept.{WritesKept, kept_text}
 use Rattle.vis_writer.specs.Writes.{Appended}
 use Rattle.vlbi_core.specs.Engine.{IsRefusedFor, KeepsNamed, IsOfRecords}
-use Rattle.vlbi_core.specs.Calls.{Call, call_of, Task, OfJob, identity_for, sizes_for, IsOursFor, KeepsAll}
-use Rattle.vlbi_core.specs.Texts.{IsSums, IsSummedFor, IsPart, IsRecords}
+use Rattle.vlbi_core.specs.Calls.{Call, call_of, is_writer, Task, OfJob, TaskFor, end_text, identity_for, sizes_for, epoch_for, IsOursFor, KeepsAll}
+use Rattle.vlbi_core.specs.Texts.{IsSums, IsSummedFor, IsCovered, IsText, IsPart}
 use Rattle.vlbi_core.specs.Restart.{IsHonest}
-use Rattle.vlbi_core.specs.Steps.{OutcomeFrom, IsBehindWords, IsCauseOf, IsPartly, IsFullFor, CountsJournalOr, Goes, Does, MatchDue, MatchEarly, MatchVerdict, Leaves, SaysFor}
-use Rattle.vlbi_core.proofs.ExtendLemmas.{Split, Extends-split, WalksEnd, NoMoreLeft, long-kept}
+use Rattle.vlbi_core.specs.Steps.{OutcomeFrom, IsCauseOf, IsPartly, IsFullFor, CountsJournalOr, Goes, Does, MatchVerdict, Leaves, SaysFor}
+use Rattle.vlbi_core.proofs.ExtendLemmas.{Extends-split, WalksEnd, NoMoreLeft, long-kept}
 use Rattle.vlbi_core.proofs.CommandLemmas.{run-planned, one-job, not_both, due-same, early-same}
 
 -- the law of record files from sums
@@ -85,37 +86,46 @@ full-long : WalksEnd → NoMoreLeft → (id : List ℕ) (job : JobSizes) (epoch 
 full-long ends no_more id job epoch before after kept named is some short few fault none =
     full-at ends no_more id job epoch before named is some short few (fault-ours id job before after kept fault none.full) none.long
 
--- so it is for a call, where the files are told
-full-for : WalksEnd → NoMoreLeft → (told : Option Files) (job : List ℕ) (vex : Option (List ℕ)) (epoch : Option ℕ) (workers piece : ℕ) (plan : Plan) (id : List ℕ) (sizes : JobSizes) (samples : ℕ)
+-- ---- a call that sums
+
+-- What an order is for that sums into its journal, by what the shelf tells: the call, its identity, what its journal is cut by, and the samples
+-- of an epoch in force.
+pub record IsSummer (told : Option Files) (order : Order) (call : Call) (id : List ℕ) (sizes : JobSizes) (samples : ℕ) : Type 0 where
+  pub sums : call.sums ≡ true
+  pub task : WhereTold told (λ files. TaskFor files order (Ok (OfJob call)))
+  pub same : WhereTold told (λ files. id ≡ identity_for files call)
+  pub cut : sizes ≡ sizes_for call
+  pub in_force : samples ≡ epoch_for call
+
+-- where a journal is full, it is so for the call
+full-for : WalksEnd → NoMoreLeft → (told : Option Files) (order : Order) (call : Call) (id : List ℕ) (sizes : JobSizes) (samples : ℕ)
     (before after : Option (List ℕ)) (kept : Option ℕ) → IsIdentity id → IsJob sizes → 1 ≤ samples → samples ≤ 4194304 → length (epochs_by sizes samples) ≤ 4294967296
-    → WhereTold told (λ files. PlanOf files job vex epoch (Ok plan)) → WhereTold told (λ files. id ≡ identity_under files job vex plan) → sizes ≡ sizes_of plan
-    → IsJournalFault id sizes before after kept → HasNoPlace id sizes samples before after
-    → WhereTold told (λ files. IsFullFor (OutcomeFrom (Ok (Run job vex epoch workers piece)) files) files before after)
-full-for ends no_more None job vex epoch workers piece plan id sizes samples before after kept named is some short few there same cut fault none = tt
-full-for ends no_more (Some files) job vex epoch workers piece plan id sizes samples before after kept named is some short few there same cut fault none = record {
-  call = call_of true job vex epoch plan;
-  outcome = run-planned files job vex epoch workers piece plan there;
-  run = refl;
-  full = subst (λ (i : List ℕ). WhereTold after (IsFull i (sizes_of plan))) same (subst (λ (z : JobSizes). WhereTold after (IsFull id z)) cut none.full);
+    → IsSummer told order call id sizes samples → IsJournalFault id sizes before after kept → HasNoPlace id sizes samples before after
+    → WhereTold told (λ files. IsFullFor (OutcomeFrom (Ok order) files) files before after)
+full-for ends no_more None order call id sizes samples before after kept named is some short few summer fault none = tt
+full-for ends no_more (Some files) order call id sizes samples before after kept named is some short few summer fault none = record {
+  call = call;
+  outcome = run-planned files order call summer.task;
+  run = summer.sums;
+  full = subst (λ (i : List ℕ). WhereTold after (IsFull i (sizes_for call))) summer.same (subst (λ (z : JobSizes). WhereTold after (IsFull id z)) summer.cut none.full);
   long = full-long ends no_more id sizes samples before after kept named is some short few fault none;
 }
 
 -- the journal's count over a call that did not bring it to its end
-pub resumed-counts : WalksEnd → NoMoreLeft → (told : Option Files) (job : List ℕ) (vex : Option (List ℕ)) (epoch : Option ℕ) (workers piece : ℕ) (plan : Plan) (id : List ℕ) (sizes : JobSizes) (samples : ℕ)
+pub resumed-counts : WalksEnd → NoMoreLeft → (told : Option Files) (order : Order) (call : Call) (id : List ℕ) (sizes : JobSizes) (samples : ℕ)
     (before after : Option (List ℕ)) (faults now : ℕ) (r : Refusal) → IsIdentity id → IsJob sizes → 1 ≤ samples → samples ≤ 4194304 → length (epochs_by sizes samples) ≤ 4294967296
-    → WhereTold told (λ files. PlanOf files job vex epoch (Ok plan)) → WhereTold told (λ files. id ≡ identity_under files job vex plan) → sizes ≡ sizes_of plan
-    → IsRefusedFor id sizes before after r
+    → IsSummer told order call id sizes samples → IsRefusedFor id sizes before after r
     → MatchJournal r (HasRisen faults now ⊎ ((now ≡ faults) × HasNoPlace id sizes samples before after)) (now ≡ faults)
-    → MatchJournal r (HasRisen faults now ⊎ ((now ≡ faults) × WhereTold told (λ files. IsFullFor (OutcomeFrom (Ok (Run job vex epoch workers piece)) files) files before after))) (now ≡ faults)
-resumed-counts ends no_more told job vex epoch workers piece plan id sizes samples before after faults now Memory named is some short few there same cut of counts = counts
-resumed-counts ends no_more told job vex epoch workers piece plan id sizes samples before after faults now (Words fault) named is some short few there same cut of counts = counts
-resumed-counts ends no_more told job vex epoch workers piece plan id sizes samples before after faults now (DueRefusal due) named is some short few there same cut of counts = counts
-resumed-counts ends no_more told job vex epoch workers piece plan id sizes samples before after faults now (Other d) named is some short few there same cut of counts = counts
-resumed-counts ends no_more told job vex epoch workers piece plan id sizes samples before after faults now Read named is some short few there same cut of counts = counts
-resumed-counts ends no_more told job vex epoch workers piece plan id sizes samples before after faults now (Journal kept) named is some short few there same cut of (inl risen) = inl risen
-resumed-counts ends no_more told job vex epoch workers piece plan id sizes samples before after faults now (Journal kept) named is some short few there same cut of (inr full) =
-    inr (full.0, full-for ends no_more told job vex epoch workers piece plan id sizes samples before after kept named is some short few there same cut of full.1)
-resumed-counts ends no_more told job vex epoch workers piece plan id sizes samples before after faults now Write named is some short few there same cut of counts = counts
+    → MatchJournal r (HasRisen faults now ⊎ ((now ≡ faults) × WhereTold told (λ files. IsFullFor (OutcomeFrom (Ok order) files) files before after))) (now ≡ faults)
+resumed-counts ends no_more told order call id sizes samples before after faults now Memory named is some short few summer of counts = counts
+resumed-counts ends no_more told order call id sizes samples before after faults now (Words fault) named is some short few summer of counts = counts
+resumed-counts ends no_more told order call id sizes samples before after faults now (DueRefusal due) named is some short few summer of counts = counts
+resumed-counts ends no_more told order call id sizes samples before after faults now (Other d) named is some short few summer of counts = counts
+resumed-counts ends no_more told order call id sizes samples before after faults now Read named is some short few summer of counts = counts
+resumed-counts ends no_more told order call id sizes samples before after faults now (Journal kept) named is some short few summer of (inl risen) = inl risen
+resumed-counts ends no_more told order call id sizes samples before after faults now (Journal kept) named is some short few summer of (inr full) =
+    inr (full.0, full-for ends no_more told order call id sizes samples before after kept named is some short few summer of full.1)
+resumed-counts ends no_more told order call id sizes samples before after faults now Write named is some short few summer of counts = counts
 
 -- over one that brought it there, and then wrote its records
 pub emitted-counts : (full : Type 0) (before mid after : ℕ) (result : Result (Unit {0}) Refusal) → mid ≡ before → CountsJournal mid after result → CountsJournalOr full before after result
@@ -147,11 +157,119 @@ knows-covers : (id : List ℕ) (job : JobSizes) (j : JournalState) (image : List
     → CoverJob job (map (λ (k : KeptEpoch). k.epoch) (records knows.reading.things))
 knows-covers id job j image knows covers =
     let end : knows.reading.due.place ≡ None = ap (λ (d : Due). d.place) (sym knows.end.due) ∙ no-place j.end.next covers in
-    subst (λ (p : Option Place). AreInOrder job (first_place 0 job.scans) (map (λ (k : KeptEpoch). k.epoch) (records knows.reading.things)) p) end
+    subst (λ (p : Option Place). AreInOrder job (job_start job) (map (λ (k : KeptEpoch). k.epoch) (records knows.reading.things)) p) end
     (reads_in_order id job image knows.reading knows.reads)
 
 knows-many : (id : List ℕ) (job : JobSizes) (j : JournalState) (image : List ℕ) → Knows id job j image → KeepsMany id job image j.end.kept
 knows-many id job j image knows = record { kept = records knows.reading.things; keeps = knows_keeps id job j image knows; many = sym knows.end.kept }
+
+-- ---- the text that was appended
+
+-- what it is, by what the disk read on entry and reads now
+pub record EndText (files : Files) (call : Call) (before after old new : Option (List ℕ)) (result : Result (Unit {0}) Refusal) : Type 0 where
+  pub text : List ℕ
+  pub is : IsText files (OfJob call) before after text
+  pub appended : Appended old text new result
+  pub opened : WhereTold before (IsOursFor files call)
+  pub sums : OnOk result (WhereTold before (λ image. IsHonest files call image → new ≡ more old (end_text files call)))
+
+-- the journal of a call at its end
+module _ (files : Files) (call : Call) (named : IsIdentity (identity_for files call)) (is : IsJob (sizes_for call)) (journal : JournalState) (covers : journal.end.next ≡ None) where
+  covered : (before after : List ℕ) → Extends (IsSummedFor files call) (identity_for files call) (sizes_for call) before after
+      → Knows (identity_for files call) (sizes_for call) journal after → IsCovered files call before after
+  covered before after step knows =
+      let id = identity_for files call in
+      let job = sizes_for call in
+      let split = Extends-split (IsSummedFor files call) id job named is before after (records knows.reading.things) step (knows_keeps id job journal after knows) in
+      record {
+        old = split.old;
+        more = split.more;
+        entry = split.before;
+        end = subst (Keeps id job after) split.is (knows_keeps id job journal after knows);
+        sums = split.each;
+        all = subst (λ (l : List KeptEpoch). CoverJob job (map (λ (k : KeptEpoch). k.epoch) l)) split.is (knows-covers id job journal after knows covers);
+      }
+
+  pub covered-told : (before after : Option (List ℕ)) → StepTold (Extends (IsSummedFor files call) (identity_for files call) (sizes_for call)) before after
+      → WhereTold after (Knows (identity_for files call) (sizes_for call) journal) → WhereTold before (λ b. WhereTold after (λ a. IsCovered files call b a))
+  covered-told None after step knows = tt
+  covered-told (Some b) None step knows = tt
+  covered-told (Some b) (Some a) step knows = covered b a step knows
+
+  pub opened-told : (before after : Option (List ℕ)) → StepTold (Extends (IsSummedFor files call) (identity_for files call) (sizes_for call)) before after
+      → WhereTold after (Knows (identity_for files call) (sizes_for call) journal) → WhereTold before (IsOursFor files call)
+  opened-told None after step knows = tt
+  opened-told (Some b) None step knows = absurd step
+  opened-told (Some b) (Some a) step knows = ((covered b a step knows).old, (covered b a step knows).entry)
+
+-- what makes the text of a call, where the files are told
+abbrev pub MakesText : Call → JournalState → Option (List ℕ) → Option (List ℕ) → Option (List ℕ) → Option (List ℕ) → Result (Unit {0}) Refusal → Files → Type 0
+MakesText call journal sb sm old new result files =
+    IsIdentity (identity_for files call) → IsJob (sizes_for call) → journal.end.next ≡ None
+    → StepTold (Extends (IsSummedFor files call) (identity_for files call) (sizes_for call)) sb sm
+    → WhereTold sm (Knows (identity_for files call) (sizes_for call) journal)
+    → EndText files call sb sm old new result
+
+-- ---- the records of `run`
+
+module _ (job : List ℕ) (vex : Option (List ℕ)) (epoch : Option ℕ) (plan : Plan) where
+  -- the call on the whole job
+  abbrev pub run_call : Call
+  run_call = call_of true job vex epoch None plan
+
+  pub run-summer : (told : Option Files) (workers piece : ℕ) (id : List ℕ) (sizes : JobSizes) (samples : ℕ)
+      → WhereTold told (λ files. PlanOf files job vex epoch (Ok plan)) → WhereTold told (λ files. id ≡ identity_under files job vex plan)
+      → sizes ≡ sizes_of plan → samples ≡ unwrap_or epoch plan.epoch → IsSummer told (Run job vex epoch workers piece) run_call id sizes samples
+  run-summer None workers piece id sizes samples there same cut in_force = record { sums = refl; task = tt; same = tt; cut = cut; in_force = in_force }
+  run-summer (Some files) workers piece id sizes samples there same cut in_force = record { sums = refl; task = (refl, there); same = same; cut = cut; in_force = in_force }
+
+  honest-text : SumsMakeOutput → (files : Files) → IsPlan plan → IsIdentity (identity_for files run_call) → IsJob (sizes_for run_call) → (v image : List ℕ) (c : IsCovered files run_call v image)
+      → IsHonest files run_call v → kept_text plan (c.old ++ c.more) ≡ output plan files
+  honest-text law files ranges named is v image c honest =
+      let same : honest.kept ≡ c.old = keeps_one (identity_for files run_call) (sizes_for run_call) v named is honest.kept c.old honest.keeps c.entry in
+      let begun = subst (λ (l : List KeptEpoch). All (λ (k : KeptEpoch). IsSums files plan k.epoch k.body) l) same honest.sums in
+      let then = All-weaker (λ (k : KeptEpoch). IsSummedFor files run_call k.epoch k.body) (λ (k : KeptEpoch). IsSums files plan k.epoch k.body) (λ k both. both.1) c.more c.sums in
+      law plan files (c.old ++ c.more) ranges c.all (All-append (λ (k : KeptEpoch). IsSums files plan k.epoch k.body) c.old c.more begun then)
+
+  run-text : SumsMakeOutput → (files : Files) → IsPlan plan → (journal : JournalState) (sb sm old new : Option (List ℕ)) (result : Result (Unit {0}) Refusal)
+      → WhereTold sm (λ image. WritesKept (identity_for files run_call) plan image old new result) → Grows old new result → MakesText run_call journal sb sm old new result files
+  run-text law files ranges journal None sm old new result written grows named is covers step knows = record {
+    text = grows.0;
+    is = tt;
+    appended = grows.1;
+    opened = tt;
+    sums = by result;
+  }
+    where
+      by : (q : Result (Unit {0}) Refusal) → OnOk q (Unit {0})
+      by (Ok x) = tt
+      by (Err r) = tt
+  run-text law files ranges journal (Some v) None old new result written grows named is covers step knows = absurd step
+  run-text law files ranges journal (Some v) (Some m) old new result written grows named is covers step knows =
+      let c = covered files run_call named is journal covers v m step knows in
+      let said : written.kept ≡ c.old ++ c.more =
+      keeps_one (identity_for files run_call) (sizes_for run_call) m named is written.kept (c.old ++ c.more) written.keeps c.end in
+      record {
+        text = kept_text plan written.kept;
+        is = record { covered = c; records = ap (kept_text plan) said };
+        appended = written.appended;
+        opened = (c.old, c.entry);
+        sums = by result (kept_text plan written.kept) written.appended
+            (λ honest. ap (kept_text plan) said ∙ honest-text law files ranges named is v m c honest);
+      }
+    where
+      by : (q : Result (Unit {0}) Refusal) (text : List ℕ) → Appended old text new q → (IsHonest files run_call v → text ≡ output plan files)
+          → OnOk q (IsHonest files run_call v → new ≡ more old (output plan files))
+      by (Ok x) text appended same = λ honest. appended.all ∙ ap (more old) (same honest)
+      by (Err r) text appended same = tt
+
+  pub run-makes : SumsMakeOutput → (told : Option Files) → IsPlan plan → (id : List ℕ) → WhereTold told (λ files. id ≡ identity_under files job vex plan)
+      → (journal : JournalState) (sb sm old new : Option (List ℕ)) (result : Result (Unit {0}) Refusal)
+      → WhereTold sm (λ image. WritesKept id plan image old new result) → Grows old new result → WhereTold told (MakesText run_call journal sb sm old new result)
+  run-makes law None ranges id same journal sb sm old new result written grows = tt
+  run-makes law (Some files) ranges id same journal sb sm old new result written grows =
+      run-text law files ranges journal sb sm old new result
+      (subst (λ (i : List ℕ). WhereTold sm (λ image. WritesKept i plan image old new result)) same written) grows
 
 module _ {D : Type 0} (seen : D → Option (List ℕ)) (moment : D → ℕ) (may_leave : D → ℕ → List ℕ → Type 0) where
   -- ---- a journal that could not be brought to the end
@@ -162,31 +280,31 @@ module _ {D : Type 0} (seen : D → Option (List ℕ)) (moment : D → ℕ) (may
     pub refused : IsRefusedFor id sizes (seen before) (seen after) r
     pub named : KeepsNamed id sizes (may_leave after (moment after)) r
 
-  module _ (files : Files) (job : List ℕ) (vex : Option (List ℕ)) (epoch : Option ℕ) (workers piece : ℕ) (plan : Plan) (there : PlanOf files job vex epoch (Ok plan)) where
+  module _ (files : Files) (order : Order) (call : Call) (sums : call.sums ≡ true) (there : TaskFor files order (Ok (OfJob call))) where
     resumed-cause : (before after : D) (old : Option (List ℕ)) (r : Refusal)
-        → IsRefusedFor (identity_under files job vex plan) (sizes_of plan) (seen before) (seen after) r
-        → KeepsNamed (identity_under files job vex plan) (sizes_of plan) (may_leave after (moment after)) r
-        → IsCauseOf r (OutcomeFrom (Ok (Run job vex epoch workers piece)) files) files (may_leave after (moment after)) (seen before) (seen after) old old
+        → IsRefusedFor (identity_for files call) (sizes_for call) (seen before) (seen after) r
+        → KeepsNamed (identity_for files call) (sizes_for call) (may_leave after (moment after)) r
+        → IsCauseOf r (OutcomeFrom (Ok order) files) files (may_leave after (moment after)) (seen before) (seen after) old old
     resumed-cause before after old Memory of named = tt
     resumed-cause before after old (Words fault) of named = absurd of
     resumed-cause before after old (DueRefusal due) of named = absurd of
     resumed-cause before after old (Other d) of named = record {
-      call = call_of true job vex epoch plan;
-      outcome = run-planned files job vex epoch workers piece plan there;
+      call = call;
+      outcome = run-planned files order call there;
       other = of.0;
     }
     resumed-cause before after old Read of named = tt
     resumed-cause before after old (Journal None) of named = record {
-      call = call_of true job vex epoch plan;
-      outcome = run-planned files job vex epoch workers piece plan there;
+      call = call;
+      outcome = run-planned files order call there;
       says = λ _. (refl, of);
-      unnamed = λ other. absurd (not_both true refl other);
+      unnamed = λ other. absurd (not_both call.sums sums other);
     }
     resumed-cause before after old (Journal (Some k)) of named = record {
-      call = call_of true job vex epoch plan;
-      outcome = run-planned files job vex epoch workers piece plan there;
+      call = call;
+      outcome = run-planned files order call there;
       says = λ _. named;
-      unnamed = λ other. absurd (not_both true refl other);
+      unnamed = λ other. absurd (not_both call.sums sums other);
     }
     resumed-cause before after old Write of named = absurd of
 
@@ -201,32 +319,30 @@ module _ {D : Type 0} (seen : D → Option (List ℕ)) (moment : D → ℕ) (may
     resumed-part outcomes before before' after after' old id sizes Write of = absurd of
 
     does-resumed-at : (before after : D) (old : Option (List ℕ)) (r : Refusal)
-        → Resumed (Some files) plan (identity_under files job vex plan) (sizes_of plan) (unwrap_or epoch plan.epoch) before after r
-        → Does (Ok (Run job vex epoch workers piece)) files seen moment may_leave before after old old (Err r)
+        → Resumed (Some files) call.plan (identity_for files call) (sizes_for call) (epoch_for call) before after r
+        → Does (Ok order) files seen moment may_leave before after old old (Err r)
     does-resumed-at before after old r h = record {
-      goes = ⊎_elim inl (λ (ours : WhereTold (seen before) (IsOursFor files (call_of true job vex epoch plan))). inr (record {
-        call = call_of true job vex epoch plan;
-        outcome = run-planned files job vex epoch workers piece plan there;
-        run = refl;
+      goes = ⊎_elim inl (λ (ours : WhereTold (seen before) (IsOursFor files call)). inr (record {
+        call = call;
+        outcome = run-planned files order call there;
+        run = sums;
         opened = ours;
         changes = h.changes;
       })) h.spares;
       done = tt;
       cause = resumed-cause before after old r h.refused h.named;
-      part = resumed-part (OutcomeFrom (Ok (Run job vex epoch workers piece)) files) (seen before) (seen before) (seen after) (seen after) old _ _ r h.refused;
+      part = resumed-part (OutcomeFrom (Ok order) files) (seen before) (seen before) (seen after) (seen after) old _ _ r h.refused;
     }
 
-  pub run-resumed : (told : Option Files) (job : List ℕ) (vex : Option (List ℕ)) (epoch : Option ℕ) (workers piece : ℕ) (plan : Plan) (id : List ℕ) (sizes : JobSizes) (samples : ℕ) (before after : D)
-      (old : Option (List ℕ)) (r : Refusal)
-      → WhereTold told (λ files. PlanOf files job vex epoch (Ok plan)) → WhereTold told (λ files. id ≡ identity_under files job vex plan) → sizes ≡ sizes_of plan
-      → samples ≡ unwrap_or epoch plan.epoch → Resumed told plan id sizes samples before after r
-      → WhereTold told (λ files. Does (Ok (Run job vex epoch workers piece)) files seen moment may_leave before after old old (Err r))
-  run-resumed None job vex epoch workers piece plan id sizes samples before after old r there same cut in_force h = tt
-  run-resumed (Some files) job vex epoch workers piece plan id sizes samples before after old r there same cut in_force h =
-      does-resumed-at files job vex epoch workers piece plan there before after old r
-      (subst (λ (n : ℕ). Resumed (Some files) plan (identity_under files job vex plan) (sizes_of plan) n before after r) in_force
-      (subst (λ (i : List ℕ). Resumed (Some files) plan i (sizes_of plan) samples before after r) same
-      (subst (λ (z : JobSizes). Resumed (Some files) plan id z samples before after r) cut h)))
+  pub does-resumed : (told : Option Files) (order : Order) (call : Call) (id : List ℕ) (sizes : JobSizes) (samples : ℕ) (before after : D) (old : Option (List ℕ)) (r : Refusal)
+      → IsSummer told order call id sizes samples → Resumed told call.plan id sizes samples before after r
+      → WhereTold told (λ files. Does (Ok order) files seen moment may_leave before after old old (Err r))
+  does-resumed None order call id sizes samples before after old r summer h = tt
+  does-resumed (Some files) order call id sizes samples before after old r summer h =
+      does-resumed-at files order call summer.sums summer.task before after old r
+      (subst (λ (n : ℕ). Resumed (Some files) call.plan (identity_for files call) (sizes_for call) n before after r) summer.in_force
+      (subst (λ (i : List ℕ). Resumed (Some files) call.plan i (sizes_for call) samples before after r) summer.same
+      (subst (λ (z : JobSizes). Resumed (Some files) call.plan id z samples before after r) summer.cut h)))
 
   resumed-verdict : (id : List ℕ) (sizes : JobSizes) (before after : D) (r : Refusal) → IsRefusedFor id sizes (seen before) (seen after) r
       → MatchVerdict r (seen after ≡ seen before) (Looks seen moment may_leave before after)
@@ -238,34 +354,23 @@ module _ {D : Type 0} (seen : D → Option (List ℕ)) (moment : D → ℕ) (may
   resumed-verdict id sizes before after (Journal kept) of = tt
   resumed-verdict id sizes before after Write of = absurd of
 
-  pub resumed-behind : (id : List ℕ) (sizes : JobSizes) (before after : Option (List ℕ)) (r : Refusal) → IsRefusedFor id sizes before after r → IsBehindWords r
-  resumed-behind id sizes before after Memory of = tt
-  resumed-behind id sizes before after (Words fault) of = absurd of
-  resumed-behind id sizes before after (DueRefusal due) of = tt
-  resumed-behind id sizes before after (Other d) of = tt
-  resumed-behind id sizes before after Read of = tt
-  resumed-behind id sizes before after (Journal kept) of = tt
-  resumed-behind id sizes before after Write of = tt
-
-  pub resumed-leaves : (job : List ℕ) (vex : Option (List ℕ)) (epoch : Option ℕ) (workers piece : ℕ) (id : List ℕ) (sizes : JobSizes) (before after : D) (old : Option (List ℕ)) (r : Refusal)
-      → IsRefusedFor id sizes (seen before) (seen after) r → Leaves (Ok (Run job vex epoch workers piece)) seen moment may_leave before after old old (Err r)
-  resumed-leaves job vex epoch workers piece id sizes before after old r of = record {
+  pub resumed-leaves : (order : Order) (id : List ℕ) (sizes : JobSizes) (before after : D) (old : Option (List ℕ)) (r : Refusal) → is_writer order ≡ true
+      → IsRefusedFor id sizes (seen before) (seen after) r → Leaves (Ok order) seen moment may_leave before after old old (Err r)
+  resumed-leaves order id sizes before after old r writer of = record {
     nothing = due-same old r;
     whole = λ _. early-same old r;
-    untouched = λ other. absurd (not_both true refl other);
+    untouched = λ other. absurd (not_both (is_writer order) writer other);
     verdict = resumed-verdict id sizes before after r of;
   }
 
-  -- ---- the records of a journal that keeps all
+  -- ---- a journal that was brought to the end, and what was appended then
 
-  pub record Emitted (told : Option Files) (plan : Plan) (id : List ℕ) (sizes : JobSizes) (samples : ℕ) (journal : JournalState) (before mid after : D) (old new : Option (List ℕ))
+  pub record Brought (told : Option Files) (plan : Plan) (id : List ℕ) (sizes : JobSizes) (samples : ℕ) (journal : JournalState) (before mid after : D) (old new : Option (List ℕ))
       (result : Result (Unit {0}) Refusal) : Type 0 where
     pub changes : Changes seen moment may_leave (Extends (IsSummed told plan sizes samples) id sizes) before mid
     pub stands : Stands id sizes journal (seen mid) (may_leave mid (moment mid))
     pub covers : journal.end.next ≡ None
     pub looks : Looks seen moment may_leave mid after
-    pub written : WhereTold (seen mid) (λ image. WritesKept id plan image old new result)
-    pub grows : Grows old new result
     pub refused : IfErr result (IsOfRecords journal.end.kept old new)
 
   -- what each image then says
@@ -275,237 +380,117 @@ module _ {D : Type 0} (seen : D → Option (List ℕ)) (moment : D → ℕ) (may
       let read = durable_looks seen moment may_leave mid after looks stands.durable image now in
       told_value (seen mid) (Knows id sizes journal) image (sym looks.same ∙ read) stands.image
 
-  -- what the text is, by what the disk read on entry and reads now
-  pub record RunText (files : Files) (call : Call) (before after old new : Option (List ℕ)) (result : Result (Unit {0}) Refusal) : Type 0 where
-    pub text : List ℕ
-    pub is : WhereTold before (λ b. WhereTold after (λ a. IsRecords files call b a text))
-    pub appended : Appended old text new result
-    pub opened : WhereTold before (IsOursFor files call)
-    pub sums : OnOk result (WhereTold before (λ image. IsHonest files call image → new ≡ more old (output call.plan files)))
-
-  honest-text : (law : SumsMakeOutput) (files : Files) (call : Call) → IsPlan call.plan → IsIdentity (identity_for files call) → IsJob (sizes_for call) → (v : List ℕ) (kept : List KeptEpoch)
-      → (split : Split (IsSummedFor files call) (identity_for files call) (sizes_for call) v kept) → CoverJob (sizes_for call) (map (λ (k : KeptEpoch). k.epoch) (split.old ++ split.more))
-      → IsHonest files call v → kept_text call.plan (split.old ++ split.more) ≡ output call.plan files
-  honest-text law files call ranges named is v kept split all honest =
-      let same : honest.kept ≡ split.old = keeps_one (identity_for files call) (sizes_for call) v named is honest.kept split.old honest.keeps split.before in
-      let begun = subst (λ (l : List KeptEpoch). All (λ (k : KeptEpoch). IsSums files call.plan k.epoch k.body) l) same honest.sums in
-      let then = All-weaker (λ (k : KeptEpoch). IsSummedFor files call k.epoch k.body) (λ (k : KeptEpoch). IsSums files call.plan k.epoch k.body) (λ k both. both.1) split.more split.each in
-      law call.plan files (split.old ++ split.more) ranges all (All-append (λ (k : KeptEpoch). IsSums files call.plan k.epoch k.body) split.old split.more begun then)
-
-  run-text : (law : SumsMakeOutput) (files : Files) (call : Call) → IsPlan call.plan → IsIdentity (identity_for files call) → IsJob (sizes_for call) → (journal : JournalState) → journal.end.next ≡ None
-      → (sb sm : Option (List ℕ)) (old new : Option (List ℕ)) (result : Result (Unit {0}) Refusal)
-      → StepTold (Extends (IsSummedFor files call) (identity_for files call) (sizes_for call)) sb sm
-      → WhereTold sm (Knows (identity_for files call) (sizes_for call) journal)
-      → WhereTold sm (λ image. WritesKept (identity_for files call) call.plan image old new result)
-      → Grows old new result
-      → RunText files call sb sm old new result
-  run-text law files call ranges named is journal covers None None old new result step knows written grows = record {
-    text = grows.0;
-    is = tt;
-    appended = grows.1;
-    opened = tt;
-    sums = by result;
-  }
-    where
-      by : (q : Result (Unit {0}) Refusal) → OnOk q (Unit {0})
-      by (Ok x) = tt
-      by (Err r) = tt
-  run-text law files call ranges named is journal covers None (Some m) old new result step knows written grows = absurd step
-  run-text law files call ranges named is journal covers (Some v) None old new result step knows written grows = absurd step
-  run-text law files call ranges named is journal covers (Some v) (Some m) old new result step knows written grows =
-      let id = identity_for files call in
-      let job = sizes_for call in
-      let split = Extends-split (IsSummedFor files call) id job named is v m written.kept step written.keeps in
-      let said : records knows.reading.things ≡ split.old ++ split.more =
-      keeps_one id job m named is (records knows.reading.things) written.kept (knows_keeps id job journal m knows) written.keeps ∙ split.is in
-      let whole : CoverJob job (map (λ (k : KeptEpoch). k.epoch) (split.old ++ split.more)) =
-      subst (λ (l : List KeptEpoch). CoverJob job (map (λ (k : KeptEpoch). k.epoch) l)) said (knows-covers id job journal m knows covers) in
-      record {
-        text = kept_text call.plan written.kept;
-        is = record {
-          old = split.old;
-          more = split.more;
-          entry = split.before;
-          end = subst (Keeps id job m) split.is written.keeps;
-          sums = split.each;
-          all = whole;
-          records = ap (kept_text call.plan) split.is;
-        };
-        appended = written.appended;
-        opened = (split.old, split.before);
-        sums = by result (kept_text call.plan written.kept) written.appended
-            (λ honest. ap (kept_text call.plan) split.is ∙ honest-text law files call ranges named is v written.kept split whole honest);
-      }
-    where
-      by : (q : Result (Unit {0}) Refusal) (text : List ℕ) → Appended old text new q → (IsHonest files call v → text ≡ output call.plan files)
-          → OnOk q (IsHonest files call v → new ≡ more old (output call.plan files))
-      by (Ok x) text appended same = λ honest. appended.all ∙ ap (more old) (same honest)
-      by (Err r) text appended same = tt
-
-  module _ (law : SumsMakeOutput) (files : Files) (job : List ℕ) (vex : Option (List ℕ)) (epoch : Option ℕ) (workers piece : ℕ) (plan : Plan) (there : PlanOf files job vex epoch (Ok plan))
-      (ranges : IsPlan plan) (journal : JournalState) (before mid after : D) (old new : Option (List ℕ)) where
-    abbrev call : Call
-    call = call_of true job vex epoch plan
-
+  module _ (files : Files) (order : Order) (call : Call) (sums : call.sums ≡ true) (there : TaskFor files order (Ok (OfJob call)))
+      (journal : JournalState) (before mid after : D) (old new : Option (List ℕ)) where
     abbrev Is : Result (Unit {0}) Refusal → Type 0
-    Is result = Emitted (Some files) plan (identity_under files job vex plan) (sizes_of plan) (unwrap_or epoch plan.epoch) journal before mid after old new result
+    Is result = Brought (Some files) call.plan (identity_for files call) (sizes_for call) (epoch_for call) journal before mid after old new result
 
-    emitted-text : (result : Result (Unit {0}) Refusal) → Is result → RunText files call (seen before) (seen after) old new result
-    emitted-text result h =
-        subst (λ (s : Option (List ℕ)). RunText files call (seen before) s old new result) (sym h.looks.same)
-        (run-text law files call ranges h.stands.named h.stands.plan journal h.covers (seen before) (seen mid) old new result h.changes.read h.stands.image h.written h.grows)
+    abbrev Said : Result (Unit {0}) Refusal → Type 0
+    Said result = EndText files call (seen before) (seen after) old new result
 
-    emitted-goes : (result : Result (Unit {0}) Refusal) → Is result
+    brought-goes : (result : Result (Unit {0}) Refusal) → Is result
         → Changes seen moment may_leave (Extends (IsSummedFor files call) (identity_for files call) (sizes_for call)) before after
-    emitted-goes result h =
+    brought-goes result h =
         let Step : List ℕ → List ℕ → Type 0 = Extends (IsSummedFor files call) (identity_for files call) (sizes_for call) in
         let stays = extends_same (IsSummedFor files call) (identity_for files call) (sizes_for call) in
         changes_both seen moment may_leave Step stays
         (extends_joined (IsSummedFor files call) (identity_for files call) (sizes_for call) h.stands.named h.stands.plan) before mid after h.changes
         (changes_looks seen moment may_leave Step stays mid after h.looks)
 
-    emitted-running : (result : Result (Unit {0}) Refusal) → Is result → Goes (OutcomeFrom (Ok (Run job vex epoch workers piece)) files) files seen moment may_leave before after
-    emitted-running result h = inr (record {
+    brought-running : (result : Result (Unit {0}) Refusal) → Is result → Said result → Goes (OutcomeFrom (Ok order) files) files seen moment may_leave before after
+    brought-running result h t = inr (record {
       call = call;
-      outcome = run-planned files job vex epoch workers piece plan there;
-      run = refl;
-      opened = (emitted-text result h).opened;
-      changes = emitted-goes result h;
+      outcome = run-planned files order call there;
+      run = sums;
+      opened = t.opened;
+      changes = brought-goes result h;
     })
 
-    emitted-knows : (result : Result (Unit {0}) Refusal) → Is result → (image : List ℕ) → may_leave after (moment after) image → Knows (identity_for files call) (sizes_for call) journal image
-    emitted-knows result h image now = image-knows _ _ journal mid after h.stands h.looks image now
+    brought-knows : (result : Result (Unit {0}) Refusal) → Is result → (image : List ℕ) → may_leave after (moment after) image → Knows (identity_for files call) (sizes_for call) journal image
+    brought-knows result h image now = image-knows _ _ journal mid after h.stands h.looks image now
 
-    emitted-all : (result : Result (Unit {0}) Refusal) → Is result → (image : List ℕ) → may_leave after (moment after) image → KeepsAll files call image
-    emitted-all result h image now =
-        let knows = emitted-knows result h image now in
+    brought-all : (result : Result (Unit {0}) Refusal) → Is result → (image : List ℕ) → may_leave after (moment after) image → KeepsAll files call image
+    brought-all result h image now =
+        let knows = brought-knows result h image now in
         record {
           kept = records knows.reading.things;
           keeps = knows_keeps _ _ journal image knows;
           all = knows-covers _ _ journal image knows h.covers;
         }
 
-    emitted-cause : (r : Refusal) → Is (Err r)
-        → IsCauseOf r (OutcomeFrom (Ok (Run job vex epoch workers piece)) files) files (may_leave after (moment after)) (seen before) (seen after) old new
-    emitted-cause Memory h = tt
-    emitted-cause (Words fault) h = absurd h.refused
-    emitted-cause (DueRefusal due) h = absurd h.refused
-    emitted-cause (Other d) h = absurd h.refused
-    emitted-cause Read h = tt
-    emitted-cause (Journal kept) h = record {
+    brought-cause : (r : Refusal) → Is (Err r) → Said (Err r)
+        → IsCauseOf r (OutcomeFrom (Ok order) files) files (may_leave after (moment after)) (seen before) (seen after) old new
+    brought-cause Memory h t = tt
+    brought-cause (Words fault) h t = absurd h.refused
+    brought-cause (DueRefusal due) h t = absurd h.refused
+    brought-cause (Other d) h t = absurd h.refused
+    brought-cause Read h t = tt
+    brought-cause (Journal kept) h t = record {
       call = call;
-      outcome = run-planned files job vex epoch workers piece plan there;
+      outcome = run-planned files order call there;
       says = λ _. subst (λ (k : Option ℕ). SaysFor k files call (may_leave after (moment after)) (seen before) (seen after) old new) (sym h.refused)
-          (λ image now. inl (knows-many _ _ journal image (emitted-knows (Err (Journal kept)) h image now)));
-      unnamed = λ other. absurd (not_both true refl other);
+          (λ image now. inl (knows-many _ _ journal image (brought-knows (Err (Journal kept)) h image now)));
+      unnamed = λ other. absurd (not_both call.sums sums other);
     }
-    emitted-cause Write h = record {
+    brought-cause Write h t = record {
       task = OfJob call;
-      outcome = run-planned files job vex epoch workers piece plan there;
-      opened = (emitted-text (Err Write) h).opened;
+      outcome = run-planned files order call there;
+      opened = t.opened;
     }
 
-    text-part : (r : Refusal) → RunText files call (seen before) (seen after) old new (Err r)
-        → IsPart (OutcomeFrom (Ok (Run job vex epoch workers piece)) files) files (seen before) (seen after) old new
+    text-part : (r : Refusal) → Said (Err r) → IsPart (OutcomeFrom (Ok order) files) files (seen before) (seen after) old new
     text-part r t = record {
       task = OfJob call;
-      outcome = run-planned files job vex epoch workers piece plan there;
+      outcome = run-planned files order call there;
       text = t.text;
       is = t.is;
       part = t.appended.part;
     }
 
-    emitted-part : (r : Refusal) → Is (Err r) → IsPartly r (OutcomeFrom (Ok (Run job vex epoch workers piece)) files) files (seen before) (seen after) old new
-    emitted-part Memory h = inl h.refused
-    emitted-part (Words fault) h = absurd h.refused
-    emitted-part (DueRefusal due) h = absurd h.refused
-    emitted-part (Other d) h = absurd h.refused
-    emitted-part Read h = absurd h.refused
-    emitted-part (Journal kept) h = inr (text-part (Journal kept) (emitted-text (Err (Journal kept)) h))
-    emitted-part Write h = text-part Write (emitted-text (Err Write) h)
+    brought-part : (r : Refusal) → Is (Err r) → Said (Err r) → IsPartly r (OutcomeFrom (Ok order) files) files (seen before) (seen after) old new
+    brought-part Memory h t = inl h.refused
+    brought-part (Words fault) h t = absurd h.refused
+    brought-part (DueRefusal due) h t = absurd h.refused
+    brought-part (Other d) h t = absurd h.refused
+    brought-part Read h t = absurd h.refused
+    brought-part (Journal kept) h t = inr (text-part (Journal kept) t)
+    brought-part Write h t = text-part Write t
 
-    does-emitted : (result : Result (Unit {0}) Refusal) → Is result → Does (Ok (Run job vex epoch workers piece)) files seen moment may_leave before after old new result
-    does-emitted (Ok x) h = record {
-      goes = emitted-running (Ok x) h;
+    does-brought-at : (result : Result (Unit {0}) Refusal) → Is result → Said result → Does (Ok order) files seen moment may_leave before after old new result
+    does-brought-at (Ok x) h t = record {
+      goes = brought-running (Ok x) h t;
       done = record {
         task = OfJob call;
-        outcome = run-planned files job vex epoch workers piece plan there;
-        opened = (emitted-text (Ok x) h).opened;
-        text = (emitted-text (Ok x) h).text;
-        is = (emitted-text (Ok x) h).is;
-        told = (emitted-text (Ok x) h).appended.all;
-        all = λ other same _ image now. subst (λ (c : Call). KeepsAll files c image) (one-job call other same) (emitted-all (Ok x) h image now);
-        sums = λ other same _. subst (λ (c : Call). WhereTold (seen before) (λ image. IsHonest files c image → new ≡ more old (output c.plan files)))
-            (one-job call other same) (emitted-text (Ok x) h).sums;
+        outcome = run-planned files order call there;
+        opened = t.opened;
+        text = t.text;
+        is = t.is;
+        told = t.appended.all;
+        all = λ other same _ image now. subst (λ (c : Call). KeepsAll files c image) (one-job call other same) (brought-all (Ok x) h image now);
+        sums = λ other same _. subst (λ (c : Call). WhereTold (seen before) (λ image. IsHonest files c image → new ≡ more old (end_text files c)))
+            (one-job call other same) t.sums;
       };
       cause = tt;
       part = tt;
     }
-    does-emitted (Err r) h = record {
-      goes = emitted-running (Err r) h;
+    does-brought-at (Err r) h t = record {
+      goes = brought-running (Err r) h t;
       done = tt;
-      cause = emitted-cause r h;
-      part = emitted-part r h;
+      cause = brought-cause r h t;
+      part = brought-part r h t;
     }
 
-  pub run-emitted : (law : SumsMakeOutput) (told : Option Files) (job : List ℕ) (vex : Option (List ℕ)) (epoch : Option ℕ) (workers piece : ℕ) (plan : Plan) (id : List ℕ) (sizes : JobSizes)
-      (samples : ℕ) (journal : JournalState) (before mid after : D) (old new : Option (List ℕ)) (result : Result (Unit {0}) Refusal)
-      → IsPlan plan
-      → WhereTold told (λ files. PlanOf files job vex epoch (Ok plan)) → WhereTold told (λ files. id ≡ identity_under files job vex plan) → sizes ≡ sizes_of plan
-      → samples ≡ unwrap_or epoch plan.epoch → Emitted told plan id sizes samples journal before mid after old new result
-      → WhereTold told (λ files. Does (Ok (Run job vex epoch workers piece)) files seen moment may_leave before after old new result)
-  run-emitted law None job vex epoch workers piece plan id sizes samples journal before mid after old new result ranges there same cut in_force h = tt
-  run-emitted law (Some files) job vex epoch workers piece plan id sizes samples journal before mid after old new result ranges there same cut in_force h =
-      does-emitted law files job vex epoch workers piece plan there ranges journal before mid after old new result
-      (subst (λ (n : ℕ). Emitted (Some files) plan (identity_under files job vex plan) (sizes_of plan) n journal before mid after old new result) in_force
-      (subst (λ (i : List ℕ). Emitted (Some files) plan i (sizes_of plan) samples journal before mid after old new result) same
-      (subst (λ (z : JobSizes). Emitted (Some files) plan id z samples journal before mid after old new result) cut h)))
-
-  pub emitted-behind : (epochs : ℕ) (old new : Option (List ℕ)) (result : Result (Unit {0}) Refusal) → IfErr result (IsOfRecords epochs old new) → IfErr result IsBehindWords
-  emitted-behind epochs old new (Ok x) of = tt
-  emitted-behind epochs old new (Err Memory) of = tt
-  emitted-behind epochs old new (Err (Words fault)) of = absurd of
-  emitted-behind epochs old new (Err (DueRefusal due)) of = absurd of
-  emitted-behind epochs old new (Err (Other d)) of = absurd of
-  emitted-behind epochs old new (Err Read) of = tt
-  emitted-behind epochs old new (Err (Journal kept)) of = tt
-  emitted-behind epochs old new (Err Write) of = tt
-
-  pub emitted-leaves : (job : List ℕ) (vex : Option (List ℕ)) (epoch : Option ℕ) (workers piece epochs : ℕ) (before after : D) (old new : Option (List ℕ)) (result : Result (Unit {0}) Refusal)
-      → IfErr result (IsOfRecords epochs old new) → Leaves (Ok (Run job vex epoch workers piece)) seen moment may_leave before after old new result
-  emitted-leaves job vex epoch workers piece epochs before after old new result of = record {
-    nothing = nothing result of;
-    whole = λ _. whole result of;
-    untouched = λ other. absurd (not_both true refl other);
-    verdict = verdict result of;
-  }
-    where
-      nothing : (q : Result (Unit {0}) Refusal) → IfErr q (IsOfRecords epochs old new) → IfErr q (λ r. MatchDue r (new ≡ old))
-      nothing (Ok x) of = tt
-      nothing (Err Memory) of = tt
-      nothing (Err (Words fault)) of = absurd of
-      nothing (Err (DueRefusal due)) of = absurd of
-      nothing (Err (Other d)) of = absurd of
-      nothing (Err Read) of = tt
-      nothing (Err (Journal kept)) of = tt
-      nothing (Err Write) of = tt
-
-      whole : (q : Result (Unit {0}) Refusal) → IfErr q (IsOfRecords epochs old new) → IfErr q (λ r. MatchEarly r (new ≡ old))
-      whole (Ok x) of = tt
-      whole (Err Memory) of = of
-      whole (Err (Words fault)) of = tt
-      whole (Err (DueRefusal due)) of = tt
-      whole (Err (Other d)) of = tt
-      whole (Err Read) of = absurd of
-      whole (Err (Journal kept)) of = tt
-      whole (Err Write) of = tt
-
-      verdict : (q : Result (Unit {0}) Refusal) → IfErr q (IsOfRecords epochs old new) → IfErr q (λ r. MatchVerdict r (seen after ≡ seen before) (Looks seen moment may_leave before after))
-      verdict (Ok x) of = tt
-      verdict (Err Memory) of = tt
-      verdict (Err (Words fault)) of = absurd of
-      verdict (Err (DueRefusal due)) of = absurd of
-      verdict (Err (Other d)) of = absurd of
-      verdict (Err Read) of = tt
-      verdict (Err (Journal kept)) of = tt
-      verdict (Err Write) of = tt
+  pub does-brought : (told : Option Files) (order : Order) (call : Call) (id : List ℕ) (sizes : JobSizes) (samples : ℕ) (journal : JournalState) (before mid after : D)
+      (old new : Option (List ℕ)) (result : Result (Unit {0}) Refusal)
+      → IsSummer told order call id sizes samples → Brought told call.plan id sizes samples journal before mid after old new result
+      → WhereTold told (MakesText call journal (seen before) (seen mid) old new result)
+      → WhereTold told (λ files. Does (Ok order) files seen moment may_leave before after old new result)
+  does-brought None order call id sizes samples journal before mid after old new result summer h makes = tt
+  does-brought (Some files) order call id sizes samples journal before mid after old new result summer h makes =
+      let b : Brought (Some files) call.plan (identity_for files call) (sizes_for call) (epoch_for call) journal before mid after old new result =
+      subst (λ (n : ℕ). Brought (Some files) call.plan (identity_for files call) (sizes_for call) n journal before mid after old new result) summer.in_force
+      (subst (λ (i : List ℕ). Brought (Some files) call.plan i (sizes_for call) samples journal before mid after old new result) summer.same
+      (subst (λ (z : JobSizes). Brought (Some files) call.plan id z samples journal before mid after old new result) summer.cut h)) in
+      let t = makes b.stands.named b.stands.plan b.covers b.changes.read b.stands.image in
+      does-brought-at files order call summer.sums summer.task journal before mid after old new result b
+      (subst (λ (s : Option (List ℕ)). EndText files call (seen before) s old new result) (sym b.looks.same) t)

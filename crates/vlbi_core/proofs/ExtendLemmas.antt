@@ -5,7 +5,7 @@ use Rattle.std.specs.List.{All}
 use Rattle.std.proofs.lemmas.List.Elements.{All-nil}
 use Rattle.piece_plan.specs.declared.epoch.EpochPlan.{EpochPlan}
 use Rattle.piece_plan.specs.Epochs.{JobSizes, IsJob}
-use Rattle.piece_plan.specs.Order.{Place, first_place, place_after, AreInOrder}
+use Rattle.piece_plan.specs.Order.{Place, job_start, place_after, AreInOrder}
 use Rattle.plan_places.specs.Places.{IsPlace}
 use Rattle.plan_places.specs.Walk.{IsWalk, AreLeft, epochs_by}
 use Rattle.plan_places.proofs.AfterLemmas.{after-IsPlace}
@@ -51,7 +51,7 @@ order-place job is due end (e ∷ epochs) order place = order-place job is (plac
 
 -- behind what an image says, a place of the job is due, or none
 said-place : (id : List ℕ) (job : JobSizes) (image : List ℕ) (r : Reading) → IsJob job → Reads id job image r → IfSome r.due.place (IsPlace job)
-said-place id job image r is reads = order-place job is (first_place 0 job.scans) r.due.place (kept_epochs r) (reads_in_order id job image r reads) (first-IfSome job is)
+said-place id job image r is reads = order-place job is (job_start job) r.due.place (kept_epochs r) (reads_in_order id job image r reads) (first-IfSome job is)
 
 pub record HasDue (id : List ℕ) (job : JobSizes) (image : List ℕ) : Type 0 where
   pub due : Option Place
@@ -60,7 +60,7 @@ pub record HasDue (id : List ℕ) (job : JobSizes) (image : List ℕ) : Type 0 w
 
 has-due : (id : List ℕ) (job : JobSizes) (image : List ℕ) (kept : List KeptEpoch) → IsIdentity id → IsJob job → Keeps id job image kept → HasDue id job image
 has-due id job image kept named is (inl blank) = record {
-  due = first_place 0 job.scans;
+  due = job_start job;
   is = (λ _. refl, λ r reads. let never : true ≡ false = sym blank.0 ∙ reads_begun id job image r named reads in cc);
   place = first-IfSome job is;
 }

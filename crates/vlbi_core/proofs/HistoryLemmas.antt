@@ -1,4 +1,4 @@
--- Calls of `run` one after another.
+-- Calls that sum one after another.
 use Rattle.std.specs.Prelude.{is_some, map, slice_get}
 use Rattle.std.proofs.Common.{◌≡◌, ◌∙◌, ◌⊎◌, inl, inr, ℕ, zero, suc, ◌≤◌, true, List, [], ◌∷◌, Option, Some, None, Ok, refl, sym, ap, subst, arith}
 use Rattle.std.proofs.lemmas.List.Elements.{All-nil}
@@ -6,16 +6,14 @@ use Rattle.dev_traits.specs.Told.{more, WhereTold}
 use Rattle.corr_model.specs.Files.{Files}
 use Rattle.piece_plan.specs.Order.{CoverJob}
 use Rattle.job_plan.specs.declared.plan.Plan.{Plan}
-use Rattle.job_plan.specs.Output.{output}
 use Rattle.job_epochs.specs.Sizes.{sizes_of}
 use Rattle.journal_image.specs.Image.{is_blank, KeptEpoch}
-use Rattle.run_ready.specs.Outcome.{Wrong, PlanUnder, PlanOf}
-use Rattle.run_ready.specs.Recordings.{recordings_answer}
-use Rattle.vlbi_core.specs.Calls.{Call, KeepsAtLeast, KeepsAll}
+use Rattle.run_ready.specs.Outcome.{Wrong, PlanUnder}
+use Rattle.vlbi_core.specs.Calls.{Part, Call, end_text, part_sizes, KeepsAtLeast, KeepsAll}
 use Rattle.vlbi_core.specs.Texts.{IsSums}
 use Rattle.vlbi_core.specs.Restart.{IsHonest, AllKeep, StaysHonest}
 use Rattle.vlbi_core.specs.Histories.{IsRunBy, IsSameJob, End, Answered, Crashed, Step, stop, Left, IsEnd, IsStep, IsHistory, IsLater, Holds, AreAlike}
-use Rattle.vlbi_core.proofs.TopLemmas.{plan-at}
+use Rattle.vlbi_core.proofs.TopLemmas.{PartsHavePlan, plan-at}
 
 -- ---- calls for one job
 
@@ -25,27 +23,32 @@ OnePlan =
     (files : Files) (wrong other : Wrong) (job : List ℕ) (vex : Option (List ℕ)) (epoch length : Option ℕ) (a b : Plan)
     → PlanUnder files wrong job vex epoch (Ok a) → PlanUnder files other job vex length (Ok b) → a ≡ b
 
-plan-by : (files : Files) (words : List (List ℕ)) (call : Call) → IsRunBy files words call → PlanOf files call.job call.vex call.epoch (Ok call.plan)
-plan-by files words call by = plan-at files by.outcome.0 call by.outcome.2 by.run
+plan-by : PartsHavePlan → (files : Files) (words : List (List ℕ)) (call : Call) → IsRunBy files words call
+    → (wrong : Wrong) × PlanUnder files wrong call.job call.vex call.epoch (Ok call.plan)
+plan-by parts files words call by = plan-at parts files by.outcome.0 call by.outcome.2
 
--- calls of `run` for one job have one plan
-same-plan : OnePlan → (files : Files) (first second : List (List ℕ)) (a b : Call) → IsRunBy files first a → IsRunBy files second b → IsSameJob a b → a.plan ≡ b.plan
-same-plan law files first second a b one two same =
-    let there : PlanOf files a.job a.vex b.epoch (Ok b.plan) =
-    subst (λ (job : List ℕ). PlanOf files job a.vex b.epoch (Ok b.plan)) (sym same.0)
-    (subst (λ (vex : Option (List ℕ)). PlanOf files b.job vex b.epoch (Ok b.plan)) (sym same.1) (plan-by files second b two)) in
-    law files (recordings_answer files) (recordings_answer files) a.job a.vex a.epoch b.epoch a.plan b.plan (plan-by files first a one) there
+-- calls for one job, or for one part of it, have one plan
+same-plan : OnePlan → PartsHavePlan → (files : Files) (first second : List (List ℕ)) (a b : Call) → IsRunBy files first a → IsRunBy files second b → IsSameJob a b
+    → a.plan ≡ b.plan
+same-plan law parts files first second a b one two same =
+    let here = plan-by parts files first a one in
+    let other = plan-by parts files second b two in
+    let there : PlanUnder files other.0 a.job a.vex b.epoch (Ok b.plan) =
+    subst (λ (job : List ℕ). PlanUnder files other.0 job a.vex b.epoch (Ok b.plan)) (sym same.job)
+    (subst (λ (vex : Option (List ℕ)). PlanUnder files other.0 b.job vex b.epoch (Ok b.plan)) (sym same.vex) other.1) in
+    law files here.0 other.0 a.job a.vex a.epoch b.epoch a.plan b.plan here.1 there
 
 -- and calls that differ in the length of an epoch alone are alike
-by-parts : (files : Files) (a b : Call) → IsSameJob a b → a.plan ≡ b.plan → AreAlike files a b
-by-parts files a b same plans =
+by-fields : (files : Files) (a b : Call) → IsSameJob a b → a.plan ≡ b.plan → AreAlike files a b
+by-fields files a b same plans =
     subst (λ (plan : Plan). AreAlike files a (record b { plan = plan })) plans
-    (subst (λ (vex : Option (List ℕ)). AreAlike files a (record b { vex = vex; plan = a.plan })) same.1
-    (subst (λ (job : List ℕ). AreAlike files a (record b { job = job; vex = a.vex; plan = a.plan })) same.0
-    (record { honest = λ image h. record { kept = h.kept; keeps = h.keeps; sums = h.sums }; kept = λ image kept keeps. keeps; plan = refl })))
+    (subst (λ (part : Option Part). AreAlike files a (record b { part = part; plan = a.plan })) same.part
+    (subst (λ (vex : Option (List ℕ)). AreAlike files a (record b { vex = vex; part = a.part; plan = a.plan })) same.vex
+    (subst (λ (job : List ℕ). AreAlike files a (record b { job = job; vex = a.vex; part = a.part; plan = a.plan })) same.job
+    (record { honest = λ image h. record { kept = h.kept; keeps = h.keeps; sums = h.sums }; kept = λ image kept keeps. keeps; plan = refl }))))
 
-pub alike : OnePlan → (files : Files) (first second : List (List ℕ)) (a b : Call) → IsRunBy files first a → IsRunBy files second b → IsSameJob a b → AreAlike files a b
-alike law files first second a b one two same = by-parts files a b same (same-plan law files first second a b one two same)
+pub alike : OnePlan → PartsHavePlan → (files : Files) (first second : List (List ℕ)) (a b : Call) → IsRunBy files first a → IsRunBy files second b → IsSameJob a b → AreAlike files a b
+alike law parts files first second a b one two same = by-fields files a b same (same-plan law parts files first second a b one two same)
 
 -- ---- what a call leaves, said of another call for the job
 
@@ -60,12 +63,23 @@ begun-honest files call image (inr honest) = honest
 least-alike : (files : Files) (a b : Call) → AreAlike files a b → (image : List ℕ) (n : ℕ) → KeepsAtLeast files a image n → KeepsAtLeast files b image n
 least-alike files a b same image n least = record { kept = least.kept; keeps = same.kept image least.kept least.keeps; many = least.many }
 
-all-alike : (files : Files) (a b : Call) → AreAlike files a b → (image : List ℕ) → KeepsAll files a image → KeepsAll files b image
-all-alike files a b same image whole = record {
+all-alike : (files : Files) (a b : Call) → AreAlike files a b → a.part ≡ b.part → (image : List ℕ) → KeepsAll files a image → KeepsAll files b image
+all-alike files a b same parts image whole = record {
   kept = whole.kept;
   keeps = same.kept image whole.kept whole.keeps;
-  all = subst (λ (plan : Plan). CoverJob (sizes_of plan) (map (λ (k : KeptEpoch). k.epoch) whole.kept)) same.plan whole.all;
+  all = subst (λ (part : Option Part). CoverJob (part_sizes part (sizes_of b.plan)) (map (λ (k : KeptEpoch). k.epoch) whole.kept)) parts
+      (subst (λ (plan : Plan). CoverJob (part_sizes a.part (sizes_of plan)) (map (λ (k : KeptEpoch). k.epoch) whole.kept)) same.plan whole.all);
 }
+
+-- what calls append is that of the part and the plan
+text-of : (files : Files) (a b : Call) (part : Option Part) (plan : Plan) → end_text files (record a { part = part; plan = plan }) ≡ end_text files (record b { part = part; plan = plan })
+text-of files a b None plan = refl
+text-of files a b (Some part) plan = refl
+
+text-alike : (files : Files) (a b : Call) → a.part ≡ b.part → a.plan ≡ b.plan → end_text files a ≡ end_text files b
+text-alike files a b parts plans =
+    ap (λ (part : Option Part). end_text files (record a { part = part })) parts
+    ∙ ap (λ (plan : Plan). end_text files (record a { part = b.part; plan = plan })) plans ∙ text-of files a b b.part b.plan
 
 told_there : (told : Option (List ℕ)) (P : Type 0) → is_some told ≡ true → WhereTold told (λ image. P) → P
 told_there None P some fact = absurd cc
@@ -81,15 +95,15 @@ next_step : {A : Type 0} (a b : A) (rest : List A) (i : ℕ) → slice_get (a �
 next_step a b rest i is = is
 
 module _ {D : Type 0} (seen : D → Option (List ℕ)) (moment : D → ℕ) (may_leave : D → ℕ → List ℕ → Type 0) where
-  as-job : (files : Files) (call job : Call) (status : ℕ) (old new : D) → AreAlike files call job → AreAlike files job call
+  as-job : (files : Files) (call job : Call) (status : ℕ) (old new : D) → AreAlike files call job → AreAlike files job call → call.part ≡ job.part
       → StaysHonest files call status moment may_leave old new → StaysHonest files job status moment may_leave old new
-  as-job files call job status old new same back stays = record {
+  as-job files call job status old new same back parts stays = record {
     later = stays.later;
     past = stays.past;
     honest = λ t image low high now. same.honest image (stays.honest t image low high now);
     never_falls = λ t t' n low up high all image now. least-alike files call job same image n
         (stays.never_falls t t' n low up high (λ v there. least-alike files job call back v n (all v there)) image now);
-    all = λ done image now. all-alike files call job same image (stays.all done image now);
+    all = λ done image now. all-alike files call job same parts image (stays.all done image now);
   }
 
   -- ---- how a call ended
@@ -109,29 +123,31 @@ module _ {D : Type 0} (seen : D → Option (List ℕ)) (moment : D → ℕ) (may
 
   -- ---- histories
 
-  module _ (law : OnePlan) (files : Files) (words : List (List ℕ)) (job : Call) (base : IsRunBy files words job) where
+  module _ (law : OnePlan) (parts : PartsHavePlan) (files : Files) (words : List (List ℕ)) (job : Call) (base : IsRunBy files words job) where
     back : (images : List ℕ → Type 0) (step : Step D) → IsStep seen moment may_leave files job images step → AreAlike files step.call job
-    back images step is = alike law files step.words words step.call job is.runs base (sym is.same.0, sym is.same.1)
+    back images step is = alike law parts files step.words words step.call job is.runs base
+        (record { job = sym is.same.job; vex = sym is.same.vex; part = sym is.same.part })
 
     stays : (images : List ℕ → Type 0) → ((image : List ℕ) → images image → (is_blank image ≡ true) ⊎ IsHonest files job image)
         → (step : Step D) → IsStep seen moment may_leave files job images step → StaysHonest files job step.status moment may_leave step.old step.new
     stays images each step is =
-        let there = alike law files words step.words job step.call base is.runs is.same in
-        as-job files step.call job step.status step.old step.new (back images step is) there
+        let there = alike law parts files words step.words job step.call base is.runs is.same in
+        as-job files step.call job step.status step.old step.new (back images step is) there (sym is.same.part)
         (is.restart step.call is.runs.outcome (record {
           run = is.runs.run;
           honest = λ image now. there.honest image (begun-honest files job image (each image (is.begins image now)));
         }))
 
     appends : (images : List ℕ → Type 0) → ((image : List ℕ) → images image → (is_blank image ≡ true) ⊎ IsHonest files job image)
-        → (step : Step D) → IsStep seen moment may_leave files job images step → step.status ≡ 0 → step.told_new ≡ more step.told_old (output job.plan files)
+        → (step : Step D) → IsStep seen moment may_leave files job images step → step.status ≡ 0 → step.told_new ≡ more step.told_old (end_text files job)
     appends images each step is done =
-        let there = alike law files words step.words job step.call base is.runs is.same in
+        let there = alike law parts files words step.words job step.call base is.runs is.same in
         let here = told_there (seen step.old) _ is.tells is.headline in
         here step.call is.runs.outcome (record {
           run = is.runs.run;
           honest = λ image now. there.honest image (begun-honest files job image (each image (is.begins image now)));
-        }) done ∙ ap (λ (plan : Plan). more step.told_old (output plan files)) (back images step is).plan
+        }) done
+        ∙ ap (more step.told_old) (text-alike files step.call job (sym is.same.part) (back images step is).plan)
 
     left-honest : (step : Step D) → StaysHonest files job step.status moment may_leave step.old step.new → IsEnd seen moment may_leave step.end step.old step.new
         → (image : List ℕ) → Left seen moment may_leave step.end step.new image → (is_blank image ≡ true) ⊎ IsHonest files job image
@@ -186,8 +202,8 @@ module _ {D : Type 0} (seen : D → Option (List ℕ)) (moment : D → ℕ) (may
             (first_step step s later at) keeps.honest
         honest (suc i) s at = rest.honest i s (next_step step s later i at)
 
-        appended : (i : ℕ) (s : Step D) → slice_get (step ∷ later) i ≡ Some s → s.status ≡ 0 → s.told_new ≡ more s.told_old (output job.plan files)
-        appended zero s at = subst (λ (s : Step D). s.status ≡ 0 → s.told_new ≡ more s.told_old (output job.plan files)) (first_step step s later at)
+        appended : (i : ℕ) (s : Step D) → slice_get (step ∷ later) i ≡ Some s → s.status ≡ 0 → s.told_new ≡ more s.told_old (end_text files job)
+        appended zero s at = subst (λ (s : Step D). s.status ≡ 0 → s.told_new ≡ more s.told_old (end_text files job)) (first_step step s later at)
             (appends images each step is.0)
         appended (suc i) s at = rest.output i s (next_step step s later i at)
 

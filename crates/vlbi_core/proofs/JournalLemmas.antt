@@ -69,13 +69,13 @@ module _ {D : Type 0} (seen : D → Option (List ℕ)) (moment : D → ℕ) (may
   looked-cause files job vex epoch plan images before after old (Words fault) there of = absurd of
   looked-cause files job vex epoch plan images before after old (DueRefusal due) there of = absurd of
   looked-cause files job vex epoch plan images before after old (Other d) there of = record {
-    call = call_of false job vex epoch plan;
+    call = call_of false job vex epoch None plan;
     outcome = status-planned files job vex epoch plan there;
     other = of;
   }
   looked-cause files job vex epoch plan images before after old Read there of = absurd of
   looked-cause files job vex epoch plan images before after old (Journal None) there of = record {
-    call = call_of false job vex epoch plan;
+    call = call_of false job vex epoch None plan;
     outcome = status-planned files job vex epoch plan there;
     says = λ run. absurd (not_both false run refl);
     unnamed = λ _. refl;
@@ -110,7 +110,7 @@ module _ {D : Type 0} (seen : D → Option (List ℕ)) (moment : D → ℕ) (may
   module _ (files : Files) (job : List ℕ) (vex : Option (List ℕ)) (epoch : Option ℕ) (plan : Plan) (there : SurveyOf files job vex epoch (Ok plan)) (s : Seen) (left : ℕ)
       (are_left : AreLeft (sizes_of plan) (unwrap_or epoch plan.epoch) (option_map place_at s.next) left) where
     abbrev call : Call
-    call = call_of false job vex epoch plan
+    call = call_of false job vex epoch None plan
 
     abbrev Saw : List ℕ → Type 0
     Saw image = Sees (identity_under files job vex plan) (sizes_of plan) image s

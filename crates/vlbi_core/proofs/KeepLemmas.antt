@@ -1,33 +1,46 @@
 -- What the images of a journal keep, over steps that go on with sums of epochs.
-use Rattle.std.proofs.Common.{◌≡◌, inl, inr, ℕ, ◌≤◌, true, List, ◌++◌, length, Option, Some, None, Ok, refl, subst, ap, arith, length-append}
+use Rattle.std.proofs.Common.{◌≡◌, inl, inr, ℕ, ◌≤◌, List, ◌++◌, length, Option, Some, None, Ok, refl, subst, ap, arith, length-append}
 use Rattle.std.proofs.lemmas.List.Elements.{All-weaker, All-append}
 use Rattle.dev_traits.specs.Moments.{Runs}
 use Rattle.dev_traits.specs.Told.{WhereTold}
 use Rattle.corr_model.specs.Files.{Files}
-use Rattle.job_plan.specs.declared.plan.Plan.{Plan}
 use Rattle.job_plan.specs.Ranges.{IsPlan}
+use Rattle.piece_plan.specs.Epochs.{IsJob}
+use Rattle.piece_plan.proofs.LimitLemmas.{limited-IsJob}
+use Rattle.job_epochs.specs.Sizes.{sizes_of}
 use Rattle.job_epochs.proofs.SizeLemmas.{sizes_of-IsJob}
 use Rattle.journal_image.specs.Image.{KeptEpoch, IsIdentity}
 use Rattle.journal_image.proofs.ReadingLemmas.{keeps_one}
 use Rattle.journal_rounds.specs.Extended.{Extends}
-use Rattle.run_words.specs.declared.order.Order.TheVariants.{Run}
-use Rattle.run_ready.specs.Outcome.{PlanOf}
+use Rattle.run_words.specs.declared.order.Order.{Order}
 use Rattle.run_ready.specs.Identities.{identity_under}
-use Rattle.vlbi_core.specs.Calls.{Call, call_of, identity_for, sizes_for, KeepsFor, KeepsAtLeast}
+use Rattle.vlbi_core.specs.Calls.{Part, Call, OfJob, TaskFor, part_identity, part_sizes, identity_for, sizes_for, KeepsFor, KeepsAtLeast}
 use Rattle.vlbi_core.specs.Texts.{IsSums, AreSums, IsSummedFor}
 use Rattle.vlbi_core.specs.Restart.{IsHonest, NoneIsLost}
 use Rattle.vlbi_core.specs.Steps.{OutcomeFrom, GoesRanged}
 
--- the identity of a job begins with its mark
-pub identity-named : (files : Files) (job : List ℕ) (vex : Option (List ℕ)) (plan : Plan) → IsIdentity (identity_under files job vex plan)
-identity-named files job vex plan = record { long = omega arith; version = refl }
+-- the identity of a job begins with its mark, and that of a part with another
+pub identity-named : (files : Files) (call : Call) → IsIdentity (identity_for files call)
+identity-named files call = by call.part
+  where
+    by : (part : Option Part) → IsIdentity (part_identity part (identity_under files call.job call.vex call.plan))
+    by None = record { long = omega arith; version = inl refl }
+    by (Some part) = record { long = omega arith; version = inr refl }
+
+-- what a call's job or part is cut by is a job, where its plan is in its ranges
+pub sizes-IsJob : (call : Call) → IsPlan call.plan → length call.plan.scans ≤ 8388608 → IsJob (sizes_for call)
+sizes-IsJob call ranges few = by call.part
+  where
+    by : (part : Option Part) → IsJob (part_sizes part (sizes_of call.plan))
+    by None = sizes_of-IsJob call.plan ranges few
+    by (Some part) = limited-IsJob (sizes_of call.plan) part.from part.to (sizes_of-IsJob call.plan ranges few)
 
 -- ---- calls whose plan is in its ranges
 
 module _ (files : Files) (call : Call) (ranges : IsPlan call.plan) (few : length call.plan.scans ≤ 8388608) where
   -- an image keeps the same epochs, however it is read
   pub keeps-same : (image : List ℕ) (kept other : List KeptEpoch) → KeepsFor files call image kept → KeepsFor files call image other → kept ≡ other
-  keeps-same image = keeps_one (identity_for files call) (sizes_for call) image (identity-named files call.job call.vex call.plan) (sizes_of-IsJob call.plan ranges few)
+  keeps-same image = keeps_one (identity_for files call) (sizes_for call) image (identity-named files call) (sizes-IsJob call ranges few)
 
   -- what an honest image keeps are the sums of the epochs
   pub honest-sums : (image : List ℕ) (kept : List KeptEpoch) → IsHonest files call image → KeepsFor files call image kept → AreSums files call.plan kept
@@ -61,11 +74,11 @@ module _ {D : Type 0} (files : Files) (call : Call) (moment : D → ℕ) (may_le
 
 -- ---- plans in their ranges
 
--- a call of `run` that came to a plan in its ranges, where the shelf tells its files
+-- a call on a job that came to a plan in its ranges, where the shelf tells its files
 pub ranged-at : {D : Type 0} (seen : D → Option (List ℕ)) (moment : D → ℕ) (may_leave : D → ℕ → List ℕ → Type 0) (told : Option Files)
-    (job : List ℕ) (vex : Option (List ℕ)) (epoch : Option ℕ) (workers piece : ℕ) (plan : Plan) (before after : D) → IsPlan plan → length plan.scans ≤ 8388608
-    → WhereTold told (λ files. PlanOf files job vex epoch (Ok plan))
-    → WhereTold told (λ files. GoesRanged (OutcomeFrom (Ok (Run job vex epoch workers piece)) files) seen moment may_leave before after)
-ranged-at seen moment may_leave None job vex epoch workers piece plan before after ranges few there = tt
-ranged-at seen moment may_leave (Some files) job vex epoch workers piece plan before after ranges few there =
-    inr (record { call = call_of true job vex epoch plan; outcome = (Run job vex epoch workers piece, refl, (refl, there)); ranges = ranges; few = few })
+    (order : Order) (call : Call) (before after : D) → IsPlan call.plan → length call.plan.scans ≤ 8388608
+    → WhereTold told (λ files. TaskFor files order (Ok (OfJob call)))
+    → WhereTold told (λ files. GoesRanged (OutcomeFrom (Ok order) files) seen moment may_leave before after)
+ranged-at seen moment may_leave None order call before after ranges few there = tt
+ranged-at seen moment may_leave (Some files) order call before after ranges few there =
+    inr (record { call = call; outcome = (order, refl, there); ranges = ranges; few = few })

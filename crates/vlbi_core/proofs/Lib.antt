@@ -6,6 +6,7 @@ pub mod CommandLemmas
 pub mod EngineLemmas
 pub mod JournalLemmas
 pub mod CorrelationLemmas
+pub mod ShardLemmas
 pub mod TopLemmas
 pub mod NoteLemmas
 pub mod HistoryLemmas

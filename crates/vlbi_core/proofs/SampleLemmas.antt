@@ -26,7 +26,7 @@ use Rattle.run_ready.specs.Steps.{answered}
 use Rattle.run_ready.specs.Recordings.{recordings_answer}
 use Rattle.run_ready.specs.Outcome.{PlanOf}
 use Rattle.mem_devices.specs.MemShelfState.{bytes_under}
-use Rattle.vlbi_core.specs.Calls.{Call, Task, OfJob, OfText, TaskFor, identity_for, sizes_for}
+use Rattle.vlbi_core.specs.Calls.{Call, Task, OfJob, OfText, TaskFor, end_text, identity_for, sizes_for}
 use Rattle.vlbi_core.specs.Texts.{IsSums}
 use Rattle.vlbi_core.specs.Restart.{IsHonest}
 use Rattle.sample_job.specs.Sample.{sample_files, sample_shelf, SampleOf}
@@ -72,7 +72,8 @@ module _ {D : Type 0} (seen : D → Option (List ℕ)) (moment : D → ℕ) (may
           let run : call.sums ≡ true = subst (λ (c : Call). c.sums ≡ true) (sym p.0) refl in (
             call.plan,
             p.1,
-            told_value (seen before) (λ image. IsHonest files call image → new ≡ more old (output call.plan files)) [] blank (done.sums call same run) (blank-honest files call),
+            told_value (seen before) (λ image. IsHonest files call image → new ≡ more old (end_text files call)) [] blank (done.sums call same run) (blank-honest files call)
+                ∙ ap (more old) (ap (end_text files) p.0),
           )
 
 -- over a blank journal no other job's is met

@@ -19,7 +19,7 @@ use Rattle.checkpoint_journal.specs.Runs.{Changes}
 use Rattle.checkpoint_journal.proofs.RunLemmas.{changes_looks, told_value}
 use Rattle.run_words.specs.declared.fault.WordsFault.{WordsFault}
 use Rattle.run_words.specs.declared.order.Order.{Order}
-use Rattle.run_words.specs.declared.order.Order.TheVariants.{Run, Plain, Check, Status, Dump, Gen, Fringe, Verify, Bins}
+use Rattle.run_words.specs.declared.order.Order.TheVariants.{Run, Plain, Check, Status, Dump, Gen, Fringe, Verify, Bins, Shard}
 use Rattle.run_notes.specs.declared.refusal.Due.{Due}
 use Rattle.run_notes.specs.declared.refusal.Due.TheVariants.{Vex, Schedule, Job, Join, Limit, NoFile, Recording, Records, Certificate, Bins as BinsDue, NoPhase}
 use Rattle.run_notes.specs.declared.refusal.Refusal.{Refusal}
@@ -30,7 +30,7 @@ use Rattle.run_notes.specs.Commands.{IsOfFilesOrOutput}
 use Rattle.run_notes.specs.Counted.{CountsJournal}
 use Rattle.run_ready.specs.Steps.{Is, Then, answered}
 use Rattle.run_ready.specs.Recordings.{files_answer, recordings_answer}
-use Rattle.run_ready.specs.Outcome.{Wrong, PlanUnder, SurveyOf, PlanOf}
+use Rattle.run_ready.specs.Outcome.{Wrong, PlanUnder, JoinOf, SurveyOf, PlanOf}
 use Rattle.journal_rounds.specs.Extended.{Extends}
 use Rattle.vis_records.specs.Content.{Content}
 use Rattle.vis_records.specs.Dumped.{dump_text}
@@ -40,15 +40,16 @@ use Rattle.fringe_search.specs.Certificates.{Line, lines_text}
 use Rattle.run_fringe.specs.Searched.{FringeOf, VerifyOf, right_text}
 use Rattle.run_bins.specs.Texts.{BinPlan, bin_output}
 use Rattle.run_bins.specs.Outcome.{BinsOf}
+use Rattle.run_part.specs.Outcome.{PartOf}
 use Rattle.sample_job.specs.Sample.{SampleOf, sample_shelf}
 use Rattle.vlbi_core.specs.Sample.{sample_text}
-use Rattle.vlbi_core.specs.Calls.{Call, call_of, Task, OfJob, OfText, JobFor, TextFor, TaskFor, identity_for, sizes_for, IsOursFor, KeepsAtLeast, KeepsAll}
+use Rattle.vlbi_core.specs.Calls.{Part, Call, call_of, Task, OfJob, OfText, JobFor, TextFor, TaskFor, end_text, identity_for, sizes_for, IsOursFor, KeepsAtLeast, KeepsAll}
 use Rattle.vlbi_core.specs.Texts.{IsSummedFor}
 use Rattle.vlbi_core.specs.Run.{IsVerdictStatus, IsDueStatus, IsStatus, IsUsable, IsForeign, IsVerdict, IsAppended, IsWordsLine, IsLineOf, IsNoted}
 use Rattle.vlbi_core.specs.Restart.{IsHonest, Continues, StaysHonest, Restarts}
 use Rattle.vlbi_core.specs.Steps.{OutcomeFrom, IsWordedBy, IsOpened, IsCauseOf, IsOtherCause, IsPartly, IsDone, IsUnnumbered, IsOfSample, CountsJournalOr, IsFullFor, Goes, GoesRanged, MatchDue, MatchEarly, MatchVerdict}
 use Rattle.vlbi_core.proofs.KeepLemmas.{honest-extends, least-extends, none_lost}
-use Rattle.vlbi_core.proofs.CommandLemmas.{one-job, not_both}
+use Rattle.vlbi_core.proofs.CommandLemmas.{one-job}
 
 -- ---- outcomes, of which there is one
 
@@ -92,17 +93,18 @@ Then-one {A} {B} first next one ones = by
     by (Err d) (Err e) (inr p) (inl q) = absurd (not p.0 e p.1 q)
     by (Err d) (Err e) (inr p) (inr q) = both (Err d) (Err e) p.0 q.0 p.1 q.1 p.2 q.2
 
-job-one : (sums : Bool) (job : List ℕ) (vex : Option (List ℕ)) (epoch : Option ℕ) (plans : Outcomes Plan) → AreOne plans → AreOne (JobFor sums job vex epoch plans)
-job-one sums job vex epoch plans one (Ok (OfJob a)) (Ok (OfJob b)) p q =
+job-one : (sums : Bool) (job : List ℕ) (vex : Option (List ℕ)) (epoch : Option ℕ) (part : Option Part) (plans : Outcomes Plan) → AreOne plans
+    → AreOne (JobFor sums job vex epoch part plans)
+job-one sums job vex epoch part plans one (Ok (OfJob a)) (Ok (OfJob b)) p q =
     let same : Ok a.plan ≡ Ok b.plan = one (Ok a.plan) (Ok b.plan) p.1 q.1 in
     let two : a.plan ≡ b.plan = cc in
-    ap (λ (c : Call). Ok (OfJob c)) (p.0 ∙ ap (call_of sums job vex epoch) two ∙ sym q.0)
-job-one sums job vex epoch plans one (Ok (OfJob a)) (Ok (OfText text)) p q = absurd q
-job-one sums job vex epoch plans one (Ok (OfText text)) b p q = absurd p
-job-one sums job vex epoch plans one (Ok (OfJob a)) (Err e) p q = let h : Ok a.plan ≡ Err e = one (Ok a.plan) (Err e) p.1 q in cc
-job-one sums job vex epoch plans one (Err d) (Ok (OfJob b)) p q = let h : Ok b.plan ≡ Err d = one (Ok b.plan) (Err d) q.1 p in cc
-job-one sums job vex epoch plans one (Err d) (Ok (OfText text)) p q = absurd q
-job-one sums job vex epoch plans one (Err d) (Err e) p q =
+    ap (λ (c : Call). Ok (OfJob c)) (p.0 ∙ ap (call_of sums job vex epoch part) two ∙ sym q.0)
+job-one sums job vex epoch part plans one (Ok (OfJob a)) (Ok (OfText text)) p q = absurd q
+job-one sums job vex epoch part plans one (Ok (OfText text)) b p q = absurd p
+job-one sums job vex epoch part plans one (Ok (OfJob a)) (Err e) p q = let h : Ok a.plan ≡ Err e = one (Ok a.plan) (Err e) p.1 q in cc
+job-one sums job vex epoch part plans one (Err d) (Ok (OfJob b)) p q = let h : Ok b.plan ≡ Err d = one (Ok b.plan) (Err d) q.1 p in cc
+job-one sums job vex epoch part plans one (Err d) (Ok (OfText text)) p q = absurd q
+job-one sums job vex epoch part plans one (Err d) (Err e) p q =
     let x : Result Plan Answer = Err d in
     let y : Result Plan Answer = Err e in
     let h : x ≡ y = one x y p q in
@@ -141,6 +143,17 @@ OneVerdict = (files : Files) (name certificate : List ℕ) (a b : Result Content
 abbrev pub OneBinned : Type 0
 OneBinned = (files : Files) (job : List ℕ) (vex : Option (List ℕ)) (phase : List ℕ) (a b : Result BinPlan Answer) → BinsOf files job vex phase a → BinsOf files job vex phase b → a ≡ b
 
+-- the law of parts of jobs, and that of the plans that they come to
+abbrev pub OnePart : Type 0
+OnePart =
+    (files : Files) (job : List ℕ) (vex : Option (List ℕ)) (epoch : Option ℕ) (to : ℕ) (a b : Result Plan Answer)
+    → PartOf files job vex epoch to a → PartOf files job vex epoch to b → a ≡ b
+
+abbrev pub PartsHavePlan : Type 0
+PartsHavePlan =
+    (files : Files) (job : List ℕ) (vex : Option (List ℕ)) (epoch : Option ℕ) (to : ℕ) (plan : Plan)
+    → PartOf files job vex epoch to (Ok plan) → JoinOf files job vex epoch (Ok plan)
+
 -- of what each command comes to there is one
 pub record AreLaws : Type 0 where
   pub outcome : OneOutcome
@@ -148,10 +161,11 @@ pub record AreLaws : Type 0 where
   pub search_is : OneSearch
   pub verdict : OneVerdict
   pub binned : OneBinned
+  pub part : OnePart
 
 task-one : AreLaws → (files : Files) (order : Order) → AreOne (TaskFor files order)
-task-one laws files (Run job vex epoch workers piece) = job-one true job vex epoch (PlanOf files job vex epoch) (laws.outcome files (recordings_answer files) job vex epoch)
-task-one laws files (Status job vex epoch) = job-one false job vex epoch (SurveyOf files job vex epoch) (laws.outcome files (files_answer files) job vex epoch)
+task-one laws files (Run job vex epoch workers piece) = job-one true job vex epoch None (PlanOf files job vex epoch) (laws.outcome files (recordings_answer files) job vex epoch)
+task-one laws files (Status job vex epoch) = job-one false job vex epoch None (SurveyOf files job vex epoch) (laws.outcome files (files_answer files) job vex epoch)
 task-one laws files (Plain job vex) = text-one (PlanOf files job vex None) (λ plan. output plan files) (laws.outcome files (recordings_answer files) job vex None)
 task-one laws files (Check job vex epoch) =
     text-one (PlanOf files job vex epoch) (λ plan. check_text plan (unwrap_or epoch plan.epoch) files) (laws.outcome files (recordings_answer files) job vex epoch)
@@ -162,18 +176,27 @@ task-one laws files (Gen seed seconds workers piece) =
 task-one laws files (Fringe file rates divide) = text-one (FringeOf files file rates divide) lines_text (laws.search_is files file rates divide)
 task-one laws files (Verify file certificate) = text-one (VerifyOf files file certificate) right_text (laws.verdict files file certificate)
 task-one laws files (Bins job vex phase workers piece) = text-one (BinsOf files job vex phase) (λ x. bin_output x files) (laws.binned files job vex phase)
+task-one laws files (Shard job vex epoch workers piece from to) =
+    job-one true job vex epoch (Some (record { from = from; to = to })) (PartOf files job vex epoch to) (laws.part files job vex epoch to)
 
--- the plan of a call of `run`
-pub plan-at : (files : Files) (order : Order) (call : Call) → TaskFor files order (Ok (OfJob call)) → call.sums ≡ true → PlanOf files call.job call.vex call.epoch (Ok call.plan)
-plan-at files (Run job vex epoch workers piece) call there run = subst (λ (c : Call). PlanOf files c.job c.vex c.epoch (Ok call.plan)) (sym there.0) there.1
-plan-at files (Status job vex epoch) call there run = absurd (not_both false (subst (λ (c : Call). c.sums ≡ true) there.0 run) refl)
-plan-at files (Plain job vex) call there run = absurd there
-plan-at files (Check job vex epoch) call there run = absurd there
-plan-at files (Dump file) call there run = absurd there
-plan-at files (Gen seed seconds workers piece) call there run = absurd there
-plan-at files (Fringe file rates divide) call there run = absurd there
-plan-at files (Verify file certificate) call there run = absurd there
-plan-at files (Bins job vex phase workers piece) call there run = absurd there
+-- the plan of a call on a job, whatever is looked at of its recordings
+pub plan-at : PartsHavePlan → (files : Files) (order : Order) (call : Call) → TaskFor files order (Ok (OfJob call))
+    → (wrong : Wrong) × PlanUnder files wrong call.job call.vex call.epoch (Ok call.plan)
+plan-at law files (Run job vex epoch workers piece) call there =
+    (recordings_answer files, subst (λ (c : Call). PlanOf files c.job c.vex c.epoch (Ok call.plan)) (sym there.0) there.1)
+plan-at law files (Status job vex epoch) call there =
+    (files_answer files, subst (λ (c : Call). SurveyOf files c.job c.vex c.epoch (Ok call.plan)) (sym there.0) there.1)
+plan-at law files (Plain job vex) call there = absurd there
+plan-at law files (Check job vex epoch) call there = absurd there
+plan-at law files (Dump file) call there = absurd there
+plan-at law files (Gen seed seconds workers piece) call there = absurd there
+plan-at law files (Fringe file rates divide) call there = absurd there
+plan-at law files (Verify file certificate) call there = absurd there
+plan-at law files (Bins job vex phase workers piece) call there = absurd there
+plan-at law files (Shard job vex epoch workers piece from to) call there = (
+  (λ stations. None),
+  subst (λ (c : Call). JoinOf files c.job c.vex c.epoch (Ok call.plan)) (sym there.0) (law files job vex epoch to call.plan there.1),
+)
 
 pub outcome-one : AreLaws → (wanted : Result Order WordsFault) (files : Files) → AreOne (OutcomeFrom wanted files)
 outcome-one laws wanted files =
@@ -302,7 +325,7 @@ read-risen Read P Q R fact is = fact
 read-risen (Journal kept) P Q R fact is = absurd (not_journal kept 7 is (λ e. cc))
 read-risen Write P Q R fact is = absurd cc
 
--- the shelf's count stays beside any other refusal, and beside that of the journal where the words are not those of `run`
+-- the shelf's count stays beside any other refusal, and beside that of the journal where the words are of no command that sums
 pub read-kept : (r : Refusal) (P Q R N : Type 0) → MatchReadOrJournal r P Q R → (N → MatchRead r P R)
     → ((answer_of r).status ≡ 7 → ⊥) → ((answer_of r).status ≡ 8 → ⊥) ⊎ N → R
 read-kept Memory P Q R N fact alone not of = fact
@@ -343,7 +366,7 @@ journal-kept Read P Q fact not = fact
 journal-kept (Journal kept) P Q fact not = absurd (not (journal-status kept))
 journal-kept Write P Q fact not = fact
 
--- the disk's count, where the call is no one of `run` and a full journal is no cause
+-- the disk's count, where the call does not sum and a full journal is no cause
 pub journal-or : {T : Type 0} (full : Type 0) (before now : ℕ) (result : Result T Refusal) → CountsJournal before now result → CountsJournalOr full before now result
 journal-or full before now (Ok x) counts = counts
 journal-or full before now (Err Memory) counts = counts
@@ -696,12 +719,12 @@ module _ {D : Type 0} (seen : D → Option (List ℕ)) (moment : D → ℕ) (may
 
   pub headline-done : (outcomes : Outcomes Task) (one : AreOne outcomes) (files : Files) (before after : D) (old new : Option (List ℕ)) → WhereTold (seen before) (may_leave before (moment before))
       → IsDone outcomes files seen moment may_leave before after old new
-      → WhereTold (seen before) (λ image. (call : Call) → outcomes (Ok (OfJob call)) → Continues files call (may_leave before (moment before)) → ◌≡◌ {A = ℕ} 0 0 → new ≡ more old (output call.plan files))
+      → WhereTold (seen before) (λ image. (call : Call) → outcomes (Ok (OfJob call)) → Continues files call (may_leave before (moment before)) → ◌≡◌ {A = ℕ} 0 0 → new ≡ more old (end_text files call))
   headline-done outcomes one files before after old new law done = by (seen before) law done.sums
     where
       by : (o : Option (List ℕ)) → WhereTold o (may_leave before (moment before))
-          → ((call : Call) → done.task ≡ OfJob call → call.sums ≡ true → WhereTold o (λ image. IsHonest files call image → new ≡ more old (output call.plan files)))
-          → WhereTold o (λ image. (call : Call) → outcomes (Ok (OfJob call)) → Continues files call (may_leave before (moment before)) → ◌≡◌ {A = ℕ} 0 0 → new ≡ more old (output call.plan files))
+          → ((call : Call) → done.task ≡ OfJob call → call.sums ≡ true → WhereTold o (λ image. IsHonest files call image → new ≡ more old (end_text files call)))
+          → WhereTold o (λ image. (call : Call) → outcomes (Ok (OfJob call)) → Continues files call (may_leave before (moment before)) → ◌≡◌ {A = ℕ} 0 0 → new ≡ more old (end_text files call))
       by None now sums = tt
       by (Some image) now sums = λ call there continues zero.
           sums call (tasks-same outcomes one done.task (OfJob call) done.outcome there) continues.run (continues.honest image now)

@@ -1,6 +1,6 @@
 -- What words and files come to: a command with the plan of its job, the text that a command appends, or the answer of the first
 -- thing that is wrong.
-use Rattle.std.specs.Prelude.{◌≡◌, ℕ, Bool, true, false, ◌≤◌, List, length, map, unwrap_or, Option, None, Result, Ok, Err, String, string_bytes}
+use Rattle.std.specs.Prelude.{◌≡◌, ℕ, Bool, true, false, ◌≤◌, List, length, map, unwrap_or, Option, None, Some, Result, Ok, Err, String, string_bytes}
 use Rattle.std.specs.declared.alloc.Global.{Global}
 use Rattle.corr_model.specs.Files.{Files}
 use Rattle.job_plan.specs.declared.plan.Plan.{Plan}
@@ -9,24 +9,27 @@ use Rattle.job_epochs.specs.Sizes.{sizes_of}
 use Rattle.vis_records.specs.Dumped.{dump_text}
 use Rattle.piece_plan.specs.Epochs.{JobSizes}
 use Rattle.piece_plan.specs.Order.{CoverJob}
+use Rattle.piece_plan.specs.Limited.{limited}
 use Rattle.journal_image.specs.Image.{KeptEpoch, Keeps}
+use Rattle.checkpoint_journal.specs.Identity.{shard_of}
 use Rattle.checkpoint_journal.specs.Kept.{KeepsMany}
 use Rattle.checkpoint_journal.specs.Runs.{IsOurs}
 use Rattle.run_words.specs.declared.fault.WordsFault.{WordsFault}
 use Rattle.run_words.specs.declared.order.Order.{Order}
-use Rattle.run_words.specs.declared.order.Order.TheVariants.{Run, Plain, Check, Status, Dump, Gen, Fringe, Verify, Bins}
+use Rattle.run_words.specs.declared.order.Order.TheVariants.{Run, Plain, Check, Status, Dump, Gen, Fringe, Verify, Bins, Shard}
 use Rattle.run_words.specs.Orders.{order_of}
 use Rattle.run_notes.specs.Answers.{words_answer}
 use Rattle.run_notes.specs.Refusals.{Outcomes}
 use Rattle.run_ready.specs.Steps.{Is, Then, answered}
 use Rattle.run_ready.specs.Outcome.{SurveyOf, PlanOf}
 use Rattle.run_ready.specs.Identities.{identity_under}
-use Rattle.run_summary.specs.Summaries.{check_text}
 use Rattle.run_dump.specs.Shown.{RecordsOf}
 use Rattle.fringe_search.specs.Certificates.{lines_text}
 use Rattle.run_fringe.specs.Searched.{FringeOf, VerifyOf, right_text}
 use Rattle.run_bins.specs.Texts.{bin_output}
 use Rattle.run_bins.specs.Outcome.{BinsOf}
+use Rattle.run_part.specs.Outcome.{PartOf}
+use Rattle.run_summary.specs.Summaries.{check_text, shard_line}
 use Rattle.sample_job.specs.Sample.{SampleOf}
 use Rattle.vlbi_core.specs.Sample.{sample_text}
 
@@ -38,22 +41,29 @@ texts_of words = map string_bytes words
 abbrev pub order_in : List (List ℕ) → Result Order WordsFault
 order_in texts = order_of texts
 
--- an order of `run`, which sums into the journal
-abbrev pub is_run : Order → Bool
-is_run (Run job vex epoch workers piece) = true
-is_run _ = false
+-- an order that sums into the journal: of `run`, and of `shard`
+abbrev pub is_writer : Order → Bool
+is_writer (Run job vex epoch workers piece) = true
+is_writer (Shard job vex epoch workers piece from to) = true
+is_writer _ = false
 
--- A call on a job and its journal: whether it sums what the journal lacks, the names of the job's text and of the schedule's, the samples of
--- an epoch that are asked for, and the plan.
+-- a part of a job: its integrations from one number up to, not including, another
+pub record Part : Type 0 where
+  pub from : ℕ
+  pub to : ℕ
+
+-- A call on a job, or on a part of one, and its journal: whether it sums what the journal lacks, the names of the job's text and of the
+-- schedule's, the samples of an epoch that are asked for, the part, where it is not all of the job, and the job's plan.
 pub record Call : Type 0 where
   pub sums : Bool
   pub job : List ℕ
   pub vex : Option (List ℕ)
   pub epoch : Option ℕ
+  pub part : Option Part
   pub plan : Plan
 
-abbrev pub call_of : Bool → List ℕ → Option (List ℕ) → Option ℕ → Plan → Call
-call_of sums job vex epoch plan = record { sums = sums; job = job; vex = vex; epoch = epoch; plan = plan }
+abbrev pub call_of : Bool → List ℕ → Option (List ℕ) → Option ℕ → Option Part → Plan → Call
+call_of sums job vex epoch part plan = record { sums = sums; job = job; vex = vex; epoch = epoch; part = part; plan = plan }
 
 -- What a call works on: a job and its journal, or the text that a command appends which leaves the journal alone.
 pub data Task : Type 0 where
@@ -61,10 +71,10 @@ pub data Task : Type 0 where
   OfText : List ℕ → Task
 
 -- the task of a command on a job and its journal, by the plans that its files come to
-abbrev pub JobFor : Bool → List ℕ → Option (List ℕ) → Option ℕ → Outcomes Plan → Outcomes Task
-JobFor sums job vex epoch plans (Ok (OfJob call)) = (call ≡ call_of sums job vex epoch call.plan) × plans (Ok call.plan)
-JobFor sums job vex epoch plans (Ok (OfText text)) = ⊥
-JobFor sums job vex epoch plans (Err answer) = plans (Err answer)
+abbrev pub JobFor : Bool → List ℕ → Option (List ℕ) → Option ℕ → Option Part → Outcomes Plan → Outcomes Task
+JobFor sums job vex epoch part plans (Ok (OfJob call)) = (call ≡ call_of sums job vex epoch part call.plan) × plans (Ok call.plan)
+JobFor sums job vex epoch part plans (Ok (OfText text)) = ⊥
+JobFor sums job vex epoch part plans (Err answer) = plans (Err answer)
 
 -- the task of a command that appends a text, by what its files come to
 abbrev pub TextFor : {A : Type 0} → Outcomes A → (A → List ℕ) → Outcomes Task
@@ -74,8 +84,8 @@ TextFor {A} outcomes text (Err answer) = outcomes (Err answer)
 
 -- The task of an order. `status` looks at the lengths of the recordings alone, and `gen` has its own job and recordings.
 abbrev pub TaskFor : Files → Order → Outcomes Task
-TaskFor files (Run job vex epoch workers piece) = JobFor true job vex epoch (PlanOf files job vex epoch)
-TaskFor files (Status job vex epoch) = JobFor false job vex epoch (SurveyOf files job vex epoch)
+TaskFor files (Run job vex epoch workers piece) = JobFor true job vex epoch None (PlanOf files job vex epoch)
+TaskFor files (Status job vex epoch) = JobFor false job vex epoch None (SurveyOf files job vex epoch)
 TaskFor files (Plain job vex) = TextFor (PlanOf files job vex None) (λ plan. output plan files)
 TaskFor files (Check job vex epoch) = TextFor (PlanOf files job vex epoch) (λ plan. check_text plan (unwrap_or epoch plan.epoch) files)
 TaskFor files (Dump file) = TextFor (RecordsOf files file) dump_text
@@ -83,20 +93,39 @@ TaskFor files (Gen seed seconds workers piece) = TextFor (SampleOf seed seconds)
 TaskFor files (Fringe file rates divide) = TextFor (FringeOf files file rates divide) lines_text
 TaskFor files (Verify file certificate) = TextFor (VerifyOf files file certificate) right_text
 TaskFor files (Bins job vex phase workers piece) = TextFor (BinsOf files job vex phase) (λ x. bin_output x files)
+TaskFor files (Shard job vex epoch workers piece from to) = JobFor true job vex epoch (Some (record { from = from; to = to })) (PartOf files job vex epoch to)
 
 -- what words and files come to
 abbrev pub OutcomeOf : List (List ℕ) → Files → Outcomes Task
 OutcomeOf texts files = Then (Is (answered words_answer (order_in texts))) (TaskFor files)
 
--- the identity of a call's job, what the job is cut by, and the samples of an epoch in force
+-- what a part of a job is cut by, and its identity, by those of the job
+abbrev pub part_sizes : Option Part → JobSizes → JobSizes
+part_sizes None job = job
+part_sizes (Some part) job = limited job part.from part.to
+
+abbrev pub part_identity : Option Part → List ℕ → List ℕ
+part_identity None id = id
+part_identity (Some part) id = shard_of id part.from part.to
+
+-- the identity of a call's job or part, what that is cut by, and the samples of an epoch in force
 abbrev pub identity_for : Files → Call → List ℕ
-identity_for files call = identity_under files call.job call.vex call.plan
+identity_for files call = part_identity call.part (identity_under files call.job call.vex call.plan)
 
 abbrev pub sizes_for : Call → JobSizes
-sizes_for call = sizes_of call.plan
+sizes_for call = part_sizes call.part (sizes_of call.plan)
 
 abbrev pub epoch_for : Call → ℕ
 epoch_for call = unwrap_or call.epoch call.plan.epoch
+
+-- what a call that sums appends where its journal is honest and covers the job: the record file of the direct sums, or of a part the line
+-- that says so
+abbrev pub end_text : Files → Call → List ℕ
+end_text files call = by call.part
+  where
+    by : Option Part → List ℕ
+    by None = output call.plan files
+    by (Some part) = shard_line part.from part.to
 
 -- the epochs that an image of the journal keeps for a call
 abbrev pub KeepsFor : Files → Call → List ℕ → List KeptEpoch → Type 0
@@ -116,7 +145,7 @@ pub record KeepsAtLeast (files : Files) (call : Call) (image : List ℕ) (n : �
   pub keeps : KeepsFor files call image kept
   pub many : n ≤ length kept
 
--- an image that keeps epochs which cover the job
+-- an image that keeps epochs which cover the job or the part
 pub record KeepsAll (files : Files) (call : Call) (image : List ℕ) : Type 0 where
   pub kept : List KeptEpoch
   pub keeps : KeepsFor files call image kept

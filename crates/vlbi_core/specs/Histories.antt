@@ -1,21 +1,22 @@
--- Calls of `run` one after another, each of which ends in its answer or in a crash.
+-- Calls that sum one after another, each of which ends in its answer or in a crash.
 use Rattle.std.specs.Prelude.{◌≡◌, ◌⊎◌, ⊤, ℕ, ◌<◌, ◌≤◌, true, List, [], ◌∷◌, slice_get, Option, Some, is_some, Ok}
 use Rattle.dev_traits.specs.Told.{more, WhereTold}
 use Rattle.corr_model.specs.Files.{Files}
-use Rattle.job_plan.specs.Output.{output}
 use Rattle.journal_image.specs.Image.{is_blank, KeptEpoch}
-use Rattle.vlbi_core.specs.Calls.{Call, OfJob, OutcomeOf, KeepsFor, KeepsAll}
+use Rattle.vlbi_core.specs.Calls.{Call, OfJob, OutcomeOf, end_text, KeepsFor, KeepsAll}
 use Rattle.vlbi_core.specs.Restart.{IsHonest, AllKeep, Restarts, AppendsOutput}
 
--- These words come to this call of `run`.
+-- These words come to this call, which sums.
 pub record IsRunBy (files : Files) (words : List (List ℕ)) (call : Call) : Type 0 where
   pub outcome : OutcomeOf words files (Ok (OfJob call))
   pub run : call.sums ≡ true
 
--- Calls for one job: they name one job text and one schedule, or none. The samples of an epoch, the workers, the piece and the order of
--- the options may differ.
-abbrev pub IsSameJob : Call → Call → Type 0
-IsSameJob a b = (a.job ≡ b.job) × (a.vex ≡ b.vex)
+-- Calls for one job, or for one part of it: they name one job text and one schedule, or none, and one part, or none. The samples of an
+-- epoch, the workers, the piece and the order of the options may differ.
+pub record IsSameJob (a b : Call) : Type 0 where
+  pub job : a.job ≡ b.job
+  pub vex : a.vex ≡ b.vex
+  pub part : a.part ≡ b.part
 
 -- How a call ended: in its answer, or in a crash at one of its moments, of which this image is left.
 pub data End : Type 0 where
@@ -50,7 +51,7 @@ module _ {D : Type 0} (seen : D → Option (List ℕ)) (moment : D → ℕ) (may
   IsEnd Answered old new = ⊤
   IsEnd (Crashed t left) old new = (moment old ≤ t) × ((t ≤ moment new) × may_leave new t left)
 
-  -- A call of `run` for the job of another one: it begins on these images, on a disk that tells its content; what it leaves and
+  -- A call that sums for the job of another one: it begins on these images, on a disk that tells its content; what it leaves and
   -- appends is what the contract of `run` says.
   pub record IsStep (files : Files) (job : Call) (images : List ℕ → Type 0) (step : Step D) : Type 0 where
     pub runs : IsRunBy files step.words step.call
@@ -73,8 +74,8 @@ module _ {D : Type 0} (seen : D → Option (List ℕ)) (moment : D → ℕ) (may
   IsLater i step t j t' = ((i < j) × (t ≤ stop step.end step.new)) ⊎ ((i ≡ j) × (t ≤ t'))
 
   -- What holds over a history: each image of each moment of each call is honest; what every image of a moment keeps, every image of
-  -- every later moment keeps, across crashes; and a call with status 0 has appended exactly the record file of the direct sums, and
-  -- leaves epochs that cover the job in each image.
+  -- every later moment keeps, across crashes; and a call with status 0 has appended exactly the record file of the direct sums, or the line of
+  -- its part, and leaves epochs that cover the job or the part in each image.
   pub record Holds (files : Files) (job : Call) (steps : List (Step D)) : Type 0 where
     pub honest : (i : ℕ) (step : Step D) → slice_get steps i ≡ Some step
         → (t : ℕ) (image : List ℕ) → moment step.old ≤ t → t ≤ moment step.new → may_leave step.new t image → IsHonest files job image
@@ -82,7 +83,7 @@ module _ {D : Type 0} (seen : D → Option (List ℕ)) (moment : D → ℕ) (may
         → (t t' n : ℕ) → moment a.old ≤ t → t ≤ moment a.new → moment b.old ≤ t' → t' ≤ moment b.new → IsLater i a t j t'
         → AllKeep files job (may_leave a.new t) n → AllKeep files job (may_leave b.new t') n
     pub output : (i : ℕ) (step : Step D) → slice_get steps i ≡ Some step → step.status ≡ 0
-        → step.told_new ≡ more step.told_old (output job.plan files)
+        → step.told_new ≡ more step.told_old (end_text files job)
     pub all : (i : ℕ) (step : Step D) → slice_get steps i ≡ Some step → step.status ≡ 0
         → (image : List ℕ) → may_leave step.new (moment step.new) image → KeepsAll files job image
 

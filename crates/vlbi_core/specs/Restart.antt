@@ -2,7 +2,6 @@
 use Rattle.std.specs.Prelude.{◌≡◌, ◌⊎◌, ⊤, ℕ, ◌+◌, ◌≤◌, true, false, List, Option, None, Some, Result, Ok, Err}
 use Rattle.dev_traits.specs.Told.{more}
 use Rattle.corr_model.specs.Files.{Files}
-use Rattle.job_plan.specs.Output.{output}
 use Rattle.journal_image.specs.Image.{KeptEpoch}
 use Rattle.checkpoint_journal.specs.Runs.{StepTold, KeepsEpochs}
 use Rattle.run_words.specs.declared.fault.WordsFault.{WordsFault}
@@ -10,7 +9,7 @@ use Rattle.run_words.specs.declared.order.Order.{Order}
 use Rattle.run_words.specs.declared.order.Order.TheVariants.{Gen}
 use Rattle.run_notes.specs.Answers.{journal_answer}
 use Rattle.run_notes.specs.Refusals.{Outcomes}
-use Rattle.vlbi_core.specs.Calls.{Call, Task, OfJob, identity_for, sizes_for, KeepsFor, KeepsManyFor, KeepsAtLeast, KeepsAll, is_run}
+use Rattle.vlbi_core.specs.Calls.{Call, Task, OfJob, end_text, identity_for, sizes_for, KeepsFor, KeepsManyFor, KeepsAtLeast, KeepsAll, is_writer}
 use Rattle.vlbi_core.specs.Texts.{AreSums}
 
 -- An image is honest for a call where it is blank, or of the job's form, and the body of each epoch that it keeps is the text of the epoch's
@@ -20,7 +19,7 @@ pub record IsHonest (files : Files) (call : Call) (image : List ℕ) : Type 0 wh
   pub keeps : KeepsFor files call image kept
   pub sums : AreSums files call.plan kept
 
--- A call of `run` continues its job where every image that a crash may leave on entry is honest.
+-- A call that sums continues its job, or its part, where every image that a crash may leave on entry is honest.
 pub record Continues (files : Files) (call : Call) (images : List ℕ → Type 0) : Type 0 where
   pub run : call.sums ≡ true
   pub honest : (image : List ℕ) → images image → IsHonest files call image
@@ -36,7 +35,7 @@ NoneIsLost files call moment may_leave old new =
 
 -- The call ends no earlier than it began, and no moment up to its beginning gets an image that it did not have. Every image of every
 -- moment of the call is honest; what each image of a moment keeps, each image of every later moment keeps; and with status 0 each
--- image at the end keeps epochs that cover the job.
+-- image at the end keeps epochs that cover the job or the part.
 pub record StaysHonest {D : Type 0} (files : Files) (call : Call) (status : ℕ) (moment : D → ℕ) (may_leave : D → ℕ → List ℕ → Type 0) (old new : D) : Type 0 where
   pub later : moment old ≤ moment new
   pub past : (t : ℕ) (image : List ℕ) → t ≤ moment old → may_leave new t image → may_leave old t image
@@ -44,33 +43,33 @@ pub record StaysHonest {D : Type 0} (files : Files) (call : Call) (status : ℕ)
   pub never_falls : NoneIsLost files call moment may_leave old new
   pub all : status ≡ 0 → (image : List ℕ) → may_leave new (moment new) image → KeepsAll files call image
 
--- What a call leaves where words and files come to a call of `run` that continues its job.
+-- What a call leaves where words and files come to one that sums and continues its job or its part.
 abbrev pub Restarts : {D : Type 0} → Outcomes Task → Files → ℕ → (D → ℕ) → (D → ℕ → List ℕ → Type 0) → D → D → Type 0
 Restarts outcomes files status moment may_leave old new =
     (call : Call) → outcomes (Ok (OfJob call)) → Continues files call (may_leave old (moment old))
     → StaysHonest files call status moment may_leave old new
 
--- Such a call that is done has appended the record file of the direct sums.
+-- Such a call that is done has appended the record file of the direct sums, or the line of its part.
 abbrev pub AppendsOutput : Outcomes Task → Files → (List ℕ → Type 0) → ℕ → Option (List ℕ) → Option (List ℕ) → Type 0
 AppendsOutput outcomes files images status told_old told_new =
     (call : Call) → outcomes (Ok (OfJob call)) → Continues files call images
-    → status ≡ 0 → told_new ≡ more told_old (output call.plan files)
+    → status ≡ 0 → told_new ≡ more told_old (end_text files call)
 
--- words of `run`, and words that are not
-abbrev pub IsRunOf : Result Order WordsFault → Type 0
-IsRunOf (Ok order) = is_run order ≡ true
-IsRunOf (Err fault) = ⊥
+-- words of a command that sums into the journal, and words that are not
+abbrev pub IsWriterOf : Result Order WordsFault → Type 0
+IsWriterOf (Ok order) = is_writer order ≡ true
+IsWriterOf (Err fault) = ⊥
 
-abbrev pub IsNoRun : Result Order WordsFault → Type 0
-IsNoRun (Ok order) = is_run order ≡ false
-IsNoRun (Err fault) = ⊤
+abbrev pub IsNoWriter : Result Order WordsFault → Type 0
+IsNoWriter (Ok order) = is_writer order ≡ false
+IsNoWriter (Err fault) = ⊤
 
 -- words of `gen`
 abbrev pub IsGenOf : Result Order WordsFault → Type 0
 IsGenOf (Ok (Gen seed seconds workers piece)) = ⊤
 IsGenOf _ = ⊥
 
--- What the line of a journal's fault says. Where a call of `run` names k epochs as kept, each image at the end keeps k or k + 1.
+-- What the line of a journal's fault says. Where a call that sums names k epochs as kept, each image at the end keeps k or k + 1.
 -- Where it names none, nothing was appended, and what the disk reads keeps what it kept. `status` names none.
 pub record SaysKept (files : Files) (call : Call) (line : List ℕ) (images : List ℕ → Type 0) (before after told_old told_new : Option (List ℕ)) : Type 0 where
   pub named : call.sums ≡ true → (k : ℕ) → line ≡ (journal_answer (Some k)).note

@@ -12,7 +12,7 @@ use Rattle.run_notes.specs.Answers.{Answer, words_answer, memory_answer, read_an
 use Rattle.run_notes.specs.Refusals.{Outcomes, answer_of}
 use Rattle.vlbi_core.specs.Calls.{Call, Task, OfJob, OfText, identity_for, sizes_for, IsOursFor}
 use Rattle.vlbi_core.specs.Texts.{IsText, IsPart}
-use Rattle.vlbi_core.specs.Restart.{SaysKept, IsNoRun}
+use Rattle.vlbi_core.specs.Restart.{SaysKept, IsNoWriter}
 use Rattle.vlbi_core.specs.Steps.{OutcomeFrom}
 
 -- the statuses of what is wrong with words and files
@@ -27,8 +27,8 @@ IsDueStatus status = (status ≡ 10) ⊎ IsVerdictStatus status
 abbrev pub IsStatus : ℕ → Type 0
 IsStatus status = (status ≡ 0) ⊎ ((status ≡ 1) ⊎ ((status ≡ 7) ⊎ ((status ≡ 8) ⊎ ((status ≡ 9) ⊎ IsDueStatus status))))
 
--- A journal that a call can go on from: its count of faults did not rise, what a read gives is blank or of the job's form, and for a call of
--- `run` it has fewer than 2^62 bytes, so that it has room for the rest of the job.
+-- A journal that a call can go on from: its count of faults did not rise, what a read gives is blank or of the job's form, and for a call that
+-- sums it has fewer than 2^62 bytes, so that it has room for the rest of the job or its part.
 pub record IsUsableJournal (files : Files) (call : Call) (journal : Option (List ℕ)) (fault : Type 0) : Type 0 where
   pub sound : ¬ fault
   pub image : List ℕ
@@ -112,14 +112,14 @@ pub record IsNoted (line : List ℕ) (old new : Option (List ℕ)) (fault : Type
   pub all : ¬ fault → new ≡ more old line
 
 -- The note of a call is a line of its status: with status 2 that of the words' fault, and of a fault of the journal in any call but one
--- of `run` that without a number. Where the shelf tells its files it is the line of what words and files come to, and says how many epochs the
+-- that sums that without a number. Where the shelf tells its files it is the line of what words and files come to, and says how many epochs the
 -- journal keeps. It stands in the notes, or where these failed a first part of it.
 pub record IsNoteOf (wanted : Result Order WordsFault) (shelf : Option Files) (status : ℕ) (images : List ℕ → Type 0)
     (before after told_old told_new notes_old notes_new : Option (List ℕ)) (fault : Type 0) : Type 0 where
   pub line : List ℕ
   pub some : IsSomeLine status line
   pub words : status ≡ 2 → IsWordsLine wanted line
-  pub unnumbered : IsNoRun wanted → status ≡ 8 → line ≡ (journal_answer None).note
+  pub unnumbered : IsNoWriter wanted → status ≡ 8 → line ≡ (journal_answer None).note
   pub verdict : WhereTold shelf (λ files. IsLineOf (OutcomeFrom wanted files) files before status line)
   pub says : WhereTold shelf (λ files. (call : Call) → OutcomeFrom wanted files (Ok (OfJob call))
       → SaysKept files call line images before after told_old told_new)

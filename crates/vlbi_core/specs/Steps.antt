@@ -5,7 +5,6 @@ use Rattle.dev_traits.specs.Told.{more, WhereTold}
 use Rattle.corr_model.specs.Files.{Files}
 use Rattle.job_plan.specs.declared.plan.Plan.{Plan}
 use Rattle.job_plan.specs.Ranges.{IsPlan}
-use Rattle.job_plan.specs.Output.{output}
 use Rattle.journal_image.specs.declared.difference.Differs.{Differs}
 use Rattle.piece_plan.specs.Epochs.{JobSizes}
 use Rattle.checkpoint_journal.specs.Finding.{IsOther}
@@ -19,9 +18,9 @@ use Rattle.run_notes.specs.Refusals.{Outcomes, MatchJournal, due_answer}
 use Rattle.run_ready.specs.Steps.{Is, Then, answered}
 use Rattle.journal_rounds.specs.Counted.{IsFull}
 use Rattle.journal_rounds.specs.Extended.{Extends}
-use Rattle.vlbi_core.specs.Calls.{Call, Task, OfJob, OfText, TaskFor, identity_for, sizes_for, IsOursFor, KeepsManyFor, KeepsAll}
+use Rattle.vlbi_core.specs.Calls.{Call, Task, OfJob, OfText, TaskFor, end_text, identity_for, sizes_for, IsOursFor, KeepsManyFor, KeepsAll}
 use Rattle.vlbi_core.specs.Texts.{IsSummedFor, IsText, IsPart}
-use Rattle.vlbi_core.specs.Restart.{IsHonest, IsRunOf, IsNoRun}
+use Rattle.vlbi_core.specs.Restart.{IsHonest, IsWriterOf, IsNoWriter}
 
 -- what words and files come to, by the order that the words give
 abbrev pub OutcomeFrom : Result Order WordsFault → Files → Outcomes Task
@@ -126,7 +125,7 @@ pub record IsOtherCause (outcomes : Outcomes Task) (files : Files) (before : Opt
   pub outcome : outcomes (Ok (OfJob call))
   pub other : WhereTold before (λ image. IsOther (identity_for files call) (sizes_for call) image d)
 
--- What a fault of the journal says in a call of `run`: of each image how many epochs it keeps, or that nothing was appended
+-- What a fault of the journal says in a call that sums: of each image how many epochs it keeps, or that nothing was appended
 -- and all that was kept is kept.
 abbrev pub SaysFor : Option ℕ → Files → Call → (List ℕ → Type 0) → Option (List ℕ) → Option (List ℕ) → Option (List ℕ) → Option (List ℕ) → Type 0
 SaysFor (Some k) files call images before after old new =
@@ -140,7 +139,7 @@ pub record IsJournalCause (outcomes : Outcomes Task) (files : Files) (images : L
   pub says : call.sums ≡ true → SaysFor kept files call images before after old new
   pub unnamed : call.sums ≡ false → kept ≡ None
 
--- The journal of a call of `run` is full: no byte is left behind its last gate for the next record or mark. It was read, and had 2^62 bytes
+-- The journal of a call that sums is full: no byte is left behind its last gate for the next record or mark. It was read, and had 2^62 bytes
 -- or more on entry.
 pub record IsFullFor (outcomes : Outcomes Task) (files : Files) (before after : Option (List ℕ)) : Type 0 where
   pub call : Call
@@ -178,8 +177,8 @@ IsPartly Read outcomes files before after old new = (new ≡ old) ⊎ IsPart out
 IsPartly (Journal kept) outcomes files before after old new = (new ≡ old) ⊎ IsPart outcomes files before after old new
 IsPartly Write outcomes files before after old new = IsPart outcomes files before after old new
 
--- A call is done: its text was appended, and behind a call of `run` each image keeps epochs that cover the job, and the text is that of
--- the direct sums where the image on entry was honest.
+-- A call is done: its text was appended, and behind a call that sums each image keeps epochs that cover the job or its part, and the text is that of
+-- the direct sums, or a part's line, where the image on entry was honest.
 pub record IsDone {D : Type 0} (outcomes : Outcomes Task) (files : Files) (seen : D → Option (List ℕ)) (moment : D → ℕ) (may_leave : D → ℕ → List ℕ → Type 0)
     (before after : D) (old new : Option (List ℕ)) : Type 0 where
   pub task : Task
@@ -189,9 +188,9 @@ pub record IsDone {D : Type 0} (outcomes : Outcomes Task) (files : Files) (seen 
   pub is : IsText files task (seen before) (seen after) text
   pub told : new ≡ more old text
   pub all : (call : Call) → task ≡ OfJob call → call.sums ≡ true → (image : List ℕ) → may_leave after (moment after) image → KeepsAll files call image
-  pub sums : (call : Call) → task ≡ OfJob call → call.sums ≡ true → WhereTold (seen before) (λ image. IsHonest files call image → new ≡ more old (output call.plan files))
+  pub sums : (call : Call) → task ≡ OfJob call → call.sums ≡ true → WhereTold (seen before) (λ image. IsHonest files call image → new ≡ more old (end_text files call))
 
--- A call wrote to the journal: it is one of `run`, what a read of the journal gave on entry is blank or of the job's form, and each
+-- A call wrote to the journal: it is one that sums, what a read of the journal gave on entry is blank or of the job's form, and each
 -- image goes on from one before it with epochs of the length in force and their sums.
 pub record IsRunning {D : Type 0} (outcomes : Outcomes Task) (files : Files) (seen : D → Option (List ℕ)) (moment : D → ℕ) (may_leave : D → ℕ → List ℕ → Type 0)
     (before after : D) : Type 0 where
@@ -201,7 +200,7 @@ pub record IsRunning {D : Type 0} (outcomes : Outcomes Task) (files : Files) (se
   pub opened : WhereTold (seen before) (IsOursFor files call)
   pub changes : Changes seen moment may_leave (Extends (IsSummedFor files call) (identity_for files call) (sizes_for call)) before after
 
--- A call gave the journal no image that it did not have, or it is a call of `run` that wrote to it.
+-- A call gave the journal no image that it did not have, or it is a call that sums and wrote to it.
 abbrev pub Goes : {D : Type 0} → Outcomes Task → Files → (D → Option (List ℕ)) → (D → ℕ) → (D → ℕ → List ℕ → Type 0) → D → D → Type 0
 Goes outcomes files seen moment may_leave before after =
     Looks seen moment may_leave before after ⊎ IsRunning outcomes files seen moment may_leave before after
@@ -247,11 +246,11 @@ MatchVerdict (DueRefusal due) P Q = Q
 MatchVerdict (Other d) P Q = P
 MatchVerdict _ P Q = ⊤
 
--- What a call left: with a verdict the output, in a call of `run` the output before all is summed, in any other call and where
+-- What a call left: with a verdict the output, in a call that sums the output before all is summed, in any other call and where
 -- the words or files are wrong the journal's images, and what is read of another job's journal.
 pub record Leaves {D : Type 0} (wanted : Result Order WordsFault) (seen : D → Option (List ℕ)) (moment : D → ℕ) (may_leave : D → ℕ → List ℕ → Type 0)
     (before after : D) (old new : Option (List ℕ)) (result : Result (Unit {0}) Refusal) : Type 0 where
   pub nothing : IfErr result (λ r. MatchDue r (new ≡ old))
-  pub whole : IsRunOf wanted → IfErr result (λ r. MatchEarly r (new ≡ old))
-  pub untouched : IsNoRun wanted → Looks seen moment may_leave before after
+  pub whole : IsWriterOf wanted → IfErr result (λ r. MatchEarly r (new ≡ old))
+  pub untouched : IsNoWriter wanted → Looks seen moment may_leave before after
   pub verdict : IfErr result (λ r. MatchVerdict r (seen after ≡ seen before) (Looks seen moment may_leave before after))

@@ -1,5 +1,5 @@
 -- What a call appends where it is done.
-use Rattle.std.specs.Prelude.{◌≡◌, ℕ, ◌+◌, Bool, true, false, List, ◌++◌, map, Option, Ok, Some}
+use Rattle.std.specs.Prelude.{◌≡◌, ℕ, ◌+◌, Bool, true, false, List, ◌++◌, map, Option, Ok, None, Some}
 use Rattle.std.specs.List.{All}
 use Rattle.dev_traits.specs.Told.{WhereTold, PrefixMore}
 use Rattle.corr_model.specs.Files.{Files}
@@ -14,8 +14,8 @@ use Rattle.run_notes.specs.Refusals.{Outcomes}
 use Rattle.journal_rounds.specs.Extended.{BodyOf, IsSummed}
 use Rattle.journal_rounds.specs.Room.{DueIn}
 use Rattle.journal_records.specs.Kept.{kept_text}
-use Rattle.run_summary.specs.Summaries.{kept_line}
-use Rattle.vlbi_core.specs.Calls.{Call, Task, OfJob, OfText, identity_for, sizes_for, epoch_for, KeepsFor, KeepsManyFor}
+use Rattle.run_summary.specs.Summaries.{kept_line, shard_line}
+use Rattle.vlbi_core.specs.Calls.{Part, Call, Task, OfJob, OfText, identity_for, sizes_for, epoch_for, KeepsFor, KeepsManyFor}
 
 -- the text of an epoch's sums
 abbrev pub IsSums : Files → Plan → EpochPlan → List ℕ → Type 0
@@ -29,16 +29,20 @@ AreSums files plan kept = All (λ (k : KeptEpoch). IsSums files plan k.epoch k.b
 abbrev pub IsSummedFor : Files → Call → BodyOf
 IsSummedFor files call = IsSummed (Some files) call.plan (sizes_for call) (epoch_for call)
 
--- The records of what the journal keeps at the end: first the epochs that it kept on entry, then further ones with the sums of each, which
--- together cover the job.
-pub record IsRecords (files : Files) (call : Call) (before after text : List ℕ) : Type 0 where
+-- What the journal keeps at the end: first the epochs that it kept on entry, then further ones with the sums of each, which together cover
+-- the job or the part.
+pub record IsCovered (files : Files) (call : Call) (before after : List ℕ) : Type 0 where
   pub old : List KeptEpoch
   pub more : List KeptEpoch
   pub entry : KeepsFor files call before old
   pub end : KeepsFor files call after (old ++ more)
   pub sums : All (λ (k : KeptEpoch). IsSummedFor files call k.epoch k.body) more
   pub all : CoverJob (sizes_for call) (map (λ (k : KeptEpoch). k.epoch) (old ++ more))
-  pub records : text ≡ kept_text call.plan (old ++ more)
+
+-- the records of that
+pub record IsRecords (files : Files) (call : Call) (before after text : List ℕ) : Type 0 where
+  pub covered : IsCovered files call before after
+  pub records : text ≡ kept_text call.plan (covered.old ++ covered.more)
 
 -- The line of how many epochs the journal keeps, and of how many: those, and those of the length in force that are left from the place behind
 -- them.
@@ -51,14 +55,15 @@ pub record IsKeptLine (files : Files) (call : Call) (image text : List ℕ) : Ty
   pub are_left : AreLeft (sizes_for call) (epoch_for call) due left
   pub line : text ≡ kept_line kept (kept + left)
 
--- the text of a task, by what the journal's disk reads before it and after it
+-- The text of a task, by what the journal's disk reads before it and after it. That of a part is a line, and the journal keeps the part's sums.
 abbrev pub IsText : Files → Task → Option (List ℕ) → Option (List ℕ) → List ℕ → Type 0
 IsText files (OfText written) before after text = text ≡ written
-IsText files (OfJob call) before after text = by call.sums
+IsText files (OfJob call) before after text = by call.sums call.part
   where
-    by : Bool → Type 0
-    by true = WhereTold before (λ old. WhereTold after (λ new. IsRecords files call old new text))
-    by false = WhereTold before (λ image. IsKeptLine files call image text)
+    by : Bool → Option Part → Type 0
+    by true None = WhereTold before (λ old. WhereTold after (λ new. IsRecords files call old new text))
+    by true (Some part) = (text ≡ shard_line part.from part.to) × WhereTold before (λ old. WhereTold after (λ new. IsCovered files call old new))
+    by false part = WhereTold before (λ image. IsKeptLine files call image text)
 
 -- a first part of the text of the task, where there is one
 pub record IsPart (outcomes : Outcomes Task) (files : Files) (before after old new : Option (List ℕ)) : Type 0 where

@@ -1,8 +1,9 @@
 //! The parts of a call that work on a job which is ready, with the refusals of a call: an epoch is summed, the journal is brought to
 //! the job's end, and its records are written.
-ghost use Rattle.std.specs.Prelude.{◌≡◌, ◌≤◌, ℕ, List, None, Ok, IfOk, IfErr, IfSome, IsSome, unwrap_or};
+ghost use Rattle.std.specs.Prelude.{◌≡◌, ◌<◌, ◌≤◌, ◌^◌, ℕ, List, length, None, Ok, IfOk, IfErr, IfSome, IsSome, unwrap_or};
 ghost use Rattle.dev_traits.specs.Told.{WhereTold};
 ghost use Rattle.piece_plan.specs.Epochs.{IsEpoch};
+ghost use Rattle.piece_plan.specs.Limited.{IsPart};
 ghost use Rattle.station_stream.specs.Recorded.{AreRecorded};
 ghost use Rattle.epoch_run.specs.Sums.{pieces_in_epoch};
 ghost use Rattle.checkpoint_journal.specs.Standing.{Stands, StandsOn};
@@ -22,11 +23,11 @@ ghost use Rattle.vlbi_core.specs.Steps.{CountsJournalOr};
 
 use crate::order::{epoch_of, job_of, vex_of};
 use atomic_sums::EpochSums;
-use checkpoint_journal::{Journal, OpenFault};
+use checkpoint_journal::{Identity, Journal, OpenFault};
 use dev_traits::{Disk, Gate, Shelf, Sink};
 use journal_records::EmitFault;
 use journal_rounds::ResumeFault;
-use piece_plan::EpochPlan;
+use piece_plan::{EpochPlan, JobPlan};
 use ready_job::Ready;
 use run_notes::Refusal;
 use run_words::Order;
@@ -102,18 +103,18 @@ pub fn resume<R: Threads + Sync, F: Shelf + Send, D: Disk + Send, G: Gate + Sync
     ensures journal { CountsJournalOr (HasNoPlace ready.now.identity ready.now.epochs ready.now.epoch (D.seen disk.old) (D.seen disk.new))
         (D.faults disk.old) (D.faults disk.new) result }
 {
-    resumed(journal_rounds::resume(
+    resume_part(
         rt,
         alloc,
         ready,
+        &ready.epochs,
         &ready.identity,
         shelf,
         disk,
-        ready.epoch,
         workers,
         piece,
         gate,
-    ))
+    )
 }
 
 /// Appends the record file of a job that the epochs of its journal cover.
@@ -137,6 +138,52 @@ pub fn emit<D: Disk, S: Sink>(
     ensures writes { CountsWrites (S.faults out.old) (S.faults out.new) result }
 {
     emitted(journal_records::emit(alloc, ready, journal, disk, out))
+}
+
+/// Brings the journal of a part of a job to its end, as `resume` does that of a whole one. These are the plan of the part and its
+/// identity.
+pub(crate) fn resume_part<R: Threads + Sync, F: Shelf + Send, D: Disk + Send, G: Gate + Sync>(
+    rt: &R,
+    alloc: Global,
+    ready: &Ready,
+    part: &JobPlan,
+    id: &Identity,
+    shelf: &mut F,
+    disk: &mut D,
+    workers: u32,
+    piece: u64,
+    gate: &G,
+) -> Result<Journal, Refusal>
+    requires part { IsPart ready.now.epochs part.now }
+    requires recorded { WhereTold (F.told shelf.old) (λ files. AreRecorded files ready.now.plan.stations ready.now.recordings.items) }
+    requires short { length id.now < 2 ^ 62 }
+    requires workers { (1 ≤ workers) × (workers ≤ 64) }
+    requires piece { (64 ≤ piece) × (piece ≤ 4194304) }
+    ensures same { F.told shelf.new ≡ F.told shelf.old }
+    ensures stands { IfOk result (λ journal. Stands id.now part.now journal (D.seen disk.new) (D.may_leave disk.new (D.moment disk.new))) }
+    ensures covers { IfOk result (λ journal. journal.end.next ≡ None) }
+    ensures changes { Changes D.seen D.moment D.may_leave
+        (Extends (IsSummed (F.told shelf.old) ready.now.plan part.now ready.now.epoch) id.now part.now) disk.old disk.new }
+    ensures spares { Spares D.seen D.moment D.may_leave id.now part.now disk.old disk.new }
+    ensures refused { IfErr result (IsRefusedFor id.now part.now (D.seen disk.old) (D.seen disk.new)) }
+    ensures named { IfErr result (KeepsNamed id.now part.now (D.may_leave disk.new (D.moment disk.new))) }
+    ensures reads { CountsReadsBeside (F.faults shelf.old) (F.faults shelf.new) result }
+    ensures journal { CountsJournalOr (HasNoPlace id.now part.now ready.now.epoch (D.seen disk.old) (D.seen disk.new))
+        (D.faults disk.old) (D.faults disk.new) result }
+{
+    resumed(journal_rounds::resume(
+        rt,
+        alloc,
+        ready,
+        part,
+        id,
+        shelf,
+        disk,
+        ready.epoch,
+        workers,
+        piece,
+        gate,
+    ))
 }
 
 // The answer of a call that summed an epoch.

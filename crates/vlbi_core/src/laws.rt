@@ -11,6 +11,7 @@ use journal_image::laws::reads;
 use run_bins::laws::one_plan;
 use run_dump::laws::one_shown;
 use run_fringe::laws::{one_search, one_verdict};
+use run_part::laws::{one_part, parts_have_the_plan};
 use run_ready::laws::{one_outcome, one_plan_for_job};
 
 /// Words and files come to one thing, and never to two: a job and its journal, the text that a command appends, or the answer of the first
@@ -23,26 +24,29 @@ pub fn one_task()
     one_search();
     one_verdict();
     one_plan();
+    one_part();
 }
 
-/// Calls of `run` for one job, on a disk that tells its content, as often as one likes, each of which ends in its answer or in a crash at
-/// any of its moments: where the first begins on a journal each image of which is blank or honest, each image of each moment of each call
-/// is honest; what every image of a moment keeps, every image of every later moment keeps; and a call with status 0 has appended exactly
-/// the record file of the direct sums.
+/// Calls of `run` for one job, or of `shard` for one part of it, on a disk that tells its content, as often as one likes, each of which ends
+/// in its answer or in a crash at any of its moments: where the first begins on a journal each image of which is blank or honest, each image
+/// of each moment of each call is honest; what every image of a moment keeps, every image of every later moment keeps; and a call with status
+/// 0 has appended exactly the record file of the direct sums, or the line of its part.
 pub fn one_after_another<D: Disk>()
     ensures { HoldsOver D.seen D.moment D.may_leave }
 {
     one_outcome();
     one_plan_for_job();
+    parts_have_the_plan();
     reads();
 }
 
-/// What is honest for a call of `run`, what is kept and what the records are does not depend on the samples of an epoch, the workers, the
-/// piece or the order of the options.
+/// What is honest for a call of `run` or `shard`, what is kept and what the records are does not depend on the samples of an epoch, the
+/// workers, the piece or the order of the options.
 pub fn alike_by_job()
     ensures { AlikeByJob }
 {
     one_outcome();
     one_plan_for_job();
+    parts_have_the_plan();
     reads();
 }

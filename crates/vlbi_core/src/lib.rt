@@ -1,12 +1,14 @@
 //! The correlator: the top call `run`, and what it is made of. It stands on `run_words` for the words, on `run_ready` for what
-//! comes before the output, on `plain_sums` for the cells of an integration, on `journal_rounds` for the sums of a job in its journal,
-//! on `vis_writer` and `journal_records` for the records, on `run_summary` for summaries, on `run_dump` for a record file that is shown, on
-//! `run_fringe` for the peaks of one and their certificate, on `run_bins` for the cells by the bins of a pulse, on `sample_gen`, `sample_job` and `gen_summary` for a generated job and its
-//! totals, and on `run_notes` for statuses and notes.
+//! comes before the output, on `run_part` for that of a part of a job, on `plain_sums` for the cells of an integration, on
+//! `journal_rounds` for the sums of a job or of a part in its journal, on `vis_writer` and `journal_records` for the records, on
+//! `run_summary` for summaries, on `run_dump` for a record file that is shown, on `run_fringe` for the peaks of one and their
+//! certificate, on `run_bins` for the cells by the bins of a pulse, on `sample_gen`, `sample_job` and `gen_summary` for a generated
+//! job and its totals, and on `run_notes` for statuses and notes.
 //!
 //! `run` reads a schedule, a job and the recordings, and does what its command says: it appends the record text over the direct
-//! sums of their samples, in one go or by way of a journal that outlasts a crash, or says what there is. Its clauses say when each
-//! status comes, what is appended with each, what is in the journal at every moment, and what the notes get.
+//! sums of their samples, in one go or by way of a journal that outlasts a crash, sums a part of them into such a journal, or
+//! says what there is. Its clauses say when each status comes, what is appended with each, what is in the journal at every
+//! moment, and what the notes get.
 #![tactic(auto)]
 
 mod check;
@@ -16,6 +18,7 @@ pub mod laws;
 mod order;
 mod plain;
 mod sample;
+mod shard;
 mod status;
 mod sure_shelf;
 mod top;

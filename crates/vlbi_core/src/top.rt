@@ -5,9 +5,9 @@ ghost use Rattle.dev_traits.specs.Told.{WhereTold};
 ghost use Rattle.checkpoint_journal.specs.Runs.{Looks};
 ghost use Rattle.run_words.specs.Orders.{IsOrder};
 ghost use Rattle.run_notes.specs.Counted.{CountsReads, CountsReadsBeside, CountsJournal, CountsWrites};
-ghost use Rattle.vlbi_core.specs.Calls.{texts_of, order_in, is_run, OutcomeOf};
+ghost use Rattle.vlbi_core.specs.Calls.{texts_of, order_in, is_writer, OutcomeOf};
 ghost use Rattle.vlbi_core.specs.Run.{IsVerdictStatus, IsDueStatus, IsStatus, IsVerdict, IsAppended, IsNoteOf};
-ghost use Rattle.vlbi_core.specs.Restart.{Restarts, AppendsOutput, IsRunOf, IsNoRun, IsGenOf};
+ghost use Rattle.vlbi_core.specs.Restart.{Restarts, AppendsOutput, IsWriterOf, IsNoWriter, IsGenOf};
 ghost use Rattle.vlbi_core.specs.Steps.{OutcomeFrom, IsWorded, IsBehindWords, IsShort, IsUnnumbered, IsFullFor, CountsJournalOr, IsOfSample, Goes, GoesRanged, Does, Leaves};
 
 use crate::check::check_job;
@@ -16,6 +16,7 @@ use crate::laws::one_task;
 use crate::order::read_order;
 use crate::plain::plain_job;
 use crate::sample::total_sample;
+use crate::shard::shard_job;
 use crate::status::journal_status;
 use dev_traits::{Disk, Gate, Shelf, Sink};
 use run_bins::write_bins;
@@ -28,8 +29,9 @@ use std::thread::Threads;
 
 /// Does what the words ask for, and answers the status. `words` are the command and what follows it; the files are read from
 /// `shelf`, records and summaries go to `out`, and a refusal's line to `notes`. `journal` is the file in which a call of `run`
-/// keeps each epoch once it is summed, so that a later call goes on from there; `status` reads it, and no other command uses it.
-/// `gate` is told each piece before a worker of `run`, `gen` or `bins` sums it; no clause speaks of it.
+/// keeps each epoch of a job once it is summed, and one of `shard` each of a part of a job, so that a later call goes on from
+/// there; `status` reads it, and no other command uses it. `gate` is told each piece before a worker of `run`, `shard`, `gen` or
+/// `bins` sums it; no clause speaks of it.
 ///
 /// | status | |
 /// |---|---|
@@ -43,7 +45,7 @@ use std::thread::Threads;
 /// | 7 | a read failed |
 /// | 8 | the journal failed, or is full |
 /// | 9 | the output failed |
-/// | 10 | the journal is another job's |
+/// | 10 | the journal is another job's, or of another part |
 /// | 11 | a named file is not there |
 /// | 12 | the text of phases is not accepted, or a scan has a sample without a phase |
 /// | 13 | a text is no right certificate of the record file |
@@ -66,40 +68,40 @@ pub fn run<R: Threads + Sync, F: Shelf + Send, D: Disk + Send, S: Sink, N: Sink,
     ensures wordless { IsErr (order_in (texts_of words.now)) → (result ≡ 2) ⊎ (result ≡ 1) }
     ensures generated { IsGenOf (order_in (texts_of words.now)) → (result ≡ 0) ⊎ ((result ≡ 1) ⊎ (result ≡ 9)) }
 
-    // What is appended: with the statuses of what is wrong nothing, whether the devices tell their content or not, and of `run`
-    // nothing before all is summed.
+    // What is appended: with the statuses of what is wrong nothing, whether the devices tell their content or not, and of `run` and
+    // `shard` nothing before all is summed.
     ensures nothing { IsDueStatus result → S.told out.new ≡ S.told out.old }
     ensures appended { WhereTold (F.told shelf.old) (λ files. IsAppended (OutcomeOf (texts_of words.now) files) files
         (D.seen journal.old) (D.seen journal.new) result (S.told out.old) (S.told out.new)) }
-    ensures whole { IsRunOf (order_in (texts_of words.now)) → (result ≡ 1) ⊎ (result ≡ 7) → S.told out.new ≡ S.told out.old }
+    ensures whole { IsWriterOf (order_in (texts_of words.now)) → (result ≡ 1) ⊎ (result ≡ 7) → S.told out.new ≡ S.told out.old }
 
-    // The headline: a call of `run` that continues its job keeps every image of the journal honest, at every moment, keeps what
-    // each image keeps, and with status 0 appends the record file of the direct sums.
+    // The headline: a call of `run` or `shard` that continues its job, or its part, keeps every image of the journal honest, at every moment, keeps
+    // what each image keeps, and with status 0 appends the record file of the direct sums, or the line of the part.
     ensures restart { WhereTold (F.told shelf.old) (λ files. Restarts (OutcomeOf (texts_of words.now) files) files result
         D.moment D.may_leave journal.old journal.new) }
     ensures headline { WhereTold (F.told shelf.old) (λ files. WhereTold (D.seen journal.old) (λ image. AppendsOutput
         (OutcomeOf (texts_of words.now) files) files (D.may_leave journal.old (D.moment journal.old)) result (S.told out.old) (S.told out.new))) }
 
-    // A call gives the journal an image that it did not have only where words and files come to a call of `run`, and what is read of
-    // the journal is blank or of the job's form. No other call does, nor does what is wrong with words and files.
+    // A call gives the journal an image that it did not have only where words and files come to a call of `run` or `shard`, and what is
+    // read of the journal is blank or of the form of the job, or of its part. No other call does, nor does what is wrong with words and files.
     ensures goes { WhereTold (F.told shelf.old) (λ files. Goes (OutcomeOf (texts_of words.now) files) files
         D.seen D.moment D.may_leave journal.old journal.new) }
-    ensures untouched { IsNoRun (order_in (texts_of words.now)) → Looks D.seen D.moment D.may_leave journal.old journal.new }
+    ensures untouched { IsNoWriter (order_in (texts_of words.now)) → Looks D.seen D.moment D.may_leave journal.old journal.new }
     ensures unopened { IsVerdictStatus result → Looks D.seen D.moment D.may_leave journal.old journal.new }
     ensures left { result ≡ 10 → D.seen journal.new ≡ D.seen journal.old }
 
     // The shelf tells what it told.
     ensures same { F.told shelf.new ≡ F.told shelf.old }
 
-    // Statuses 7, 8 and 9: only where a count rose, and else it stays. `run` reads while it writes the journal: where both counts
-    // rose, the status is that of the journal. That status comes of a call of `run` without a fault too, where a journal that had 2^62
+    // Statuses 7, 8 and 9: only where a count rose, and else it stays. `run` and `shard` read while they write the journal: where both counts
+    // rose, the status is that of the journal. That status comes of such a call without a fault too, where a journal that had 2^62
     // bytes or more on entry is full.
     ensures read { result ≡ 7 → HasRisen (F.faults shelf.old) (F.faults shelf.new) }
-    ensures no_read { result ≢ 7 → (result ≢ 8) ⊎ IsNoRun (order_in (texts_of words.now)) → F.faults shelf.new ≡ F.faults shelf.old }
+    ensures no_read { result ≢ 7 → (result ≢ 8) ⊎ IsNoWriter (order_in (texts_of words.now)) → F.faults shelf.new ≡ F.faults shelf.old }
     ensures no_fall { result ≢ 7 → F.faults shelf.old ≤ F.faults shelf.new }
     ensures kept { result ≡ 8 → HasRisen (D.faults journal.old) (D.faults journal.new) ⊎ ((D.faults journal.new ≡ D.faults journal.old)
         × WhereTold (F.told shelf.old) (λ files. IsFullFor (OutcomeOf (texts_of words.now) files) files (D.seen journal.old) (D.seen journal.new))) }
-    ensures kept_by_others { IsNoRun (order_in (texts_of words.now)) → result ≡ 8 → HasRisen (D.faults journal.old) (D.faults journal.new) }
+    ensures kept_by_others { IsNoWriter (order_in (texts_of words.now)) → result ≡ 8 → HasRisen (D.faults journal.old) (D.faults journal.new) }
     ensures no_kept { result ≢ 8 → D.faults journal.new ≡ D.faults journal.old }
     ensures write { result ≡ 9 → HasRisen (S.faults out.old) (S.faults out.new) }
     ensures no_write { result ≢ 9 → S.faults out.new ≡ S.faults out.old }
@@ -154,13 +156,13 @@ fn call<R: Threads + Sync, F: Shelf + Send, D: Disk + Send, S: Sink, G: Gate + S
     ensures ranged { WhereTold (F.told shelf.old) (λ files. GoesRanged (OutcomeOf (texts_of words.now) files) D.seen D.moment D.may_leave journal.old journal.new) }
     ensures leaves { Leaves (order_in (texts_of words.now)) D.seen D.moment D.may_leave journal.old journal.new (S.told out.old) (S.told out.new) result }
     ensures words { IsWorded (order_in (texts_of words.now)) result }
-    ensures unnumbered { IsNoRun (order_in (texts_of words.now)) → IfErr result IsUnnumbered }
+    ensures unnumbered { IsNoWriter (order_in (texts_of words.now)) → IfErr result IsUnnumbered }
     ensures generated { IsGenOf (order_in (texts_of words.now)) → IfErr result IsOfSample }
     ensures reads { CountsReadsBeside (F.faults shelf.old) (F.faults shelf.new) result }
-    ensures alone { IsNoRun (order_in (texts_of words.now)) → CountsReads (F.faults shelf.old) (F.faults shelf.new) result }
+    ensures alone { IsNoWriter (order_in (texts_of words.now)) → CountsReads (F.faults shelf.old) (F.faults shelf.new) result }
     ensures journal { CountsJournalOr (WhereTold (F.told shelf.old) (λ files. IsFullFor (OutcomeOf (texts_of words.now) files) files
         (D.seen journal.old) (D.seen journal.new))) (D.faults journal.old) (D.faults journal.new) result }
-    ensures journal_alone { IsNoRun (order_in (texts_of words.now)) → CountsJournal (D.faults journal.old) (D.faults journal.new) result }
+    ensures journal_alone { IsNoWriter (order_in (texts_of words.now)) → CountsJournal (D.faults journal.old) (D.faults journal.new) result }
     ensures writes { CountsWrites (S.faults out.old) (S.faults out.new) result }
 {
     let order = read_order(alloc, words)?;
@@ -183,13 +185,13 @@ fn command<R: Threads + Sync, F: Shelf + Send, D: Disk + Send, S: Sink, G: Gate 
     ensures ranged { WhereTold (F.told shelf.old) (λ files. GoesRanged (OutcomeFrom (Ok order.now) files) D.seen D.moment D.may_leave journal.old journal.new) }
     ensures leaves { Leaves (Ok order.now) D.seen D.moment D.may_leave journal.old journal.new (S.told out.old) (S.told out.new) result }
     ensures stage { IfErr result IsBehindWords }
-    ensures unnumbered { is_run order.now ≡ false → IfErr result IsUnnumbered }
+    ensures unnumbered { is_writer order.now ≡ false → IfErr result IsUnnumbered }
     ensures generated { IsGenOf (Ok order.now) → IfErr result IsOfSample }
     ensures reads { CountsReadsBeside (F.faults shelf.old) (F.faults shelf.new) result }
-    ensures alone { is_run order.now ≡ false → CountsReads (F.faults shelf.old) (F.faults shelf.new) result }
+    ensures alone { is_writer order.now ≡ false → CountsReads (F.faults shelf.old) (F.faults shelf.new) result }
     ensures journal { CountsJournalOr (WhereTold (F.told shelf.old) (λ files. IsFullFor (OutcomeFrom (Ok order.now) files) files
         (D.seen journal.old) (D.seen journal.new))) (D.faults journal.old) (D.faults journal.new) result }
-    ensures journal_alone { is_run order.now ≡ false → CountsJournal (D.faults journal.old) (D.faults journal.new) result }
+    ensures journal_alone { is_writer order.now ≡ false → CountsJournal (D.faults journal.old) (D.faults journal.new) result }
     ensures writes { CountsWrites (S.faults out.old) (S.faults out.new) result }
 {
     match order {
@@ -207,6 +209,29 @@ fn command<R: Threads + Sync, F: Shelf + Send, D: Disk + Send, S: Sink, G: Gate 
             *epoch,
             *workers,
             *piece,
+            shelf,
+            journal,
+            out,
+            gate,
+        ),
+        Order::Shard {
+            job,
+            vex,
+            epoch,
+            workers,
+            piece,
+            from,
+            to,
+        } => shard_job(
+            rt,
+            alloc,
+            job,
+            vex.as_ref(),
+            *epoch,
+            *workers,
+            *piece,
+            *from,
+            *to,
             shelf,
             journal,
             out,

@@ -14,8 +14,11 @@ use std::io::ErrorKind;
 use std::process::ExitCode;
 use vlbi_core::run;
 
-/// What a journal's file has behind its head gate, and before its version.
-const MARK: [u8; 7] = *b"VLBIJRN";
+/// What the journal's file of a job has behind its head gate, and before its version.
+const JOB_MARK: [u8; 7] = *b"VLBIJRN";
+
+/// The same of a part of a job.
+const PART_MARK: [u8; 7] = *b"VLBISHD";
 
 fn main(rt: HostRuntime) -> ExitCode {
     let _held = HeldStreams::new(&rt);
@@ -25,7 +28,7 @@ fn main(rt: HostRuntime) -> ExitCode {
             let output = FileId::of_output(&rt);
             let written = [FileId::at(&rt, path.as_str()), output];
             let mut shelf = FileShelf::new(SystemFiles::new(&rt, written));
-            let mut journal = FileDisk::new(&rt, path, MARK, output);
+            let mut journal = FileDisk::new(&rt, path, mark_of(&words), output);
             let mut out = StdSink::new(rt.stdout());
             ExitCode::from(run(
                 &rt,
@@ -58,5 +61,13 @@ fn words(rt: &HostRuntime) -> Result<(String, Vec<String>), Refusal> {
         }
         Err(error) if error.kind() == ErrorKind::OutOfMemory => Err(Refusal::Memory),
         Err(_) => Err(Refusal::Words(WordsFault::Option)),
+    }
+}
+
+// The mark of the journal that the words of a command write to.
+fn mark_of(words: &[String]) -> [u8; 7] {
+    match words.first() {
+        Some(command) if command.as_str() == "shard" => PART_MARK,
+        _ => JOB_MARK,
     }
 }

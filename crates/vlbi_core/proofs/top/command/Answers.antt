@@ -9,7 +9,7 @@ use Rattle.vis_records.specs.Dumped.{dump_text}
 use Rattle.run_summary.specs.Summaries.{check_text}
 use Rattle.run_dump.specs.Shown.{RecordsOf}
 use Rattle.run_words.specs.declared.order.Order.{Order}
-use Rattle.run_words.specs.declared.order.Order.TheVariants.{Run, Plain, Check, Status, Bins}
+use Rattle.run_words.specs.declared.order.Order.TheVariants.{Run, Plain, Check, Status, Bins, Shard}
 use Rattle.run_ready.specs.Outcome.{PlanOf}
 use Rattle.sample_job.specs.Sample.{SampleOf}
 use Rattle.vis_writer.proofs.WritesLemmas.{where_always}
@@ -17,7 +17,7 @@ use Rattle.fringe_search.specs.Certificates.{lines_text}
 use Rattle.run_fringe.specs.Searched.{FringeOf, VerifyOf, right_text}
 use Rattle.run_bins.specs.Texts.{BinPlan, bin_output}
 use Rattle.run_bins.specs.Outcome.{BinsOf}
-use Rattle.vlbi_core.specs.Calls.{is_run}
+use Rattle.vlbi_core.specs.Calls.{is_writer}
 use Rattle.vlbi_core.specs.Restart.{IsGenOf}
 use Rattle.vlbi_core.specs.Sample.{sample_text}
 use Rattle.vlbi_core.specs.Steps.{OutcomeFrom, IsFullFor, CountsJournalOr, GoesRanged, Does, Leaves}
@@ -32,11 +32,23 @@ returns-in-Run-clause-does g c =
     subst (λ (o : Order). WhereTold (g.F.Shelf.told c.args.shelf.now) (λ files. Does (Ok o) files g.D.Disk.seen g.D.Disk.moment g.D.Disk.may_leave c.args.journal.now c.correlate_job.new.journal
     (g.S.Sink.told c.args.out.now) (g.S.Sink.told c.correlate_job.new.out) c.correlate_job.result)) (sym same) c.correlate_job.ensures.does
 
+pub returns-in-Shard-clause-does : goal.returns-in-Shard-clause-does
+returns-in-Shard-clause-does g c =
+    let same : c.args.order.now ≡ Shard c.in-Shard.job (option_copied c.as_ref-in-Shard.result) c.in-Shard.epoch c.in-Shard.workers c.in-Shard.piece c.in-Shard.from c.in-Shard.to = cc in
+    subst (λ (o : Order). WhereTold (g.F.Shelf.told c.args.shelf.now) (λ files. Does (Ok o) files g.D.Disk.seen g.D.Disk.moment g.D.Disk.may_leave c.args.journal.now c.shard_job.new.journal
+    (g.S.Sink.told c.args.out.now) (g.S.Sink.told c.shard_job.new.out) c.shard_job.result)) (sym same) c.shard_job.ensures.does
+
 pub returns-in-Run-clause-leaves : goal.returns-in-Run-clause-leaves
 returns-in-Run-clause-leaves g c =
     let same : c.args.order.now ≡ Run c.in-Run.job (option_copied c.as_ref.result) c.in-Run.epoch c.in-Run.workers c.in-Run.piece = cc in
     subst (λ (o : Order). Leaves (Ok o) g.D.Disk.seen g.D.Disk.moment g.D.Disk.may_leave c.args.journal.now c.correlate_job.new.journal
     (g.S.Sink.told c.args.out.now) (g.S.Sink.told c.correlate_job.new.out) c.correlate_job.result) (sym same) c.correlate_job.ensures.leaves
+
+pub returns-in-Shard-clause-leaves : goal.returns-in-Shard-clause-leaves
+returns-in-Shard-clause-leaves g c =
+    let same : c.args.order.now ≡ Shard c.in-Shard.job (option_copied c.as_ref-in-Shard.result) c.in-Shard.epoch c.in-Shard.workers c.in-Shard.piece c.in-Shard.from c.in-Shard.to = cc in
+    subst (λ (o : Order). Leaves (Ok o) g.D.Disk.seen g.D.Disk.moment g.D.Disk.may_leave c.args.journal.now c.shard_job.new.journal
+    (g.S.Sink.told c.args.out.now) (g.S.Sink.told c.shard_job.new.out) c.shard_job.result) (sym same) c.shard_job.ensures.leaves
 
 pub returns-in-Status-clause-does : goal.returns-in-Status-clause-does
 returns-in-Status-clause-does g c =
@@ -105,13 +117,19 @@ pub returns-in-Gen-clause-reads : goal.returns-in-Gen-clause-reads
 returns-in-Gen-clause-reads g c = reads-beside _ _ c.total_sample.result (reads-same _ c.total_sample.result c.total_sample.ensures.stage)
 
 pub returns-in-Run-clause-alone : goal.returns-in-Run-clause-alone
-returns-in-Run-clause-alone g c = λ alone. absurd (not_both true refl (subst (λ (o : Order). is_run o ≡ false) c.in-Run.is alone))
+returns-in-Run-clause-alone g c = λ alone. absurd (not_both true refl (subst (λ (o : Order). is_writer o ≡ false) c.in-Run.is alone))
+
+pub returns-in-Shard-clause-alone : goal.returns-in-Shard-clause-alone
+returns-in-Shard-clause-alone g c = λ alone. absurd (not_both true refl (subst (λ (o : Order). is_writer o ≡ false) c.in-Shard.is alone))
 
 pub returns-in-Gen-clause-alone : goal.returns-in-Gen-clause-alone
 returns-in-Gen-clause-alone g c = λ alone. reads-same _ c.total_sample.result c.total_sample.ensures.stage
 
 pub returns-in-Run-clause-unnumbered : goal.returns-in-Run-clause-unnumbered
-returns-in-Run-clause-unnumbered g c = λ alone. absurd (not_both true refl (subst (λ (o : Order). is_run o ≡ false) c.in-Run.is alone))
+returns-in-Run-clause-unnumbered g c = λ alone. absurd (not_both true refl (subst (λ (o : Order). is_writer o ≡ false) c.in-Run.is alone))
+
+pub returns-in-Shard-clause-unnumbered : goal.returns-in-Shard-clause-unnumbered
+returns-in-Shard-clause-unnumbered g c = λ alone. absurd (not_both true refl (subst (λ (o : Order). is_writer o ≡ false) c.in-Shard.is alone))
 
 pub returns-in-Plain-clause-unnumbered : goal.returns-in-Plain-clause-unnumbered
 returns-in-Plain-clause-unnumbered g c = λ alone. files-unnumbered c.plain_job.result c.plain_job.ensures.stage
@@ -127,6 +145,9 @@ returns-in-Gen-clause-unnumbered g c = λ alone. files-unnumbered c.total_sample
 
 pub returns-in-Run-clause-generated : goal.returns-in-Run-clause-generated
 returns-in-Run-clause-generated g c = λ is. absurd (subst (λ (o : Order). IsGenOf (Ok o)) c.in-Run.is is)
+
+pub returns-in-Shard-clause-generated : goal.returns-in-Shard-clause-generated
+returns-in-Shard-clause-generated g c = λ is. absurd (subst (λ (o : Order). IsGenOf (Ok o)) c.in-Shard.is is)
 
 pub returns-in-Plain-clause-generated : goal.returns-in-Plain-clause-generated
 returns-in-Plain-clause-generated g c = λ is. absurd (subst (λ (o : Order). IsGenOf (Ok o)) c.in-Plain.is is)
@@ -168,7 +189,7 @@ returns-in-Bins-clause-does g c =
 pub returns-in-Bins-clause-leaves : goal.returns-in-Bins-clause-leaves
 returns-in-Bins-clause-leaves g c =
     leaves-tells g.D.Disk.seen g.D.Disk.moment g.D.Disk.may_leave c.args.order.now c.args.journal.now (g.S.Sink.told c.args.out.now) (g.S.Sink.told c.write_bins.new.out) c.write_bins.result
-    (subst (λ (o : Order). is_run o ≡ false) (sym c.in-Bins.is) refl)
+    (subst (λ (o : Order). is_writer o ≡ false) (sym c.in-Bins.is) refl)
     (verdict-due (g.S.Sink.told c.args.out.now) (g.S.Sink.told c.write_bins.new.out) c.write_bins.result c.write_bins.ensures.stage c.write_bins.ensures.nothing)
 
 pub returns-in-Bins-clause-reads : goal.returns-in-Bins-clause-reads
@@ -186,14 +207,29 @@ returns-in-Run-clause-ranged g c =
     subst (λ (o : Order). WhereTold (g.F.Shelf.told c.args.shelf.now) (λ files. GoesRanged (OutcomeFrom (Ok o) files) g.D.Disk.seen g.D.Disk.moment g.D.Disk.may_leave
     c.args.journal.now c.correlate_job.new.journal)) (sym same) c.correlate_job.ensures.ranged
 
+pub returns-in-Shard-clause-ranged : goal.returns-in-Shard-clause-ranged
+returns-in-Shard-clause-ranged g c =
+    let same : c.args.order.now ≡ Shard c.in-Shard.job (option_copied c.as_ref-in-Shard.result) c.in-Shard.epoch c.in-Shard.workers c.in-Shard.piece c.in-Shard.from c.in-Shard.to = cc in
+    subst (λ (o : Order). WhereTold (g.F.Shelf.told c.args.shelf.now) (λ files. GoesRanged (OutcomeFrom (Ok o) files) g.D.Disk.seen g.D.Disk.moment g.D.Disk.may_leave
+    c.args.journal.now c.shard_job.new.journal)) (sym same) c.shard_job.ensures.ranged
+
 pub returns-in-Run-clause-journal : goal.returns-in-Run-clause-journal
 returns-in-Run-clause-journal g c =
     let same : c.args.order.now ≡ Run c.in-Run.job (option_copied c.as_ref.result) c.in-Run.epoch c.in-Run.workers c.in-Run.piece = cc in
     subst (λ (o : Order). CountsJournalOr (WhereTold (g.F.Shelf.told c.args.shelf.now) (λ files. IsFullFor (OutcomeFrom (Ok o) files) files (g.D.Disk.seen c.args.journal.now)
     (g.D.Disk.seen c.correlate_job.new.journal))) (g.D.Disk.faults c.args.journal.now) (g.D.Disk.faults c.correlate_job.new.journal) c.correlate_job.result) (sym same) c.correlate_job.ensures.journal
 
+pub returns-in-Shard-clause-journal : goal.returns-in-Shard-clause-journal
+returns-in-Shard-clause-journal g c =
+    let same : c.args.order.now ≡ Shard c.in-Shard.job (option_copied c.as_ref-in-Shard.result) c.in-Shard.epoch c.in-Shard.workers c.in-Shard.piece c.in-Shard.from c.in-Shard.to = cc in
+    subst (λ (o : Order). CountsJournalOr (WhereTold (g.F.Shelf.told c.args.shelf.now) (λ files. IsFullFor (OutcomeFrom (Ok o) files) files (g.D.Disk.seen c.args.journal.now)
+    (g.D.Disk.seen c.shard_job.new.journal))) (g.D.Disk.faults c.args.journal.now) (g.D.Disk.faults c.shard_job.new.journal) c.shard_job.result) (sym same) c.shard_job.ensures.journal
+
 pub returns-in-Run-clause-journal_alone : goal.returns-in-Run-clause-journal_alone
-returns-in-Run-clause-journal_alone g c = λ alone. absurd (not_both true refl (subst (λ (o : Order). is_run o ≡ false) c.in-Run.is alone))
+returns-in-Run-clause-journal_alone g c = λ alone. absurd (not_both true refl (subst (λ (o : Order). is_writer o ≡ false) c.in-Run.is alone))
+
+pub returns-in-Shard-clause-journal_alone : goal.returns-in-Shard-clause-journal_alone
+returns-in-Shard-clause-journal_alone g c = λ alone. absurd (not_both true refl (subst (λ (o : Order). is_writer o ≡ false) c.in-Shard.is alone))
 
 pub returns-in-Status-clause-ranged : goal.returns-in-Status-clause-ranged
 returns-in-Status-clause-ranged g c = where_always (g.F.Shelf.told c.args.shelf.now) _ (λ files. inl (c.journal_status.ensures.leaves.untouched refl))

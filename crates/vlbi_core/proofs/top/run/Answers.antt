@@ -4,7 +4,7 @@ use Rattle.corr_model.specs.Files.{Files}
 use Rattle.run_notes.specs.Refusals.{answer_of}
 use Rattle.vis_writer.proofs.WritesLemmas.{where_then, where_always}
 use Rattle.vlbi_core.specs.Calls.{texts_of, order_in}
-use Rattle.vlbi_core.specs.Restart.{IsNoRun}
+use Rattle.vlbi_core.specs.Restart.{IsNoWriter}
 use Rattle.vlbi_core.specs.Steps.{OutcomeFrom, IsShort}
 use Rattle.vlbi_core.proofs.TopLemmas.{verdict-done, verdict-told, appended-done, appended-refused, read-risen, read-kept, read-no_fall, restarts-told, all-done, headline-done, headline-refused, refusal-not-zero, line-refused, words-line, unnumbered-line, sample-status, noted-nothing, noted-appends, due-nothing, early-nothing, verdict-fact, other-fact, verdict-not}
 use Rattle.vlbi_core.proofs.NoteLemmas.{nothing-other, other-says, refused-says}
@@ -97,7 +97,7 @@ returns-in-Err-clause-read g c = rw c.status.ensures (λ is. read-risen c.in-Err
 
 pub returns-in-Err-clause-no_read : goal.returns-in-Err-clause-no_read
 returns-in-Err-clause-no_read g c =
-    rw c.status.ensures (λ not of. read-kept c.in-Err.refusal _ _ _ (IsNoRun (order_in (texts_of c.args.words.now))) c.in-Err.ensures.reads c.in-Err.ensures.alone not of)
+    rw c.status.ensures (λ not of. read-kept c.in-Err.refusal _ _ _ (IsNoWriter (order_in (texts_of c.args.words.now))) c.in-Err.ensures.reads c.in-Err.ensures.alone not of)
 
 pub returns-in-Err-clause-no_fall : goal.returns-in-Err-clause-no_fall
 returns-in-Err-clause-no_fall g c = rw c.status.ensures (λ not. read-no_fall c.in-Err.refusal _ _ c.in-Err.ensures.reads not)

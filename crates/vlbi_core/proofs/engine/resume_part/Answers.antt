@@ -1,5 +1,5 @@
 use Rattle.vlbi_core.proofs.EngineLemmas.{resumed-ok, resumed-refused, resumed-named, resumed-reads, resumed-journal}
-use Rattle.vlbi_core.proofs.engine.resume.Goals as goal
+use Rattle.vlbi_core.proofs.engine.resume_part.Goals as goal
 
 pub returns-clause-stands : goal.returns-clause-stands
 returns-clause-stands g c = rw c.resumed.ensures (resumed-ok c.resume.result _ c.resume.ensures.stands)

@@ -1,0 +1,3 @@
+pub mod OutcomeLemmas
+pub mod LawLemmas
+pub mod PartLemmas

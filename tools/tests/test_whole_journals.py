@@ -7,6 +7,7 @@ from pathlib import Path
 import by_definition
 import whole_calls
 import whole_journals
+import whole_parts
 
 CASES = Path(__file__).resolve().parents[2] / "crates" / "vlbi_cases"
 MOST = 10_000  # samples times lags and stations of a job that is summed
@@ -15,12 +16,11 @@ ROW = 232  # place of the first gate in a journal of the table's first job
 
 def test_what_is_printed_of_runs_and_journals() -> None:
     """Each call of `run` and `status` on a small job without a schedule that gives its output or says that the journal is another job's, and each
-    journal that is shown; any other call leaves the journal as it is."""
+    journal that is shown; any other call leaves the journal as it is. Those beside parts of jobs are with these."""
     table, told, found = whole_calls.Table(), iter((CASES / "stdout").read_text().splitlines()), 0
     jobs: dict[str, whole_journals.SummedJob] = {}
-    for name, files, word, words in table.calls((CASES / "stdin").read_text().splitlines()):
-        if name.startswith("random job"):
-            break
+    lines, _ = whole_parts.section((CASES / "stdin").read_text().splitlines())
+    for name, files, word, words in table.calls(lines):
         kind = {"runs": ", by each run", "show": ", journal", "count": r", \d+ pieces", "call": ""}[word]
         line = next(line for line in told if re.match(f"{re.escape(name)}{kind}: ", line))
         if word == "show":

@@ -15,12 +15,14 @@ from dataclasses import dataclass
 import by_definition
 import whole_calls
 import whole_journals
+from checkpoint_journals import Part
 
 FIRST = "# Random jobs whose fringes turn: tools/tests/turning_jobs.py writes these lines, and what is printed for them by the definitions."
 MOST = 6_500_000  # samples times lags, products and baselines of all cases
 YEAR = by_definition.second_of("2010y001d00h00m00s")
 KINDS = ("missing", "invalid", "invalid and good", "doubled", "foreign", "late")  # of a frame that is not as it should be
 RESTARTS = 2  # of the journal of each job
+PARTS = (0, 4, 5, 7, 9, 11, 12, 24, 27, 30, 34, 40)  # rows of which a part in shorter integrations is summed too
 KNOTS = (1, 2, 7, 10, 33, 100, 333, 1000, 4096)  # samples
 SKY_KNOTS = (7, 33, 1000, 32768, 1000000)
 
@@ -293,6 +295,8 @@ def case_lines(number: int) -> Iterator[str]:
     else:
         yield from (f"call |bins|--job|j|--phase|p|{threads(of.draw)}" for _ in range(2))
     yield from restart_lines(number, "".join(f"{line}\n" for line in text))
+    if number in PARTS:
+        yield from part_lines(of, number, text)
 
 
 def threads(draw: random.Random) -> str:
@@ -312,15 +316,63 @@ def restart_lines(number: int, text: str) -> Iterator[str]:
     for restart in range(1, RESTARTS + 1):
         kept = epochs[: draw.randrange(len(epochs))]
         samples = a_length(draw, job)
-        yield f"keep R{number + 1}-{restart}"
-        yield f"use R{number + 1}-{restart}"
-        yield f"cut {job.size(kept) - 1}"
-        yield f"bytes {draw.choice(('00', 'FF'))}{draw.choice(('', ',00*9', ',01*40', ',07*400', ',FF*70'))}"
-        yield "journal"
+        yield from cut_lines(draw, f"R{number + 1}-{restart}", job.size(kept))
         yield f"call |status|--job|j|--epoch|{samples}"
         yield f"call |run|--job|j|--epoch|{samples}|{threads(draw)}"
         epochs = kept + job.walk(job.after(kept[-1]) if kept else job.first(), samples)
     yield "show"
+
+
+def cut_lines(draw: random.Random, piece: str, size: int) -> Iterator[str]:
+    """The journal is kept as a piece, and cut back to so many bytes, of which the last one is a closed gate."""
+    yield f"keep {piece}"
+    yield f"use {piece}"
+    yield f"cut {size - 1}"
+    yield f"bytes {draw.choice(('00', 'FF'))}{draw.choice(('', ',00*9', ',01*40', ',07*400', ',FF*70'))}"
+    yield "journal"
+
+
+def part_lines(of: Row, number: int, text: list[str]) -> Iterator[str]:
+    """A part of the job, in shorter integrations and several scans, is summed into a journal of its own, which is cut back and carried on by epochs
+    of another length."""
+    draw = random.Random(f"parts {number}")
+    lines = list(parted_lines(draw, of, text))
+    job = whole_journals.SummedJob("".join(f"{line}\n" for line in lines).encode())
+    half = job.integrations() // 2
+    begin, end = draw.randint(0, half), draw.randint(half + 1, job.integrations())
+    part = Part(job, begin, end)
+    words = f"--from|{begin}|--to|{end}"
+    yield from (f"| {line}" for line in lines)
+    yield "file k"
+    yield "journal"
+    samples = part_length(draw, job)
+    yield f"call |shard|--job|k|--epoch|{samples}|{threads(draw)}|{words}"
+    epochs = part.walk(part.first(), samples)
+    yield from cut_lines(draw, f"P{number + 1}", part.size(epochs[: draw.randrange(len(epochs))]))
+    yield f"call |shard|--job|k|--epoch|{part_length(draw, job)}|{threads(draw)}|{words}"
+    yield "show"
+
+
+def parted_lines(draw: random.Random, of: Row, text: list[str]) -> Iterator[str]:
+    """The lines of a job with shorter integrations, and with its scan cut in two at a whole second, where it has one, and a scan without a sample
+    before the second of the two."""
+    seconds = (of.samples - 1) // of.rate
+    cut = draw.randint(1, seconds) if seconds else 0
+    for line in text:
+        word = line.split()[0]
+        if word == "integration":
+            yield f"integration {draw.randint(of.samples // 12, of.samples // 4)}"
+        elif word == "scan":
+            yield from [f"scan S {time(of.start)} {cut * of.rate - draw.choice((0, 7))}"] if cut else []
+            yield f"scan T {time(of.start + cut)} 0"
+            yield f"scan U {time(of.start + cut)} {of.samples - cut * of.rate}"
+        else:
+            yield line
+
+
+def part_length(draw: random.Random, job: whole_journals.SummedJob) -> int:
+    """Of the epochs of a job of short integrations."""
+    return draw.choice((draw.randint(job.integration // 6, job.integration), draw.randint(job.integration // 2, 2 * job.integration), 4194304))
 
 
 def a_length(draw: random.Random, job: whole_journals.SummedJob) -> int:
@@ -345,22 +397,25 @@ def binned(job: by_definition.Job, texts: by_definition.Files, cells: list[by_de
 def answers(asked: list[str]) -> list[str]:
     """What is printed for these lines."""
     found: list[str] = []
+    jobs: dict[bytes, whole_journals.SummedJob] = {}
     work = 0
     table = whole_calls.Table()
     for name, texts, word, words in table.calls(asked):
         if word == "show":
             found.append(f"{name}, journal: {whole_journals.shown(table.journal)}")
             continue
+        text = texts[words[words.index("--job") + 1]]
+        if text not in jobs:
+            jobs[text] = whole_journals.SummedJob(text, texts)
         if words[0] == "plain":
-            summed = whole_journals.SummedJob(texts["j"], texts)
-            job = by_definition.Job(texts["j"].decode())
+            job = jobs[text].plan
             work += sum(scan.samples for scan in job.scans) * job.numbers["lags"] * len(job.products) * len(by_definition.baselines(job))
             records, cells = by_definition.records(job, texts)
             told = whole_calls.told(records, cells)
             told_bins = binned(job, texts, cells) if "p" in texts else ""
         answer = told_bins if words[0] == "bins" else told
-        if words[0] in ("run", "status"):
-            answer, _, table.journal = whole_journals.call(summed, table.journal, words, told)
+        if words[0] in ("run", "status", "shard"):
+            answer, _, table.journal = whole_journals.call(jobs[text], table.journal, words, told)
         found.append(f"{name}: {answer}")
     assert work < MOST, work
     return found

@@ -10,6 +10,8 @@ from by_definition import Cell, Files
 
 FIELDS = {"epoch": 20, "second": 0, "number": 0, "station": 1, "thread": 0, "bits": 2, "chans": 0, "seed": 0, "noise": 0}
 MARKS = ("invalid", "legacy", "complex")
+CALLS = ("call", "count", "runs", "show")
+ASKING = (*CALLS, "meets", "told", "stop", "fail", "broken", "refused", "disk", "left", "stops", "reads", "writes")
 
 
 def runs(text: str) -> bytes:
@@ -59,8 +61,8 @@ def frames(text: str, count: int) -> bytes:
 
 @dataclass
 class Table:
-    """The bytes so far, the pieces, the files of all cases, and the name, the files and the journal of the last case. What calls leave of the
-    journal is for who asks for them to say."""
+    """The bytes so far, the pieces, the files of all cases, and of the last case its name, its files, its journal and the bytes that the output
+    takes in one write. What calls leave of the journal is for who asks for them to say."""
 
     text: bytes = b""
     name: str = ""
@@ -68,15 +70,23 @@ class Table:
     common: Files = field(default_factory=dict)
     files: Files = field(default_factory=dict)
     journal: bytes = b""
+    most: int = 1_000_000
 
     def calls(self, lines: Iterable[str]) -> Iterator[tuple[str, Files, str, list[str]]]:
-        """The name and the files of the case of each line that makes calls or shows the journal, its first word, and the parts between its bars."""
+        """The name and the files of the case of each line that makes calls over devices which do not fail, or shows the journal, its first word,
+        and the parts between its bars."""
+        return ((name, files, word, rest.split("|")[1:]) for name, files, word, rest in self.asked(lines) if word in CALLS)
+
+    def asked(self, lines: Iterable[str]) -> Iterator[tuple[str, Files, str, str]]:
+        """The name and the files of the case of each line that asks for an answer, its first word, and what stands behind that."""
         for line in lines:
             word, _, rest = line.partition(" ")
             if word == "case":
-                self.name, self.files, self.journal = rest, {}, b""
-            elif word in ("call", "count", "runs", "show"):
-                yield self.name, {**self.common, **self.files}, word, rest.split("|")[1:]
+                self.name, self.files, self.journal, self.most = rest, {}, b"", 1_000_000
+            elif word in ASKING:
+                yield self.name, {**self.common, **self.files}, word, rest
+            elif word == "most":
+                self.most = int(rest)
             elif word in ("piece", "common", "file"):
                 {"piece": self.pieces, "common": self.common, "file": self.files}[word][rest] = self.text
                 self.text = b""

@@ -8,9 +8,8 @@ import hashlib
 from typing import Optional
 
 import by_definition
-import whole_calls
 from by_definition import Cell, Files
-from checkpoint_journals import Disk, Epoch, Job, Other, Place, Scan, append, find, identity, open_journal
+from checkpoint_journals import Disk, Epoch, Job, Other, Part, Place, Scan, append, find, identity, open_journal, parts
 
 SHOWN = 400  # bytes of a journal; a longer one is told by its digest
 
@@ -18,16 +17,16 @@ SHOWN = 400  # bytes of a journal; a longer one is told by its digest
 class SummedJob(Job):
     """A job, and the cells of each epoch as its files have them."""
 
-    def __init__(self, text: bytes, files: Optional[Files] = None) -> None:
-        """Without files, its recordings are empty."""
-        self.plan = by_definition.Job(text.decode())
+    def __init__(self, text: bytes, files: Optional[Files] = None, schedule: bytes = b"", inline: str = "") -> None:
+        """Without files, its recordings are empty. With a schedule, `inline` has the lines by which a job without it states the same scans."""
+        self.plan = by_definition.Job(text.decode() + inline)
         names = [name for station in self.plan.stations.values() for name in station.files]
         self.files = dict.fromkeys(names, b"") if files is None else files
         self.sums: dict[Epoch, list[Cell]] = {}
         self.values: dict[int, list[dict[str, list[by_definition.Value | None]]]] = {}
         baselines, numbers = len(by_definition.baselines(self.plan)), self.plan.numbers
         scans = [Scan(scan.samples if baselines else 0, len(self.plan.products), baselines) for scan in self.plan.scans]
-        super().__init__(identity(b"", text, [len(self.files[name]) for name in names]), numbers["integration"], numbers["epoch"], numbers["lags"], scans)
+        super().__init__(identity(schedule, text, [len(self.files[name]) for name in names]), numbers["integration"], numbers["epoch"], numbers["lags"], scans)
 
     def rule(self, epoch: Epoch) -> list[Cell]:
         """The cells of an epoch: by product, baseline and lag, over the samples of its range."""
@@ -45,18 +44,6 @@ class SummedJob(Job):
             self.values[number] = [{x: by_definition.values(self.plan, one, x, scan, self.files) for x in channels} for one in stations]
         return self.values[number]
 
-    def walk(self, place: Optional[Place], samples: int) -> list[Epoch]:
-        """The epochs of so many samples from a place on."""
-        epochs = []
-        while place is not None:
-            epochs.append(self.cut(place, samples))
-            place = self.after(epochs[-1])
-        return epochs
-
-    def size(self, epochs: list[Epoch]) -> int:
-        """The bytes of a journal that keeps these epochs: with the two gates of one that keeps none."""
-        return 2 + len(self.identity) + sum(29 + 24 * self.count(epoch) for epoch in epochs)
-
     def left(self, place: Optional[Place], samples: int) -> int:
         """How many epochs of so many samples there are from a place on."""
         if place is None:
@@ -66,14 +53,10 @@ class SummedJob(Job):
         whole = sum(one // self.integration * parts(self.integration, samples) + parts(one % self.integration, samples) for one in rest)
         return parts(end - place.sample, samples) + whole
 
-    def pieces(self, epoch: Epoch, samples: int) -> int:
-        """The pieces of an epoch, of at most so many samples."""
-        scan = self.scans[epoch.scan]
-        return scan.products * scan.baselines * parts(epoch.end - epoch.begin, samples)
 
-
-def parts(samples: int, most: int) -> int:
-    return -(-samples // most)
+def told_line(line: str) -> str:
+    """What is printed of a call that gives a line."""
+    return f"0 {len(line) + 1} bytes | {line}"
 
 
 def told_other(other: Other) -> str:
@@ -87,33 +70,42 @@ def status(job: SummedJob, image: bytes, samples: int) -> str:
     except Other as other:
         return told_other(other)
     kept, due = (0, job.first()) if journal is None else (len(journal.kept), journal.due)
-    line = f"{kept} of {kept + job.left(due, samples)} epochs kept"
-    return f"0 {len(line) + 1} bytes | {line}"
+    return told_line(f"{kept} of {kept + job.left(due, samples)} epochs kept")
 
 
-def run(job: SummedJob, image: bytes, samples: int) -> tuple[Optional[Other], list[Epoch], bytes]:
-    """How a journal is another job's, or else the epochs that `run` sums, of so many samples; and the journal that it leaves."""
-    disk = Disk(image)
-    summed: list[Epoch] = []
-    try:
-        journal = open_journal(job, disk)
-    except Other as other:
-        return other, summed, disk.seen
+def run(job: Job, disk: Disk, samples: int) -> list[Epoch]:
+    """Opens the journal on a disk, and sums the epochs that it lacks, of so many samples."""
+    journal = open_journal(job, disk)
+    summed = []
     while journal.due is not None:
         summed.append(append(job, disk, journal, samples))
-    return None, summed, disk.seen
+    return summed
+
+
+def pieces(job: Job, epoch: Epoch, samples: int) -> int:
+    """The pieces of an epoch, of at most so many samples."""
+    scan = job.scans[epoch.scan]
+    return scan.products * scan.baselines * parts(epoch.end - epoch.begin, samples)
 
 
 def call(job: SummedJob, image: bytes, words: list[str], records: str) -> tuple[str, int, bytes]:
-    """What a call of `run` or `status` with these words answers over a journal, where this is the answer with the job's records; the pieces that
-    are worked on; and the journal that it leaves."""
+    """What a call of `run`, `status` or `shard` with these words answers over a journal, where this is the answer with the job's records; the
+    pieces that are worked on; and the journal that it leaves."""
     given = dict(zip(words[1::2], words[2::2]))
-    samples = int(given.get("--epoch", job.epoch))
+    samples, disk = int(given.get("--epoch", job.epoch)), Disk(image)
     if words[0] == "status":
         return status(job, image, samples), 0, image
-    other, summed, left = run(job, image, samples)
-    pieces = sum(job.pieces(one, int(given["--piece"])) for one in summed)
-    return told_other(other) if other else records, pieces, left
+    asked: Job = job
+    if words[0] == "shard":
+        begin, end = int(given["--from"]), int(given["--to"])
+        if end > job.integrations():
+            return f"6 vlbi: limit: shard {end}", 0, image
+        asked, records = Part(job, begin, end), told_line(f"shard {begin} {end} done")
+    try:
+        summed = run(asked, disk, samples)
+    except Other as other:
+        return told_other(other), 0, disk.seen
+    return records, sum(pieces(job, one, int(given["--piece"])) for one in summed), disk.seen
 
 
 def shown(journal: bytes) -> str:

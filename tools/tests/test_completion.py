@@ -30,6 +30,10 @@ CASES = [
     (["vlbi", "night.journal", "run", "--job", "jo"], ["job.txt"]),
     (["vlbi", "night.journal", "run", "--e"], ["--epoch"]),
     (["vlbi", "night.journal", "status", "--e"], ["--epoch"]),
+    (["vlbi", "night.journal", "sh"], ["shard"]),
+    (["vlbi", "night.journal", "shard", "--fr"], ["--from"]),
+    (["vlbi", "night.journal", "shard", "--from", "2", "--to", ""], [""]),
+    (["vlbi", "night.journal", "run", "--fr"], [""]),
     (["vlbi", "night.journal", "plain", "--e"], [""]),
     (["vlbi", "night.journal", "check", "--epoch", ""], [""]),
     (["vlbi-watch", "--ep"], ["--epoch"]),
@@ -64,6 +68,7 @@ def test_bash(folder: Path, words: list[str], said: list[str]) -> None:
     ("vlbi j st", "vlbi j status"),
     ("vlbi j gen --see", "vlbi j gen --seed"),
     ("vlbi j run --ep", "vlbi j run --epoch"),
+    ("vlbi j shard --fr", "vlbi j shard --from"),
     ("vlbi-lint jo", "vlbi-lint job.txt"),
 ])
 def test_zsh(folder: Path, line: str, said: str) -> None:

@@ -158,6 +158,26 @@ def test_the_epochs_of_a_job_one_by_one() -> None:
     assert plan.by(None) is plan and plan.left(None) == 0 and plan.first(3) is None
 
 
+def test_the_parts_of_a_job() -> None:
+    """Scans of 7, 0 and 8 samples in integrations of 5: two in the first and two in the last one."""
+    scans = (("A", 7), ("B", 0), ("C", 8))
+    plan = jobs.Plan(4, 5, 2, ("Ef", "Wb"), (("X", "X"),), tuple(jobs.Scan(name, samples, ((0, 1),)) for name, samples in scans))
+    integrations = [[(0, 0, 0, 2), (0, 0, 2, 4), (0, 0, 4, 5)], [(0, 1, 5, 7)], [(2, 0, 0, 2), (2, 0, 2, 4), (2, 0, 4, 5)], [(2, 1, 5, 7), (2, 1, 7, 8)]]
+    assert plan.integrations == 4 and plan.limited(0, 4) == plan
+    for begin in range(5):
+        for end in range(begin, 7):
+            part, due = plan.limited(begin, end), [epoch for epochs in integrations[begin:end] for epoch in epochs]
+            place, found = part.first(), []
+            assert part.epochs == part.left(place) == len(due) and part.integrations == len(integrations[begin:end])
+            assert part.samples == sum(last - first for _, _, first, last in due) == part.pairs // 4
+            while place is not None:
+                found.append(part.cut(place))
+                place = part.after(found[-1])
+                assert part.left(place) == len(due) - len(found)
+            assert found == due
+            assert part.limited(1, 2) == plan.limited(begin + 1, min(begin + 2, end))
+
+
 @pytest.mark.parametrize("job, schedule, said", [
     (b"lags 4\n", b"", "the job has no line `integration` with a number"),
     (b"lags 4\nintegration 4.5\nepoch 1\n", b"", "the job: no whole number: 4.5"),

@@ -1,4 +1,4 @@
-"""`vlbi.records` on journals of both versions: files made by `checkpoint_journals`, which knows their bytes alone, and by the program."""
+"""`vlbi.records` on journals of both versions and of parts of a job: files made by `checkpoint_journals`, which knows their bytes alone, and by the program."""
 from __future__ import annotations
 
 import os
@@ -40,12 +40,12 @@ CELLS = 24 * 2 * 3 * 2  # bytes of an epoch's cells
 FRONT = 1 + len(JOB.identity)
 
 
-def appended(file: bytes, lengths: list[int]) -> bytes:
-    """A file opened as a journal of the job, and epochs of these lengths appended."""
+def appended(file: bytes, lengths: list[int], job: made.Job = JOB) -> bytes:
+    """A file opened as a journal of the job, or of a part of it, and epochs of these lengths appended."""
     disk = made.Disk(file)
-    journal = made.open_journal(JOB, disk)
+    journal = made.open_journal(job, disk)
     for samples in lengths:
-        made.append(JOB, disk, journal, samples)
+        made.append(job, disk, journal, samples)
     return disk.seen
 
 
@@ -115,6 +115,44 @@ def test_how_many_are_left(epoch: int | None, said: str, tmp_path: Path) -> None
     path.write_bytes(NEW)
     found = records.journal(str(path), epoch)
     assert str(found) == said and found.next == (2, 0, 1)
+
+
+# The job has three integrations: of 5 and 2 samples in the first scan, and of 3 in the last one.
+PARTS: list[tuple[int, int, list[int], Ranges]] = [
+    (1, 3, [1, 9, 2, 1], [(0, 1, 5, 6), (0, 1, 6, 7), (2, 0, 0, 2), (2, 0, 2, 3)]),
+    (1, 2, [9], [(0, 1, 5, 7)]),
+    (0, 1, [2, 3], [(0, 0, 0, 2), (0, 0, 2, 5)]),
+    (2, 3, [1], [(2, 0, 0, 1)]),
+    (0, 3, [9, 9, 2], [(0, 0, 0, 5), (0, 1, 5, 7), (2, 0, 0, 2)]),
+    (1, 3, [], []),
+]
+
+
+@pytest.mark.parametrize("begin, end, lengths, due", PARTS)
+def test_the_epochs_of_a_part(begin: int, end: int, lengths: list[int], due: Ranges, tmp_path: Path) -> None:
+    path, part = tmp_path / "journal", made.Part(JOB, begin, end)
+    file = appended(b"", lengths, part)
+    kept = read(path, file)
+    assert [one.epoch for one in kept] == due
+    assert all(one.cells.reshape(-1).tolist() == JOB.rule(made.Epoch(*one.epoch)) for one in kept)
+    samples, all_samples = sum(one[3] - one[2] for one in due), sum(one.end - one.begin for one in part.walk(part.first(), 9))
+    place = part.after(made.Epoch(*due[-1])) if due else part.first()
+    for epoch, left in ((None, 2), (1, 1), (9, 9)):
+        found = records.journal(str(path), epoch)
+        assert (found.part, found.kept, found.kept_samples, found.samples, found.recordings) == ((begin, end), len(due), samples, all_samples, (80, 120))
+        assert (found.next, found.whole, found.epochs) == (place, place is None, len(due) + len(part.walk(place, left)))
+    follower = records.Follower(str(path))
+    rows = follower.look()
+    assert rows is not None and rows.plan.pairs == all_samples * 12 and rows.kept_pairs == samples * 12
+    for size in range(2, len(file)):
+        assert faulty(path, file[:size]) == f"the end at {size}"
+
+
+def test_a_journal_of_a_part_is_never_old(tmp_path: Path) -> None:
+    """A mark stands for no epoch of it: of integration 1 the first sample is 5."""
+    file = appended(b"", [], made.Part(JOB, 1, 3))
+    assert faulty(tmp_path / "journal", file[:-1] + b"\1" + made.MARK + b"\0") == f"an epoch that is not due at {len(file) + 4}"
+    assert faulty(tmp_path / "journal", file[:8] + b"2" + file[9:]) == "another mark at 1"
 
 
 def test_a_follower_goes_on_behind_a_mark(tmp_path: Path) -> None:
@@ -312,6 +350,28 @@ def test_the_cells_of_a_journal_add_up_to_the_records(at: Path, job: str, schedu
     words = [*words_of(job, schedule, 50_000 if job == "sky.txt" else 9), "--workers", "2", "--piece", "64"]
     status, again, _ = program.call("journal", "run", *words, folder=folder)
     assert status == 0 and again == said and added(path, again) == [] and path.read_bytes()[1:9] == b"VLBIJRN1"
+
+
+@pytest.mark.parametrize("at, job, schedule", JOBS)
+def test_the_parts_of_a_job_have_its_epochs(at: Path, job: str, schedule: str | None, folder: Path) -> None:
+    """Two parts that follow one another keep what a run keeps."""
+    program.needs("run")
+    program.needs("shard")
+    words = [*words_of(job, schedule), "--workers", "2", "--piece", "64"]
+    assert program.call("journal", "run", *words, folder=folder)[0] == 0
+    texts = (at / job).read_bytes(), (at / schedule).read_bytes() if schedule else b""
+    count, kept = jobs.plan(*texts).integrations, []
+    for begin, end in {(0, count // 2), (count // 2, count)} - {(0, 0)}:
+        ends = ["--from", str(begin), "--to", str(end)]
+        path = folder / f"part{begin}"
+        assert program.call(path.name, "shard", *words, *ends, folder=folder) == (0, f"shard {begin} {end} done\n".encode(), b"")
+        found = records.journal(str(path))
+        assert found.part == (begin, end) and found.whole and (found.job, found.schedule) == texts
+        assert program.call(path.name, "status", *words_of(job, schedule), folder=folder)[0] == 10
+        kept += [(one.epoch, one.cells.tobytes()) for one in records.kept_epochs(str(path))]
+    assert sorted(kept) == [(one.epoch, one.cells.tobytes()) for one in records.kept_epochs(str(folder / "journal"))]
+    past = ["--from", "0", "--to", str(count + 1)]
+    assert program.call("past", "shard", *words, *past, folder=folder) == (6, b"", f"vlbi: limit: shard {count + 1}\n".encode())
 
 
 def added(path: Path, said: bytes) -> list[str]:

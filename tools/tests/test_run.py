@@ -129,6 +129,14 @@ def journal(path: Path, kept: int, job: bytes = JOB, epoch: int = 500) -> None:
     path.write_bytes(identity + b"".join(records) + b"\0")
 
 
+def part_journal(path: Path, begin: int, end: int, kept: int, job: bytes = JOB) -> None:
+    """A journal of a part of the job that keeps so many epochs of half an integration each."""
+    identity = b"\1VLBISHD1" + struct.pack("<QQQQQQQ", begin, end, 0, len(job), 2, 80, 80) + job
+    begins = (1000 * begin + 500 * number for number in range(kept))
+    records = (b"\1" + struct.pack("<IQQQ", 0, at // 1000, at, at + 500) + bytes(CELLS) for at in begins)
+    path.write_bytes(identity + b"".join(records) + b"\0")
+
+
 def old_journal(path: Path, kept: int) -> None:
     """The same without ranges."""
     path.write_bytes(b"\1VLBIJRN1" + struct.pack("<QQQQQ", 0, len(JOB), 2, 80, 80) + JOB + (b"\1" + bytes(CELLS)) * kept + b"\0")
@@ -167,6 +175,20 @@ def test_how_far_an_old_journal_is(folder: Path) -> None:
     for epoch, front in ((None, "3 of 8 epochs kept"), (100, "3 of 28 epochs kept")):
         state = progress.Watch("j", epoch=epoch).look(0.0)
         assert state is not None and state.front == front
+
+
+def test_how_far_a_part_is(folder: Path) -> None:
+    """Of the last three integrations of four, one and a half are kept."""
+    part_journal(folder / "j", 1, 4, 3)
+    for epoch, front in ((None, "3 of 6 epochs kept"), (100, "3 of 18 epochs kept"), (4194304, "3 of 5 epochs kept")):
+        state = progress.Watch("j", epoch=epoch).look(0.0)
+        assert state is not None and state.front == front
+    one = progress.Watch("j")
+    one.look(0.0)
+    part_journal(folder / "j", 1, 4, 5)
+    # 1,000 samples and four lags in two seconds; 500 samples are left
+    assert one.look(2.0) == progress.State(5, 6, 500.0, 2000.0, 0.5, 1.0, 0.0)
+    assert progress.Watch("j", (JOB, b"")).look(0.0) is None
 
 
 def test_a_speed_is_that_of_the_last_minute(folder: Path) -> None:
@@ -258,11 +280,16 @@ WORDS = [
     (("plain", "--job", "a", "--job", "b"), ["--job is given 2 times"]),
     (("plain", "--jbo", "a"), [
         "--job is missing", "`--jbo` is no option of `plain`: --job, --vex; is `--job` meant?", "`a` is no option of `plain`: --job, --vex"]),
-    (("rnu", "--job", "a"), ["`rnu` is no command: run, plain, check, status, dump, gen, fringe, verify, bins; is `run` meant?"]),
+    (("rnu", "--job", "a"), ["`rnu` is no command: run, plain, check, status, dump, gen, fringe, verify, bins, shard; is `run` meant?"]),
     (("gen", "--seed=7", "--seconds", "61", "--workers", "1", "--piece", "64"), ["--seconds 61: it is a whole number, 1 to 60"]),
     (("dump",), ["`dump` takes the name of one record file"]),
     (("fringe", "a", "--rates", "4097"), ["--rates 4097: it is a whole number, 0 to 4096", "--divide is missing"]),
     (("verify", "a"), ["`verify` takes the name of one record file and that of one certificate"]),
+    (("shard", "--job", "a", "--workers", "1", "--piece", "64", "--from", "2", "--to", "2"), [
+        "--to 2: the part has the integrations from --from up to, not including, --to, which is above --from"]),
+    (("shard", "--job", "a", "--workers", "1", "--piece", "64", "--from", "-1", "--to", "18446744073709551616"), [
+        "--from has no value", "--to 18446744073709551616: it is a whole number, 0 to 18446744073709551615"]),
+    (("shard", "--job", "a", "--workers", "1", "--piece", "64", "--to", "2"), ["--from is missing"]),
 ]
 
 
@@ -371,6 +398,11 @@ def test_files_and_limits(folder: Path) -> None:
     assert told(6, "vlbi: limit: load 400000000") == [
         "load 400000000: the greatest is 268435456",
         "take a shorter epoch, by `--epoch` or in the job: stations times channels times its samples may come to that"]
+    shard = ("shard", "--job", "job.txt", "--workers", "1", "--piece", "64", "--from", "0", "--to", "5")
+    assert told(6, "vlbi: limit: shard 5", *shard) == [
+        "--to 5: the greatest is 4, the number of the job's integrations",
+        "they are counted from 0 through all scans that are correlated, one behind the other"]
+    assert told(9, "vlbi: write fault", *shard)[1] == "Call the same command again: it only writes its line anew, from the journal."
     assert told(8, "vlbi: journal fault", journal="none/j") == ["none/j: there is no folder none"]
     assert told(5, "vlbi: records: Short at byte 160", "dump", "a.vis")[0].startswith("it is cut off")
     assert told(0, "") == []
@@ -385,7 +417,13 @@ def test_the_journal_of_another_job(folder: Path) -> None:
     journal(folder / "j", 3, JOB.replace(b"lags 4", b"lags 8"))
     assert told(10, "vlbi: other journal at byte 54: kept 38, ours 34") == [
         "the job differs in line 1:", "    job.txt: lags 4", "    the journal's: lags 8", "Name another journal, or remove this one to begin anew."]
+    shard = ("shard", "--job", "job.txt", "--workers", "1", "--piece", "64", "--from", "0", "--to", "2")
+    end = "Name another journal, or remove this one to begin anew."
+    part_journal(folder / "j", 0, 3, 1)
+    assert told(10, "vlbi: other journal at byte 17", *shard) == ["the journal is of the part from 0 to 3, and the call is of the part from 0 to 2", end]
+    assert told(10, "vlbi: other journal at byte 5") == ["the journal is of the part from 0 to 3, and the call is of the whole job", end]
     journal(folder / "j", 3)
+    assert told(10, "vlbi: other journal at byte 5", *shard) == ["the journal is of the whole job, and the call is of the part from 0 to 2", end]
     (folder / "b.vdif").write_bytes(bytes(120))
     assert told(10, "vlbi: other journal at byte 33")[0] == "the recording b.vdif has 120 bytes, and had 80 when the journal was begun"
     (folder / "sky.vex").write_bytes(SCHEDULE.replace(b"= G", b"= F"))

@@ -236,11 +236,18 @@ class Epoch(NamedTuple):
 
 @dataclasses.dataclass(frozen=True)
 class Scan:
-    """A scan of a plan: its name, its length in samples, its baselines as pairs of numbers of the job's stations."""
+    """A scan of a plan, or what a part of a job has of it.
+
+    name       its name
+    samples    its length in samples; of a part the sample before which its last integration ends, 0 where the part has none
+    baselines  pairs of numbers of the job's stations
+    first      the number of its first integration, 0 but in a part
+    """
 
     name: str
     samples: int
     baselines: tuple[tuple[int, int], ...]
+    first: int = 0
 
 
 @dataclasses.dataclass(frozen=True)
@@ -264,9 +271,21 @@ class Plan:
         """The plan with epochs of so many samples, as `--epoch` of the program asks for; the same one where there is no number."""
         return self if epoch is None else dataclasses.replace(self, epoch=epoch)
 
+    def limited(self, begin: int, end: int) -> Plan:
+        """A part of it: its integrations from a number up to, not including, another, counted from 0 through all scans."""
+        scans = []
+        for scan in self.scans:
+            count = self.integrations_of(scan)
+            first, last = scan.first + max(begin, 0), scan.first + min(end, count)
+            samples = min(scan.samples, last * self.integration)
+            scans.append(dataclasses.replace(scan, samples=samples, first=first) if first < last else dataclasses.replace(scan, samples=0, first=0))
+            begin, end = begin - count, end - count
+        return dataclasses.replace(self, scans=tuple(scans))
+
     def first(self, scan: int = 0) -> Place | None:
         """The first sample from the scan of this number on; None where there is no further one."""
-        return next((Place(number, 0, 0) for number in range(scan, len(self.scans)) if self.scans[number].samples), None)
+        rest = ((number, self.scans[number]) for number in range(scan, len(self.scans)))
+        return next((Place(number, one.first, one.first * self.integration) for number, one in rest if one.samples), None)
 
     def integration_end(self, place: Place) -> int:
         """The end of a place's integration."""
@@ -297,7 +316,15 @@ class Plan:
 
     def epochs_of(self, scan: Scan) -> int:
         """The number of epochs of a scan."""
-        return self.epochs_in(scan.samples)
+        return self.epochs_in(self.samples_of(scan))
+
+    def samples_of(self, scan: Scan) -> int:
+        """The samples of a scan, from its first integration on."""
+        return scan.samples - scan.first * self.integration
+
+    def integrations_of(self, scan: Scan) -> int:
+        """The number of integrations of a scan."""
+        return -(-self.samples_of(scan) // self.integration)
 
     def cells_of(self, scan: Scan) -> int:
         """The cells of an epoch of a scan: baselines times products times lags."""
@@ -306,7 +333,7 @@ class Plan:
     @property
     def pairs(self) -> int:
         """The samples of all scans, each times the cells of its scan."""
-        return sum(scan.samples * self.cells_of(scan) for scan in self.scans)
+        return sum(self.samples_of(scan) * self.cells_of(scan) for scan in self.scans)
 
     @property
     def epochs(self) -> int:
@@ -314,7 +341,11 @@ class Plan:
 
     @property
     def samples(self) -> int:
-        return sum(scan.samples for scan in self.scans)
+        return sum(map(self.samples_of, self.scans))
+
+    @property
+    def integrations(self) -> int:
+        return sum(map(self.integrations_of, self.scans))
 
 
 def plan(job: bytes, schedule: bytes = b"") -> Plan:

@@ -84,7 +84,7 @@ def clock(seconds: float) -> str:
 class Watch:
     """Looks at a journal that grows.
 
-    ours   the texts of job and schedule of which it has to be; any where they are not told
+    ours   the texts of job and schedule of which it has to be, and of no part of the job; any where they are not told
     epoch  the samples of an epoch in force; those of the job's own line where they are not told
     """
 
@@ -102,7 +102,7 @@ class Watch:
         identity = self.follower.identity
         if rows is None or identity is None:
             return None
-        if self.ours is not None and (identity.job, identity.schedule) != self.ours:
+        if self.ours is not None and (identity.job, identity.schedule, identity.part) != (*self.ours, None):
             self.follower = Follower(self.follower.path)
             return None
         if not self.seen:

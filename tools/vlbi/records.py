@@ -35,7 +35,8 @@ MAGIC = b"VLBIVIS1"
 BINS_MAGIC = b"VLBIBIN1"
 JOURNAL_MAGIC = b"VLBIJRN2"      # of a journal whose records have the range of their epoch
 OLD_JOURNAL_MAGIC = b"VLBIJRN1"  # of one whose records have none, up to a mark
-JOURNAL_MAGICS = (JOURNAL_MAGIC, OLD_JOURNAL_MAGIC)
+PART_MAGIC = b"VLBISHD1"         # of one of a part of a job, whose records have the range too
+JOURNAL_MAGICS = (JOURNAL_MAGIC, OLD_JOURNAL_MAGIC, PART_MAGIC)
 RANGE = 28                       # bytes of the range of an epoch
 MARK_COUNT = 2 ** 64 - 1         # which no cell has, in place of the first count behind a gate
 AXES = ("integration", "product", "baseline", "lag")
@@ -456,14 +457,15 @@ class Journal:
     """How far a journal is.
 
     blank         whether it is blank: it keeps nothing, and says nothing of its job
-    kept          the epochs that it keeps, the first ones of the job
+    kept          the epochs that it keeps, the first ones of the job or of its part
     epochs        these, and those that are left behind them, by the length that was asked for; None where it is blank
     kept_samples  the samples of the epochs that it keeps
-    samples       the samples of the job's scans, None where it is blank
+    samples       the samples of the job's scans, or of its part, None where it is blank
     job           the job's text, bytes
     schedule      the schedule's text, bytes; empty where there is none
     recordings    the lengths of the recordings in bytes: by the job's stations, and of each by its files
     next          the place where the next epoch begins, None where it is blank or whole
+    part          the numbers of the part's first integration and of that behind its last, None where it is blank or of all of the job
     """
 
     blank: bool
@@ -475,10 +477,11 @@ class Journal:
     schedule: bytes = b""
     recordings: tuple[int, ...] = ()
     next: jobs.Place | None = None
+    part: tuple[int, int] | None = None
 
     @property
     def whole(self) -> bool:
-        """Whether what it keeps covers its job."""
+        """Whether what it keeps covers its job or its part."""
         return not self.blank and self.next is None
 
     def __str__(self) -> str:
@@ -486,9 +489,9 @@ class Journal:
 
 
 def journal(path: str, epoch: int | None = None) -> Journal:
-    """How far the journal at a path is, a Journal. It may be asked while a `run` works on it; nothing is written.
+    """How far the journal at a path is, a Journal. It may be asked while a `run` or a `shard` works on it; nothing is written.
 
-    epoch  the samples of an epoch in force, as `--epoch` of `run` and `status` says; those of the job's own line where it is left out
+    epoch  the samples of an epoch in force, as `--epoch` of `run`, `shard` and `status` says; those of the job's own line where it is left out
 
     JournalFault where the file is not blank and no journal; job.JobFault where its job and schedule cannot be read;
     OSError where the file cannot be read.
@@ -499,7 +502,9 @@ def journal(path: str, epoch: int | None = None) -> Journal:
             return Journal(blank=True)
         rows = Rows(found, front.at)
         rows.go(front)
-        return Journal(False, rows.kept, rows.epochs(epoch), rows.kept_samples, rows.plan.samples, found.job, found.schedule, found.recordings, rows.next)
+        return Journal(
+            False, rows.kept, rows.epochs(epoch), rows.kept_samples, rows.plan.samples, found.job, found.schedule, found.recordings, rows.next, found.part,
+        )
 
 
 @dataclasses.dataclass(frozen=True, eq=False)
@@ -527,12 +532,14 @@ def kept_epochs(path: str) -> list[KeptEpoch]:
 
 @dataclasses.dataclass(frozen=True)
 class Identity:
-    """What a journal says of its job: its version's mark, the texts of job and schedule, the lengths of the recordings."""
+    """What a journal says of its job: its version's mark, the texts of job and schedule, the lengths of the recordings, and of a part of it the
+    numbers of its first integration and of that behind its last."""
 
     magic: bytes
     job: bytes
     schedule: bytes
     recordings: tuple[int, ...]
+    part: tuple[int, int] | None = None
 
 
 def identity(path: str) -> Identity | None:
@@ -549,10 +556,11 @@ def read_identity(front: JournalFront) -> Identity | None:
     magic = bytes(front.piece(8))
     if magic not in JOURNAL_MAGICS:
         raise JournalFault("another mark", 1)
+    part = (front.word(), front.word()) if magic == PART_MAGIC else None
     lengths = [front.word() for _ in range(3)]
     recordings = tuple(front.word() for _ in range(lengths.pop()))
     schedule, job = (bytes(front.piece(length)) for length in lengths)
-    return Identity(magic, job, schedule, recordings)
+    return Identity(magic, job, schedule, recordings, part)
 
 
 @contextlib.contextmanager
@@ -594,10 +602,10 @@ class JournalFront(Front):
 class Rows:
     """The epochs of a journal, gone over from the front: in the job's order, each behind its gate.
 
-    Where the journal is of the second version, a record begins with the range of its epoch. In one of the first an epoch is that of the job's own
-    line, up to a mark behind which records have their range.
+    Where the journal is of the second version or of a part of the job, a record begins with the range of its epoch. In one of the first version an
+    epoch is that of the job's own line, up to a mark behind which records have their range.
 
-    plan          what its job comes to
+    plan          what its job or its part comes to
     kept          the epochs that were found to be kept
     kept_samples  the samples in them
     kept_pairs    the pairs of samples, times lags, of all their baselines and products
@@ -607,12 +615,13 @@ class Rows:
     """
 
     def __init__(self, found: Identity, at: int) -> None:
-        self.plan = jobs.plan(found.job, found.schedule)
+        plan = jobs.plan(found.job, found.schedule)
+        self.plan = plan.limited(*found.part) if found.part is not None else plan
         self.kept = 0
         self.kept_samples = 0
         self.kept_pairs = 0
         self.next = self.plan.first()
-        self.ranged = found.magic == JOURNAL_MAGIC
+        self.ranged = found.magic != OLD_JOURNAL_MAGIC
         self.at = at
 
     def epochs(self, epoch: int | None = None) -> int:

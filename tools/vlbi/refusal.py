@@ -70,6 +70,12 @@ class Call:
     def phases(self) -> str | None:
         return next(iter(self.values("--phase")), None)
 
+    @property
+    def part(self) -> tuple[int, int] | None:
+        """The ends of the part of the job that `shard` sums; None where the call is of all of it."""
+        ends = [value for option in ("--from", "--to") for value in self.values(option)[:1] if is_number(option, value)]
+        return (int(ends[0]), int(ends[1])) if self.command == "shard" and len(ends) == 2 else None
+
 
 def advice(call: Call, status: int, note: str) -> list[str]:
     """What to do after a status of a call, and its line on standard error: lines, none for the status 0."""
@@ -105,16 +111,24 @@ def of_words(call: Call, note: str) -> Iterator[str]:
         if len(given) > 1:
             yield f"{option} is given {len(given)} times"
         yield from wrong_values(option, given)
+    if call.part is not None and call.part[0] >= call.part[1]:
+        yield f"--to {call.part[1]}: the part has the integrations from --from up to, not including, --to, which is above --from"
     yield from unknown_words(call, known)
 
 
 def wrong_values(option: str, given: Iterable[str]) -> Iterator[str]:
     for value in given:
-        least, greatest = RANGES.get(option, (0, 0))
         if value.startswith("-") and value != "-" or value == "" and option in RANGES:
             yield f"{option} has no value"
-        elif option in RANGES and not (re.fullmatch(r"\d{1,20}", value, re.ASCII) and least <= int(value) <= greatest):
+        elif option in RANGES and not is_number(option, value):
+            least, greatest = RANGES[option]
             yield f"{option} {value}: it is a whole number, {least} to {greatest}"
+
+
+def is_number(option: str, value: str) -> bool:
+    """Whether a value is a number in the range of its option."""
+    least, greatest = RANGES[option]
+    return re.fullmatch(r"\d{1,20}", value, re.ASCII) is not None and least <= int(value) <= greatest
 
 
 def unknown_words(call: Call, known: Iterable[str]) -> Iterator[str]:
@@ -329,6 +343,10 @@ def of_limit(call: Call, note: str) -> Iterator[str]:
         greatest, words = GREATEST[found.group(1)]
         yield f"{found.group(1)} {found.group(2)}: the greatest is {greatest}"
         yield words
+    elif found and found.group(1) == "shard":
+        plan = joined.read(call.job or "", call.schedule).plan
+        yield f"--to {found.group(2)}: the greatest is {plan.integrations}, the number of the job's integrations"
+        yield "they are counted from 0 through all scans that are correlated, one behind the other"
 
 
 def of_phases(call: Call, note: str) -> Iterator[str]:
@@ -432,7 +450,7 @@ def of_journal(call: Call, note: str) -> Iterator[str]:
 
 def of_output(call: Call, note: str) -> Iterator[str]:
     yield f"Standard output could not be written; the disk of this folder has {shutil.disk_usage('.').free} bytes left. What was written is not whole."
-    yield "Call the same command again: it only writes the records anew, from the journal."
+    yield f"Call the same command again: it only writes {'its line' if call.command == 'shard' else 'the records'} anew, from the journal."
 
 
 # Another job's journal
@@ -446,6 +464,8 @@ def of_other(call: Call, note: str) -> Iterator[str]:
 
 
 def differences(call: Call, kept: records.Identity) -> Iterator[str]:
+    if kept.part != call.part:
+        yield f"the journal is of {told_part(kept.part)}, and the call is of {told_part(call.part)}"
     pairs = (("schedule", kept.schedule, call.schedule), ("job", kept.job, call.job))
     for what, text, path in pairs:
         ours = b""
@@ -463,6 +483,10 @@ def differences(call: Call, kept: records.Identity) -> Iterator[str]:
         now = os.stat(path).st_size
         if now != size:
             yield f"the recording {path} has {now} bytes, and had {size} when the journal was begun"
+
+
+def told_part(part: tuple[int, int] | None) -> str:
+    return "the whole job" if part is None else f"the part from {part[0]} to {part[1]}"
 
 
 def first_difference(what: str, kept: bytes, ours: bytes, path: str | None) -> Iterator[str]:

@@ -16,10 +16,11 @@ COMMANDS: dict[str, dict[str, bool]] = {  # the options of each, and whether it 
     "fringe": {"--rates": True, "--divide": True},
     "verify": {},
     "bins": {**JOB_OPTIONS, "--phase": True, **WORK_OPTIONS},
+    "shard": {**CUT_OPTIONS, **WORK_OPTIONS, "--from": True, "--to": True},
 }
 NAMED = {"dump": ("one record file",), "fringe": ("one record file",), "verify": ("one record file", "one certificate")}  # without an option
 RANGES = {"--epoch": (1, 4194304), "--workers": (1, 64), "--piece": (64, 4194304), "--seed": (0, 2 ** 64 - 1), "--seconds": (1, 60), "--rates": (0, 4096),
-          "--divide": (1, 65536)}
+          "--divide": (1, 65536), "--from": (0, 2 ** 64 - 1), "--to": (0, 2 ** 64 - 1)}
 
 # The lines of a job: how they are written, and the ranges of their fields.
 FORMS = {

@@ -33,3 +33,8 @@ AtLeast count images n = (image : List ℕ) → images image → n ≤ count ima
 -- later moment counts.
 abbrev pub NeverFalls : {D : Type 0} → (D → ℕ) → (D → ℕ → List ℕ → Type 0) → (List ℕ → ℕ) → D → D → Type 0
 NeverFalls moment may_leave count old new = (t t' n : ℕ) → moment old ≤ t → t ≤ t' → t' ≤ moment new → AtLeast count (may_leave new t) n → AtLeast count (may_leave new t') n
+
+-- a relation that goes on over any number of calls
+pub record GoesOn {D : Type 0} (stays : D → D → Type 0) : Type 0 where
+  pub none : (disk : D) → stays disk disk
+  pub both : (old mid new : D) → stays old mid → stays mid new → stays old new

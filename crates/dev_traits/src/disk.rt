@@ -4,7 +4,7 @@ ghost use Rattle.dev_traits.specs.Fault.{Counts};
 ghost use Rattle.dev_traits.specs.Told.{WhereTold};
 ghost use Rattle.dev_traits.specs.Files.{ReadsAt};
 ghost use Rattle.dev_traits.specs.Images.{put_at, Same, Torn, Shorn};
-ghost use Rattle.dev_traits.specs.Moments.{Goes, IsDurable};
+ghost use Rattle.dev_traits.specs.Moments.{Goes, IsDurable, GoesOn};
 
 use crate::Failed;
 
@@ -27,12 +27,16 @@ pub trait Disk {
     /// How often a call has failed.
     ghost faults: { Self → ℕ };
 
+    /// What calls that read leave as it is: before, after.
+    ghost stays: { Self → Self → Type 0 };
+
     /// The file's length in bytes, below 2^63.
     fn len(&mut self) -> Result<u64, Failed>
         ensures same { seen self.new ≡ seen self.old }
         ensures bound { IfOk result (λ n. n < 2 ^ 63) }
         ensures len { IfOk result
             (λ n. WhereTold (seen self.old) (λ bytes. n ≡ length bytes)) }
+        ensures stays { stays self.old self.new }
         ensures goes { Goes moment may_leave Same self.old self.new }
         ensures counts { Counts (faults self.old) (faults self.new) result };
 
@@ -44,6 +48,7 @@ pub trait Disk {
         ensures read { IfOk result
             (λ n. WhereTold (seen self.old)
             (λ bytes. ReadsAt (Some bytes) at buf.old n buf.new)) }
+        ensures stays { stays self.old self.new }
         ensures goes { Goes moment may_leave Same self.old self.new }
         ensures counts { Counts (faults self.old) (faults self.new) result };
 
@@ -71,6 +76,9 @@ pub trait Disk {
         ensures durable { OnOk result (IsDurable (seen self.new) (may_leave self.new (moment self.new))) }
         ensures goes { Goes moment may_leave Same self.old self.new }
         ensures counts { Counts (faults self.old) (faults self.new) result };
+
+    /// What is left as it is by no call, and by one call and then others.
+    ghost stays_on: { GoesOn stays };
 
     /// What a read gives is one of the images of now.
     ghost seen_is_image: { (disk : Self) → WhereTold (seen disk) (may_leave disk (moment disk)) };

@@ -1,5 +1,5 @@
 // Files that are read by name and place.
-ghost use Rattle.std.specs.Prelude.{◌≡◌, ◌≤◌, List, ℕ, Option, length, IfOk};
+ghost use Rattle.std.specs.Prelude.{◌≡◌, ◌≤◌, ◌<◌, ◌^◌, List, ℕ, Option, length, IfOk, IfSome};
 ghost use Rattle.dev_traits.specs.Fault.{Counts};
 ghost use Rattle.dev_traits.specs.Told.{WhereTold};
 ghost use Rattle.dev_traits.specs.Files.{size_of, ReadsAt};
@@ -14,9 +14,10 @@ pub trait Shelf {
     /// How often a call has failed.
     ghost faults: { Self → ℕ };
 
-    /// The length of the file in bytes; `None` exactly where the name is not there.
+    /// The length of the file in bytes, below 2^63; `None` exactly where the name is not there.
     fn size(&mut self, name: &str) -> Result<Option<u64>, Failed>
         ensures same { told self.new ≡ told self.old }
+        ensures bound { IfOk result (λ size. IfSome size (λ n. n < 2 ^ 63)) }
         ensures size { IfOk result
             (λ size. WhereTold (told self.old) (λ files. size ≡ size_of (files name.now))) }
         ensures counts { Counts (faults self.old) (faults self.new) result };

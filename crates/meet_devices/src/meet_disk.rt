@@ -38,7 +38,7 @@ impl MeetDisk {
 }
 
 impl Disk for MeetDisk {
-    ghost use Rattle.std.specs.Prelude.{refl};
+    ghost use Rattle.std.specs.Prelude.{⊤, refl};
     ghost use Rattle.mem_devices.specs.MemDiskImages.{seen_is_image, image_is_short};
     ghost use Rattle.mem_devices.specs.MemDiskWords.{state_of, moment_of, images_of, plan_of, faults_of, refused_of};
 
@@ -49,6 +49,10 @@ impl Disk for MeetDisk {
     ghost may_leave = { λ disk t image. images_of disk t image };
 
     ghost faults = { λ disk. faults_of disk };
+
+    ghost stays = { λ _ _. ⊤ };
+
+    ghost stays_on = { record { none = λ _. tt; both = λ _ _ _ _ _. tt } };
 
     ghost seen_is_image = { λ disk. seen_is_image disk.file.first.items disk.file.calls.items };
 

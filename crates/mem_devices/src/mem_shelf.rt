@@ -1,4 +1,4 @@
-ghost use Rattle.std.specs.Prelude.{◌≡◌, ◌≤◌, ◌↔◌, length, IfOk, OnErr, IsErr, IsTrue, Some};
+ghost use Rattle.std.specs.Prelude.{◌≡◌, ◌<◌, ◌≤◌, ◌^◌, ◌↔◌, length, IfOk, IfSome, OnErr, IsErr, IsTrue, Some};
 ghost use Rattle.std.specs.Option.{option_copied};
 ghost use Rattle.dev_traits.specs.Fault.{Counts};
 ghost use Rattle.dev_traits.specs.Files.{size_of, ReadsAt};
@@ -71,6 +71,7 @@ impl Shelf for MemShelf {
 
     fn size(&mut self, name: &str) -> Result<Option<u64>, Failed>
         ensures same { Some (bytes_under self.new.files) ≡ Some (bytes_under self.old.files) }
+        ensures bound { IfOk result (λ size. IfSome size (λ n. n < 2 ^ 63)) }
         ensures size { IfOk result (λ size. size ≡ size_of (bytes_under self.old.files name.now)) }
         ensures counts { Counts self.old.faults self.new.faults result }
 

@@ -1,5 +1,5 @@
 // A file of the operating system as a disk.
-ghost use Rattle.std.specs.Prelude.{◌≡◌, ◌+◌, ◌<◌, ◌≤◌, ◌^◌, None, IfSome, length};
+ghost use Rattle.std.specs.Prelude.{◌≡◌, ◌+◌, ◌<◌, ◌≤◌, ◌^◌, ⊤, None, IfSome, length};
 ghost use Rattle.dev_traits.specs.Fault.{HasRisen};
 
 use crate::begun::{SECTOR, is_begun};
@@ -105,6 +105,10 @@ impl<R: Files<File = File> + Drop> Disk for FileDisk<R> {
     ghost may_leave = { λ _ _ _. ⊥ };
 
     ghost faults = { λ faults. faults };
+
+    ghost stays = { λ _ _. ⊤ };
+
+    ghost stays_on = { record { none = λ _. tt; both = λ _ _ _ _ _. tt } };
 
     ghost seen_is_image = { λ _. tt };
 

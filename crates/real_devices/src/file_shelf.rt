@@ -1,4 +1,4 @@
-ghost use Rattle.std.specs.Prelude.{◌≡◌, ◌≤◌, Some, IfOk, IfSome, IsOk, IsSome, IsTrue, length, option_map};
+ghost use Rattle.std.specs.Prelude.{◌≡◌, ◌<◌, ◌≤◌, ◌^◌, Some, IfOk, IfSome, IsOk, IsSome, IsTrue, length, option_map};
 ghost use Rattle.dev_traits.specs.Fault.{HasRisen, Counts};
 ghost use Rattle.dev_traits.specs.Files.{size_of, ReadsAt};
 ghost use Rattle.dev_traits.specs.Told.{WhereTold};
@@ -81,6 +81,7 @@ impl<S: NamedFiles + Drop> FileShelf<S> {
         ensures same { S.told self.new.files ≡ S.told self.old.files }
         ensures steady { S.never_fails self.new.files ≡ S.never_fails self.old.files }
         ensures counts { Counts self.old.faults self.new.faults result }
+        ensures bound { IfOk result (λ found. IfSome found (λ it. it.size < 2 ^ 63)) }
         ensures found { IfOk result (λ found. WhereTold (S.told self.old.files) (λ files.
             IsFound S.File.told S.File.never_fails (S.never_fails self.old.files) (files name.now)
             (option_map (λ it. (it.file, it.size)) found))) }
@@ -160,6 +161,7 @@ impl<S: NamedFiles + Drop> Shelf for FileShelf<S> {
 
     fn size(&mut self, name: &str) -> Result<Option<u64>, Failed>
         ensures same { S.told self.new.files ≡ S.told self.old.files }
+        ensures bound { IfOk result (λ size. IfSome size (λ n. n < 2 ^ 63)) }
         ensures size { IfOk result (λ size.
             WhereTold (S.told self.old.files) (λ files. size ≡ size_of (files name.now))) }
         ensures counts { Counts self.old.faults self.new.faults result }

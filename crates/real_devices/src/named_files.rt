@@ -93,7 +93,12 @@ impl PlacedFile for File {
     ghost never_fails = { λ _. false };
 
     fn size(&mut self) -> io::Result<u64> {
-        Ok(self.metadata()?.len())
+        let size = self.metadata()?.len();
+        if size <= i64::MAX as u64 {
+            Ok(size)
+        } else {
+            Err(io::Error::from(io::ErrorKind::FileTooLarge))
+        }
     }
 
     fn read_some(&mut self, at: u64, buf: &mut [u8]) -> io::Result<usize> {

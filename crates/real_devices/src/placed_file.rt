@@ -14,10 +14,11 @@ pub trait PlacedFile {
     /// Whether no call fails.
     ghost never_fails: { Self → Bool };
 
-    /// The file's length.
+    /// The file's length, below 2^63.
     fn size(&mut self) -> io::Result<u64>
         ensures same { told self.new ≡ told self.old }
         ensures steady { never_fails self.new ≡ never_fails self.old }
+        ensures bound { IfOk result (λ n. n < 2 ^ 63) }
         ensures size { IfOk result (λ n. WhereTold (told self.old) (λ bytes. n ≡ length bytes)) }
         ensures answers { IsTrue (never_fails self.old) → IsOk result };
 

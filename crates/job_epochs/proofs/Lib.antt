@@ -7,3 +7,4 @@ pub mod FoldLemmas
 pub mod AddedLemmas
 pub mod CountedSums
 pub mod SumCells
+pub mod PlacedCells

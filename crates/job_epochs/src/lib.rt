@@ -3,7 +3,9 @@
 //! the integration's cells (`laws`). Only `plan_epochs` takes memory. (Thompson, Moran and Swenson, chapter 8.)
 #![tactic(auto)]
 
+mod added;
 mod epochs;
 pub mod laws;
 
+pub use added::add_cells;
 pub use epochs::plan_epochs;

@@ -7,7 +7,7 @@ ghost use Rattle.job_plan.specs.Output.{integrations_of};
 ghost use Rattle.piece_plan.specs.declared.job.ScanSize.{ScanSize};
 ghost use Rattle.piece_plan.specs.Order.{Place};
 ghost use Rattle.job_epochs.specs.Sizes.{size_of};
-ghost use Rattle.job_epochs.specs.Added.{add_cells, plus_wrapped, width_of};
+ghost use Rattle.job_epochs.specs.Added.{width_of};
 ghost use Rattle.journal_image.specs.Image.{KeptEpoch};
 ghost use Rattle.checkpoint_journal.specs.Standing.{StandsOn};
 ghost use Rattle.journal_records.specs.Kept.{kept_cells};
@@ -18,6 +18,7 @@ ghost use Rattle.journal_records.specs.Store.{store, IsCut, IsRoom, Tells, Reach
 use checkpoint_journal::{Journal, ReadFault};
 use corr_model::Cell;
 use dev_traits::Disk;
+use job_epochs::add_cells;
 use job_plan::{Plan, ScanPlan};
 use piece_plan::JobPlan;
 
@@ -132,24 +133,4 @@ fn clear(cells: &mut [Cell])
     ensures { cells.new ≡ replicate (length cells.old) no_cell }
 {
     cells.fill(Cell::ZERO);
-}
-
-// Adds cells place by place, as far as there are places for them.
-fn add_cells(sums: &mut [Cell], more: &[Cell])
-    ensures { sums.new ≡ add_cells sums.old more.now }
-{
-    for i in 0..sums.len().min(more.len()) {
-        sums[i] = plus_wrapped(sums[i], more[i]);
-    }
-}
-
-// Two cells, each of whose numbers is added with wrap at 64 bits.
-fn plus_wrapped(c: Cell, d: Cell) -> Cell
-    ensures { result ≡ plus_wrapped c d }
-{
-    Cell {
-        re: c.re.wrapping_add(d.re),
-        im: c.im.wrapping_add(d.im),
-        count: c.count.wrapping_add(d.count),
-    }
 }

@@ -74,6 +74,30 @@ impl JobPlan {
         })
     }
 
+    /// The sizes of the scans, in order.
+    pub fn scans(&self) -> &[ScanSize]
+        ensures sizes { result.now ≡ self.now.scans }
+        ensures job { IsJob self.now }
+    {
+        &self.scans
+    }
+
+    /// The samples of an integration.
+    pub fn integration(&self) -> u64
+        ensures samples { result ≡ self.now.integration }
+        ensures job { IsJob self.now }
+    {
+        self.integration
+    }
+
+    /// The number of lags.
+    pub fn lags(&self) -> u32
+        ensures many { result ≡ self.now.lags }
+        ensures job { IsJob self.now }
+    {
+        self.lags
+    }
+
     /// The number of epochs. They go through the job in order, from its first sample to its last.
     pub fn epochs(&self) -> u64
         ensures many { result ≡ length (epochs_of self.now) }

@@ -3,8 +3,8 @@ use Rattle.std.proofs.Math.ListN.{set}
 use Rattle.corr_model.specs.declared.cell.Cell.{Cell}
 use Rattle.corr_model.specs.Cell.{no_cell}
 use Rattle.job_epochs.specs.Added.{plus_wrapped}
-use Rattle.journal_records.proofs.AddedLemmas.{add_cells-start, add_cells-next, add_cells-all}
-use Rattle.journal_records.proofs.sums.add_cells.Goals as goal
+use Rattle.job_epochs.proofs.PlacedCells.{add_cells-start, add_cells-next, add_cells-all}
+use Rattle.job_epochs.proofs.added.add_cells.Goals as goal
 
 pub loop-i-init : goal.loop-i-init
 loop-i-init c = add_cells-start c.args.sums.now c.args.more.now

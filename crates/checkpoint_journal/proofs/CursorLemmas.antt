@@ -8,14 +8,22 @@ use Rattle.piece_plan.specs.declared.epoch.EpochPlan.{EpochPlan}
 use Rattle.piece_plan.specs.Epochs.{JobSizes, IsJob}
 use Rattle.plan_places.specs.Places.{place_at}
 use Rattle.checkpoint_journal.proofs.ToldLemmas.{told_both, told_again}
-use Rattle.journal_image.specs.Image.{Thing, records}
+use Rattle.journal_image.specs.Image.{Thing, records, Reading, Reads}
 use Rattle.journal_image.proofs.ThingLemmas.{more_due}
 use Rattle.checkpoint_journal.specs.declared.finding.Found.{Found}
 use Rattle.checkpoint_journal.specs.Finding.{due_of}
 use Rattle.checkpoint_journal.specs.Kept.{KeepsMany, ReadsEpoch}
 use Rattle.checkpoint_journal.specs.Next.{HasMore, IsReadBehind, TellsRead, IsPast}
-use Rattle.checkpoint_journal.specs.Standing.{JournalState, journal_state, Knows, Stands}
+use Rattle.checkpoint_journal.specs.Standing.{JournalState, journal_state, IsGate, Knows, Stands}
 use Rattle.checkpoint_journal.proofs.NextLemmas.{fits_next}
+
+-- all records stand before a gate at which no place is due
+pub covered_kept : (id : List ℕ) (job : JobSizes) (image : List ℕ) (r : Reading) → Reads id job image r → (f : Found) (g : IsGate id job r f) → IsJob job → f.next ≡ None → length (records r.things) ≡ f.kept
+covered_kept id job image r reads f g is none = none_after g.after refl
+  where
+    none_after : (after : List Thing) → g.after ≡ after → length (records r.things) ≡ f.kept
+    none_after [] e = ap (λ (l : List Thing). length (records l)) (g.is ∙ ap (λ (l : List Thing). g.before ++ l) e ∙ append-nil g.before) ∙ sym g.kept
+    none_after (t ∷ more) e = absurd (more_due job is (due_of f) t (fits_next id job image r reads f g t more e) (ap (option_map place_at) none))
 
 module _ (id : List ℕ) (job : JobSizes) (j : JournalState) where
   -- all records were read
@@ -31,15 +39,8 @@ module _ (id : List ℕ) (job : JobSizes) (j : JournalState) where
   keeps_covered image is knows none = record {
     kept = records knows.reading.things;
     keeps = inr (knows.reading, knows.reads, refl);
-    many = none_after knows.here.after refl;
+    many = covered_kept id job image knows.reading knows.reads j.here knows.here is none;
   }
-    where
-      none_after : (after : List Thing) → knows.here.after ≡ after → length (records knows.reading.things) ≡ j.here.kept
-      none_after [] e =
-          ap (λ (l : List Thing). length (records l)) (knows.here.is ∙ ap (λ (l : List Thing). knows.here.before ++ l) e ∙ append-nil knows.here.before)
-          ∙ sym knows.here.kept
-      none_after (t ∷ more) e =
-          absurd (more_due job is (due_of j.here) t (fits_next id job image knows.reading knows.reads j.here knows.here t more e) (ap (option_map place_at) none))
 
   pub has_more : (image : List ℕ) (knows : Knows id job j image) → j.here.kept < j.end.kept → HasMore id job image knows.reading j.here
   has_more image knows more = record { reads = knows.reads; gate = knows.here; more = omega (arith, knows.end.kept, more) }

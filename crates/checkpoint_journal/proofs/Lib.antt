@@ -17,3 +17,5 @@ pub mod OpenLemmas
 pub mod AnswerLemmas
 pub mod NextLemmas
 pub mod CursorLemmas
+pub mod ListedLemmas
+pub mod PartLemmas

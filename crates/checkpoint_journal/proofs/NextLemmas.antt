@@ -1,6 +1,6 @@
 -- The next record behind a gate of what an image says.
 use Rattle.std.specs.Prelude.{option_map, slice_get}
-use Rattle.std.proofs.Common.{◌≡◌, ◌≢◌, ◌∙◌, ℕ, ◌+◌, ◌-◌, ◌*◌, ◌/◌, ◌<◌, ◌≤◌, min, Bool, true, false, if◌then◌else◌, List, [], ◌∷◌, ◌++◌, length, get_or, take, drop, Option, Some, refl, sym, ap, subst, arith, append_assoc, append-nil, length-append}
+use Rattle.std.proofs.Common.{◌≡◌, ◌≢◌, ◌∙◌, ℕ, ◌+◌, ◌-◌, ◌*◌, ◌/◌, ◌^◌, ◌<◌, ◌≤◌, min, Bool, true, false, if◌then◌else◌, List, [], ◌∷◌, ◌++◌, length, get_or, take, drop, Option, Some, refl, sym, ap, subst, arith, append_assoc, append-nil, length-append}
 use Rattle.std.proofs.lemmas.List.{drop_at, get_or-drop, get_or_append_left, get_or-append-add}
 use Rattle.corr_model.specs.declared.cell.Cell.{Cell}
 use Rattle.piece_plan.specs.declared.epoch.EpochPlan.{EpochPlan}
@@ -222,6 +222,11 @@ cells_there image tail body e gate false size is =
     ∙ get_or_append_left body tail 0 k inside
     ∙ ap (λ (j : ℕ). get_or body j 0) (sym flat))
     ∙ ap (cells_at body 0) (counted (cell_count e) (length body) size)
+
+-- the cells of a record begin no further than this behind a gate of a file
+pub body_within : (gate last at : ℕ) (ranged : Bool) → gate ≤ last → last < 2 ^ 63 → at ≡ gate + before_body ranged → at ≤ 2 ^ 63 + 28
+body_within gate last at true within short is = omega arith
+body_within gate last at false within short is = omega arith
 
 -- its cells were read, and the gate behind it is known
 pub tells_read : (job : JobSizes) (image : List ℕ) (f g past h : Found) (last at : ℕ) (e : EpochPlan) (cells : List Cell)

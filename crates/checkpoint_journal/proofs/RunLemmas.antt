@@ -2,7 +2,7 @@
 use Rattle.std.specs.Prelude.{is_some}
 use Rattle.std.proofs.Common.{◌≡◌, ◌∙◌, ℕ, List, refl, Option, Some, None, sym, ap, subst, arith}
 use Rattle.dev_traits.specs.Images.{Same}
-use Rattle.dev_traits.specs.Moments.{Goes, Runs, IsDurable}
+use Rattle.dev_traits.specs.Moments.{Goes, Runs, IsDurable, GoesOn}
 use Rattle.dev_traits.specs.Told.{WhereTold}
 use Rattle.dev_traits.proofs.Moments.{runs_none, runs_of, runs_both}
 use Rattle.checkpoint_journal.specs.Runs.{Looks, Changes, StepTold}
@@ -26,6 +26,10 @@ module _ {D : Type 0} (seen : D → Option (List ℕ)) (moment : D → ℕ) (may
     same = second.same ∙ first.same;
     runs = runs_both moment may_leave Same (λ v. refl) same_both old mid new first.runs second.runs;
   }
+
+-- three runs of calls that only read
+pub stays_joined : {D : Type 0} (stays : D → D → Type 0) → GoesOn stays → (a b c d : D) → stays a b → stays b c → stays c d → stays a d
+stays_joined stays on a b c d first second third = on.both a c d (on.both a b c first second) third
 
 -- Steps that lead on: from what the images of a moment are to a run of calls.
 same_some : (a b : List ℕ) → Some a ≡ Some b → a ≡ b

@@ -9,3 +9,5 @@ pub mod Faults
 pub mod Staged
 pub mod Opening
 pub mod Next
+pub mod Part
+pub mod Listed

@@ -33,13 +33,14 @@ pub(crate) fn read_front<D: Disk>(
     ensures cells { OnOk result
         (WhereTold (D.seen disk.old) (λ image. take count out.new ≡ cells_at image at count)) }
     ensures looks { Looks D.seen D.moment D.may_leave disk.old disk.new }
+    ensures stays { D.stays disk.old disk.new }
     ensures counts { Counts (D.faults disk.old) (D.faults disk.new) result }
 {
     read_body(disk, at, &mut out[..count], buffer)
 }
 
 // Reads the cells of a body that begins at a place, in parts through the buffer.
-fn read_body<D: Disk>(
+pub(crate) fn read_body<D: Disk>(
     disk: &mut D,
     at: u64,
     out: &mut [Cell],
@@ -50,6 +51,7 @@ fn read_body<D: Disk>(
     ensures cells { OnOk result
         (WhereTold (D.seen disk.old) (λ image. out.new ≡ cells_at image at (length out.old))) }
     ensures looks { Looks D.seen D.moment D.may_leave disk.old disk.new }
+    ensures stays { D.stays disk.old disk.new }
     ensures counts { Counts (D.faults disk.old) (D.faults disk.new) result }
 {
     let mut done = 0;
@@ -77,6 +79,7 @@ fn read_part<D: Disk>(
         (λ image. take first out.old ≡ cells_at image body first
         → take (first + count) out.new ≡ cells_at image body (first + count))) }
     ensures looks { Looks D.seen D.moment D.may_leave disk.old disk.new }
+    ensures stays { D.stays disk.old disk.new }
     ensures counts { Counts (D.faults disk.old) (D.faults disk.new) result }
 {
     load_front(disk, body + 24 * first as u64, buffer, 24 * count)?;
@@ -91,6 +94,7 @@ fn load_front<D: Disk>(disk: &mut D, at: u64, buffer: &mut [u8], count: usize) -
         (WhereTold (D.seen disk.old)
         (λ image. (k : ℕ) → k < count → slice_index buffer.new k ≡ slice_index image (at + k))) }
     ensures looks { Looks D.seen D.moment D.may_leave disk.old disk.new }
+    ensures stays { D.stays disk.old disk.new }
     ensures counts { Counts (D.faults disk.old) (D.faults disk.new) result }
 {
     load(disk, at, &mut buffer[..count])?;

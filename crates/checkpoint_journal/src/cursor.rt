@@ -8,9 +8,11 @@ ghost use Rattle.plan_places.specs.Places.{place_at, IsPlace};
 ghost use Rattle.journal_image.specs.Finding.{HasEpoch};
 ghost use Rattle.checkpoint_journal.specs.Kept.{HoldsAny};
 ghost use Rattle.checkpoint_journal.specs.Next.{TellsThing, IsEpochOf, IsFrom, IsBeside, TellsRecord, IsPast, TellsRead, before_body};
+ghost use Rattle.checkpoint_journal.specs.Listed.{IsPlaced, TellsListed};
 
 use crate::body::read_front;
 use crate::finding::Found;
+use crate::listed::KeptAt;
 use crate::walk::{look_behind, past_mark, past_record};
 use corr_model::Cell;
 use dev_traits::{Disk, Failed};
@@ -50,6 +52,7 @@ pub(crate) fn read_record<D: Disk>(
     ensures told { IfOk result (λ read. WhereTold (D.seen disk.old)
         (λ image. TellsRead plan.now image here.now last read.epoch read.gate out.new)) }
     ensures looks { Looks D.seen D.moment D.may_leave disk.old disk.new }
+    ensures stays { D.stays disk.old disk.new }
     ensures counts { Counts (D.faults disk.old) (D.faults disk.new) result }
 {
     let next = next_record(disk, plan, here, place, last)?;
@@ -59,6 +62,39 @@ pub(crate) fn read_record<D: Disk>(
         epoch: next.epoch,
         gate: up_to(&past_record(plan, &next.gate, &next.epoch), last),
     })
+}
+
+// Goes past the next record behind a gate, at which this place is due: its epoch with the place of its cells, and the gate
+// behind it. The last gate of the journal stands at byte `last`.
+pub(crate) fn pass_record<D: Disk>(
+    disk: &mut D,
+    plan: &JobPlan,
+    here: &Found,
+    place: &Place,
+    last: u64,
+) -> Result<(KeptAt, Found), Failed>
+    requires job { IsJob plan.now }
+    requires place { IsPlace plan.now (place_at place.now) }
+    requires due { here.now.next ≡ Some place.now }
+    requires many { here.now.kept ≤ here.now.gate }
+    requires before { here.now.gate ≤ last }
+    requires more { here.now.kept < last }
+    requires short { last < 2 ^ 63 }
+    ensures placed { IfOk result (λ passed. IsPlaced plan.now passed.0) }
+    ensures past { IfOk result (λ passed. IsPast plan.now last here.now passed.0.epoch passed.1) }
+    ensures told { IfOk result (λ passed. WhereTold (D.seen disk.old)
+        (λ image. TellsListed plan.now image here.now last passed.0 passed.1)) }
+    ensures looks { Looks D.seen D.moment D.may_leave disk.old disk.new }
+    ensures stays { D.stays disk.old disk.new }
+    ensures counts { Counts (D.faults disk.old) (D.faults disk.new) result }
+{
+    let next = next_record(disk, plan, here, place, last)?;
+    let kept = KeptAt {
+        epoch: next.epoch,
+        at: body_place(&next.gate),
+    };
+    let past = past_record(plan, &next.gate, &next.epoch);
+    Ok((kept, up_to(&past, last)))
 }
 
 // The epoch of the next record behind a gate, and the gate before it: another one, where a mark stands between.
@@ -79,6 +115,7 @@ fn next_record<D: Disk>(
     ensures told { IfOk result (λ next. WhereTold (D.seen disk.old)
         (λ image. TellsRecord plan.now image here.now last next.gate next.epoch)) }
     ensures looks { Looks D.seen D.moment D.may_leave disk.old disk.new }
+    ensures stays { D.stays disk.old disk.new }
     ensures counts { Counts (D.faults disk.old) (D.faults disk.new) result }
 {
     let found = look(disk, plan, here, place)?;
@@ -111,6 +148,7 @@ fn look<D: Disk>(
     ensures told { IfOk result (λ b. WhereTold (D.seen disk.old) (λ image. TellsThing plan.now image here.now b)) }
     ensures epoch { IfOk result (HasEpoch plan.now) }
     ensures looks { Looks D.seen D.moment D.may_leave disk.old disk.new }
+    ensures stays { D.stays disk.old disk.new }
     ensures counts { Counts (D.faults disk.old) (D.faults disk.new) result }
 {
     let len = disk.len()?;
@@ -138,7 +176,7 @@ fn epoch_of(plan: &JobPlan, place: &Place, found: &Behind) -> EpochPlan
 }
 
 // A gate no further than byte `last`.
-fn up_to(gate: &Found, last: u64) -> Found
+pub(crate) fn up_to(gate: &Found, last: u64) -> Found
     ensures { result ≡ record gate.now { gate = min gate.now.gate last } }
 {
     Found {

@@ -1,7 +1,9 @@
 //! Why a journal is not opened, written or read.
 ghost use Rattle.std.specs.Prelude.{◌≡◌};
 ghost use Rattle.checkpoint_journal.specs.declared.fault.OpenFault.TheVariants.{Memory};
+ghost use Rattle.checkpoint_journal.specs.declared.fault.ListFault.TheVariants.{Disk as DiskOfList, Memory as MemoryOfList};
 
+use dev_traits::Failed;
 use journal_image::Differs;
 use std::alloc::AllocError;
 use thiserror::Error;
@@ -42,4 +44,31 @@ pub enum ReadFault {
     /// A call of the disk failed.
     #[error("the disk failed")]
     Disk,
+}
+
+/// Why the epochs of a journal are not listed.
+#[derive(Clone, Copy, Debug, PartialEq, Eq, Error)]
+pub enum ListFault {
+    /// A call of the disk failed.
+    #[error("the disk failed")]
+    Disk,
+    /// There was no memory for the list.
+    #[error("out of memory")]
+    Memory,
+}
+
+impl From<Failed> for ListFault {
+    ghost from_gives = { λ _ fault. fault ≡ DiskOfList };
+
+    fn from(_fault: Failed) -> ListFault {
+        ListFault::Disk
+    }
+}
+
+impl From<AllocError> for ListFault {
+    ghost from_gives = { λ _ fault. fault ≡ MemoryOfList };
+
+    fn from(_fault: AllocError) -> ListFault {
+        ListFault::Memory
+    }
 }

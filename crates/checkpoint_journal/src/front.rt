@@ -27,6 +27,7 @@ pub(crate) fn first_difference<D: Disk>(
         (λ at. WhereTold (D.seen disk.old) (λ image. FindsFirst id.now image at)) }
     ensures inside { IfOk result (IsInside id.now) }
     ensures looks { Looks D.seen D.moment D.may_leave disk.old disk.new }
+    ensures stays { D.stays disk.old disk.new }
     ensures counts { Counts (D.faults disk.old) (D.faults disk.new) result }
 {
     let mut done = 0;
@@ -56,6 +57,7 @@ fn compare<D: Disk>(
     ensures compares { IfOk result
         (λ n. WhereTold (D.seen disk.old) (λ image. Compares image first part.now n)) }
     ensures looks { Looks D.seen D.moment D.may_leave disk.old disk.new }
+    ensures stays { D.stays disk.old disk.new }
     ensures counts { Counts (D.faults disk.old) (D.faults disk.new) result }
 {
     let front = &mut buffer[..part.len()];
@@ -109,6 +111,7 @@ pub(crate) fn difference<D: Disk>(
     ensures front { IfOk result
         (λ d. WhereTold (D.seen disk.old) (λ image. IsOfFront id.now image d)) }
     ensures looks { Looks D.seen D.moment D.may_leave disk.old disk.new }
+    ensures stays { D.stays disk.old disk.new }
     ensures counts { Counts (D.faults disk.old) (D.faults disk.new) result }
 {
     let ours = Some(id[at as usize - 1]);

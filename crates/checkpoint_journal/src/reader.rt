@@ -17,6 +17,7 @@ use piece_plan::JobPlan;
 // Reads the bytes from a place on. Those past the file's end are zero.
 pub(crate) fn load<D: Disk>(disk: &mut D, at: u64, buf: &mut [u8]) -> Result<(), Failed>
     ensures looks { Looks D.seen D.moment D.may_leave disk.old disk.new }
+    ensures stays { D.stays disk.old disk.new }
     ensures bytes { OnOk result
         (WhereTold (D.seen disk.old)
         (λ image. (k : ℕ) → k < length buf.new → slice_index buf.new k ≡ slice_index image (at + k))) }
@@ -39,6 +40,7 @@ fn clear(buf: &mut [u8])
 // The byte at a place, zero past the file's end.
 pub(crate) fn byte_at<D: Disk>(disk: &mut D, at: u64) -> Result<u8, Failed>
     ensures looks { Looks D.seen D.moment D.may_leave disk.old disk.new }
+    ensures stays { D.stays disk.old disk.new }
     ensures byte { IfOk result
         (λ byte. WhereTold (D.seen disk.old) (λ image. byte ≡ slice_index image at)) }
     ensures counts { Counts (D.faults disk.old) (D.faults disk.new) result }
@@ -66,6 +68,7 @@ pub fn find<D: Disk>(
     ensures behind { IfOk result (FindsBehind id.now) }
     ensures job { IsJob plan.now }
     ensures looks { Looks D.seen D.moment D.may_leave disk.old disk.new }
+    ensures stays { D.stays disk.old disk.new }
     ensures counts { Counts (D.faults disk.old) (D.faults disk.new) result }
 {
     let _epochs = plan.epochs();
@@ -100,6 +103,7 @@ fn find_begun<D: Disk>(
     ensures place { IfOk result (FindsPlace plan.now) }
     ensures behind { IfOk result (FindsBehind id.now) }
     ensures looks { Looks D.seen D.moment D.may_leave disk.old disk.new }
+    ensures stays { D.stays disk.old disk.new }
     ensures counts { Counts (D.faults disk.old) (D.faults disk.new) result }
 {
     match first_difference(disk, id, len, buffer)? {

@@ -37,6 +37,7 @@ pub(crate) fn walk<D: Disk>(
     ensures place { IfOk result (FindsPlace plan.now) }
     ensures behind { IfOk result (FindsBehind id.now) }
     ensures looks { Looks D.seen D.moment D.may_leave disk.old disk.new }
+    ensures stays { D.stays disk.old disk.new }
     ensures counts { Counts (D.faults disk.old) (D.faults disk.new) result }
 {
     let mut here = first_gate(plan, id, old);
@@ -97,6 +98,7 @@ pub(crate) fn look_behind<D: Disk>(
         (λ image. IsBehind plan.now here.now.ranged (place_at place.now) (drop (here.now.gate + 1) image) (here.now.gate + 1) b)) }
     ensures epoch { IfOk result (HasEpoch plan.now) }
     ensures looks { Looks D.seen D.moment D.may_leave disk.old disk.new }
+    ensures stays { D.stays disk.old disk.new }
     ensures counts { Counts (D.faults disk.old) (D.faults disk.new) result }
 {
     let at = here.gate + 1;

@@ -17,6 +17,7 @@ loop-done-preserved g c =
     let part = c.min-part.result in
     record {
       looks = looks_both g.D.Disk.seen g.D.Disk.moment g.D.Disk.may_leave _ _ _ c.loop-done.invariant.looks c.read_part.ensures.looks;
+      stays = g.met.D.Disk.stays_on.both _ _ _ c.loop-done.invariant.stays c.read_part.ensures.stays;
       faults = search rules;
       within = omega arith;
       front = told_both _ (λ image. take done c.loop-done.out ≡ cells_at image at done)

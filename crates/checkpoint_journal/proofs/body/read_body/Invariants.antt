@@ -7,6 +7,7 @@ use Rattle.checkpoint_journal.proofs.body.read_body.Given as goal
 abbrev pub invariant-loop-done : goal.invariant-loop-done
 invariant-loop-done g l = record {
   looks : Looks g.D.Disk.seen g.D.Disk.moment g.D.Disk.may_leave l.initial.disk l.disk;
+  stays : g.D.Disk.stays l.initial.disk l.disk;
   faults : g.D.Disk.faults l.disk ≡ g.D.Disk.faults l.initial.disk;
   within : l.done ≤ length l.out;
   front : WhereTold (g.D.Disk.seen l.initial.disk) (λ image. take l.done l.out ≡ cells_at image l.at l.done);

@@ -44,5 +44,6 @@ returns-in_default g c =
           (λ image tells. tells_here job image here c.args.last found c.args.place.now e c.requires.due c.in_default.not-Mark tells c.epoch_of-in_default.ensures.same)
           c.in_ok-found.ensures.told;
       looks = c.look.ensures.looks;
+      stays = c.look.ensures.stays;
       counts = search rules;
     }

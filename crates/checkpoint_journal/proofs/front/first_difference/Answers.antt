@@ -37,6 +37,7 @@ loop-done-preserved g c =
     let all : n ≡ c.min-count.result = omega (arith, c.in_ok-same.ensures.within) in
     record {
       looks = looks_both g.D.Disk.seen g.D.Disk.moment g.D.Disk.may_leave _ _ _ c.loop-done.invariant.looks c.compare.ensures.looks;
+      stays = g.met.D.Disk.stays_on.both _ _ _ c.loop-done.invariant.stays c.compare.ensures.stays;
       faults = search rules;
       within = omega arith;
       same = told_both _ (λ image. OursTo id image done) (λ image. Compares image done (take count (drop done id)) n) (λ image. OursTo id image (done + c.min-count.result))

@@ -1,7 +1,7 @@
 use Rattle.std.proofs.Common.{◌≡◌, ◌∙◌, ℕ, ◌+◌, ◌≤◌, List, length, get_or, take, drop, true, IfSome, refl, sym, ap, subst, arith, rules}
 use Rattle.dev_traits.specs.Told.{WhereTold}
 use Rattle.plan_places.specs.Places.{place_at, IsPlace}
-use Rattle.checkpoint_journal.proofs.RunLemmas.{looks_none, looks_both}
+use Rattle.checkpoint_journal.proofs.RunLemmas.{looks_none, looks_both, stays_joined}
 use Rattle.checkpoint_journal.proofs.ToldLemmas.{told_both, told_three, told_again, told_four}
 use Rattle.journal_image.specs.declared.finding.Behind.{Behind}
 use Rattle.journal_image.specs.declared.finding.Behind.TheVariants.{Record, Mark, Fault}
@@ -20,6 +20,7 @@ loop-here-init g c =
     let first = c.first_gate-here.result in
     record {
       looks = looks_none g.D.Disk.seen g.D.Disk.moment g.D.Disk.may_leave _;
+      stays = g.met.D.Disk.stays_on.none _;
       faults = refl;
       old = c.first_gate-here.ensures.old;
       at = told_both _ (λ image. take (1 + length id) image ≡ begin id c.args.old) (λ image. MayBeOld id c.args.old) (λ image. IsAt id job image first)
@@ -83,6 +84,7 @@ loop-here-preserved-in-Record g c =
     let found = told_again seen (g.D.Disk.seen c.byte_at.new.disk) (Stands (Record c.in-Record.e)) (sym first.same) (subst (λ (b : Behind). WhereTold (g.D.Disk.seen c.byte_at.new.disk) (Stands b)) c.in-Record.is c.in_ok-e.ensures.behind) in
     record {
       looks = looks_both g.D.Disk.seen g.D.Disk.moment g.D.Disk.may_leave _ _ _ first c.look_behind.ensures.looks;
+      stays = stays_joined g.D.Disk.stays g.met.D.Disk.stays_on _ _ _ _ c.loop-here.invariant.stays c.byte_at.ensures.stays c.look_behind.ensures.stays;
       faults = search rules;
       old = c.past_record-here.ensures.same.0 ∙ c.loop-here.invariant.old;
       at = told_four seen (λ image. c.args.len ≡ length image) (λ image. c.in_ok-gate.gate ≡ get_or image here.gate 0) (Stands (Record c.in-Record.e)) (λ image. IsAt id job image here) (λ image. IsAt id job image later)
@@ -111,6 +113,7 @@ loop-here-preserved g c =
     let later : c.past_mark-here.result ≡ record here { gate = here.gate + 25; ranged = true } = c.past_mark-here.ensures in
     record {
       looks = looks_both g.D.Disk.seen g.D.Disk.moment g.D.Disk.may_leave _ _ _ first c.look_behind.ensures.looks;
+      stays = stays_joined g.D.Disk.stays g.met.D.Disk.stays_on _ _ _ _ c.loop-here.invariant.stays c.byte_at.ensures.stays c.look_behind.ensures.stays;
       faults = search rules;
       old = ap (λ (f : Found). f.old) later ∙ c.loop-here.invariant.old;
       at = told_four seen (λ image. c.args.len ≡ length image) (λ image. c.in_ok-gate.gate ≡ get_or image here.gate 0) (Stands Mark) (λ image. IsAt id job image here) (λ image. IsAt id job image c.past_mark-here.result)

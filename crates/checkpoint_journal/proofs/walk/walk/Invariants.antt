@@ -8,6 +8,7 @@ use Rattle.checkpoint_journal.proofs.walk.walk.Given as goal
 abbrev pub invariant-loop-here : goal.invariant-loop-here
 invariant-loop-here g l = record {
   looks : Looks g.D.Disk.seen g.D.Disk.moment g.D.Disk.may_leave l.initial.disk l.disk;
+  stays : g.D.Disk.stays l.initial.disk l.disk;
   faults : g.D.Disk.faults l.disk ≡ g.D.Disk.faults l.initial.disk;
   old : l.here.old ≡ l.old;
   at : WhereTold (g.D.Disk.seen l.initial.disk) (λ image. IsAt l.id l.plan image l.here);

@@ -1,0 +1,12 @@
+pub mod Shards
+pub mod Covers
+pub mod Verdict
+pub mod Merged
+pub mod Reading
+pub mod Output
+pub mod Honest
+pub mod CoverageOrder
+pub mod Adding
+pub mod CompareSteps
+pub mod Listing
+pub mod Writing

@@ -1,6 +1,8 @@
 -- What a call that is refused answers: its status, and its line on the notes.
-use Rattle.std.specs.Prelude.{ℕ, List, [], ◌∷◌, ◌++◌, Option, Some, None, codes, decimal}
+use Rattle.std.specs.Prelude.{ℕ, ℤ, List, [], ◌∷◌, ◌++◌, Option, Some, None, codes, decimal}
+use Rattle.std.specs.Fmt.{signed_decimal}
 use Rattle.hex.specs.Hex.{encode_lower}
+use Rattle.corr_model.specs.declared.cell.Cell.{Cell}
 use Rattle.vdif_frame.specs.declared.shape.Field.{Field}
 use Rattle.vdif_frame.specs.Agreement.{field_name}
 use Rattle.run_words.specs.declared.fault.WordsFault.{WordsFault}
@@ -104,3 +106,26 @@ bins_answer fault = answer 12 (codes "bins: " ∷ bins_fault_name fault.kind ∷
 -- a scan that has a sample at which the pulse has no phase
 abbrev pub no_phase_answer : List ℕ → Answer
 no_phase_answer scan = answer 12 (codes "bins: NoPhase for " ∷ scan ∷ [])
+
+-- a file that is no journal of a part of the job, and the byte at which it differs
+abbrev pub not_shard_answer : List ℕ → ℕ → Answer
+not_shard_answer name at = answer 14 (codes "merge: NotShard " ∷ name ∷ codes " at byte " ∷ decimal at ∷ [])
+
+-- an integration that no journal covers
+abbrev pub uncovered_answer : ℕ → Answer
+uncovered_answer integration = answer 14 (codes "merge: Uncovered " ∷ decimal integration ∷ [])
+
+-- the numbers of a cell, each behind a space
+abbrev pub cell_text : Cell → List ℕ
+cell_text cell =
+    codes " " ++ (signed_decimal cell.re ++ (codes " " ++ (signed_decimal cell.im ++ (codes " " ++ decimal cell.count))))
+
+-- the begin of a line that tells where two journals differ: the integration, the group and the lag
+abbrev pub place_text : ℕ → ℕ → ℤ → List ℕ
+place_text integration group lag =
+    codes "vlbi: merge: Differs " ++ (decimal integration ++ (codes " " ++ (decimal group ++ (codes " " ++ signed_decimal lag))))
+
+-- an integration in which two journals differ: the group, the lag, the cell in the first journal and the cell in the other
+abbrev pub differs_answer : ℕ → ℕ → ℤ → Cell → Cell → Answer
+differs_answer integration group lag first other =
+    record { status = 14; note = place_text integration group lag ++ (cell_text first ++ (cell_text other ++ (10 ∷ []))) }

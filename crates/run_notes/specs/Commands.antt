@@ -39,3 +39,10 @@ IsOfFilesOrOutput (Words fault) = ⊥
 IsOfFilesOrOutput (Other d) = ⊥
 IsOfFilesOrOutput (Journal kept) = ⊥
 IsOfFilesOrOutput _ = ⊤
+
+-- want of memory, and a fault of the shelf or of the output
+abbrev pub IsOfOutput : Refusal → Type 0
+IsOfOutput Memory = ⊤
+IsOfOutput Read = ⊤
+IsOfOutput Write = ⊤
+IsOfOutput _ = ⊥

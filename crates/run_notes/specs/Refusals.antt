@@ -2,10 +2,10 @@
 -- on the journal, which is due where it is the first that stands; and the fault of a device.
 use Rattle.std.specs.Prelude.{⊤, Result, Ok, Err}
 use Rattle.run_notes.specs.declared.refusal.Due.{Due}
-use Rattle.run_notes.specs.declared.refusal.Due.TheVariants.{Vex, Schedule, Job, Join, Limit, NoFile, Recording, Records, Certificate, Bins, NoPhase}
+use Rattle.run_notes.specs.declared.refusal.Due.TheVariants.{Vex, Schedule, Job, Join, Limit, NoFile, Recording, Records, Certificate, Bins, NoPhase, NotShard, Uncovered, Differs}
 use Rattle.run_notes.specs.declared.refusal.Refusal.{Refusal}
 use Rattle.run_notes.specs.declared.refusal.Refusal.TheVariants.{Memory, Words, Due as DueRefusal, Other, Read, Journal, Write}
-use Rattle.run_notes.specs.Answers.{Answer, memory_answer, words_answer, vex_answer, schedule_answer, job_answer, join_answer, limit_answer, no_file_answer, recording_answer, records_answer, certificate_answer, bins_answer, no_phase_answer, other_answer, read_answer, journal_answer, write_answer}
+use Rattle.run_notes.specs.Answers.{Answer, memory_answer, words_answer, vex_answer, schedule_answer, job_answer, join_answer, limit_answer, no_file_answer, recording_answer, records_answer, certificate_answer, bins_answer, no_phase_answer, not_shard_answer, uncovered_answer, differs_answer, other_answer, read_answer, journal_answer, write_answer}
 
 -- the answer of what is wrong with the files of a call
 abbrev pub due_answer : Due → Answer
@@ -20,6 +20,9 @@ due_answer (Records fault) = records_answer fault
 due_answer (Certificate at) = certificate_answer at
 due_answer (Bins fault) = bins_answer fault
 due_answer (NoPhase scan) = no_phase_answer scan
+due_answer (NotShard name at) = not_shard_answer name at
+due_answer (Uncovered integration) = uncovered_answer integration
+due_answer (Differs integration group lag first other) = differs_answer integration group lag first other
 
 abbrev pub answer_of : Refusal → Answer
 answer_of Memory = memory_answer
@@ -72,3 +75,13 @@ abbrev pub MatchReadOrJournal : Refusal → Type 0 → Type 0 → Type 0 → Typ
 MatchReadOrJournal Read P Q R = P
 MatchReadOrJournal (Journal kept) P Q R = Q
 MatchReadOrJournal _ P Q R = R
+
+-- a fact where a refusal is a verdict on files
+abbrev pub WhereVerdict : Refusal → Type 0 → Type 0
+WhereVerdict (DueRefusal due) P = P
+WhereVerdict _ P = ⊤
+
+-- a fact where it is want of memory
+abbrev pub WhereMemory : Refusal → Type 0 → Type 0
+WhereMemory Memory P = P
+WhereMemory _ P = ⊤

@@ -4,9 +4,10 @@ ghost use Rattle.hex.specs.Hex.{encode_lower};
 ghost use Rattle.sink_text.specs.Appends.{Appends};
 ghost use Rattle.sink_text.specs.Written.{Puts};
 ghost use Rattle.run_notes.specs.Refusals.{answer_of, due_answer};
-ghost use Rattle.run_notes.specs.Answers.{words_answer, byte_answer, byte_or_none, other_answer};
+ghost use Rattle.run_notes.specs.Answers.{words_answer, byte_answer, byte_or_none, other_answer, differs_answer, cell_text, place_text};
 
 use crate::refusal::{Due, Refusal};
+use corr_model::Cell;
 use dev_traits::{Failed, Sink};
 use hex::encode_to_slice;
 use journal_image::Differs;
@@ -40,6 +41,7 @@ fn due_status(due: &Due) -> u8
         Due::NoFile(_) => 11,
         Due::Certificate(_) => 13,
         Due::Bins(_) | Due::NoPhase(_) => 12,
+        Due::NotShard(_, _) | Due::Uncovered(_) | Due::Differs { .. } => 14,
     }
 }
 
@@ -171,6 +173,31 @@ fn write_due<N: Sink>(due: &Due, notes: &mut N) -> Result<(), Failed>
             ],
             notes,
         ),
+        Due::NotShard(name, at) => append_pieces(
+            &[
+                Piece::Text("vlbi: merge: NotShard "),
+                Piece::Bytes(name.bytes()),
+                Piece::Text(" at byte "),
+                Piece::Number(*at),
+                Piece::Text("\n"),
+            ],
+            notes,
+        ),
+        Due::Uncovered(integration) => append_pieces(
+            &[
+                Piece::Text("vlbi: merge: Uncovered "),
+                Piece::Number(*integration),
+                Piece::Text("\n"),
+            ],
+            notes,
+        ),
+        Due::Differs {
+            integration,
+            group,
+            lag,
+            first,
+            other,
+        } => write_differs(*integration, group, lag, first, other, notes),
     }
 }
 
@@ -188,6 +215,65 @@ fn write_at_byte<N: Sink>(name: &str, at: u64, notes: &mut N) -> Result<(), Fail
         ],
         notes,
     )
+}
+
+// Writes the line of two journals that differ in a cell.
+fn write_differs<N: Sink>(
+    integration: u64,
+    group: &u32,
+    lag: &i32,
+    first: &Cell,
+    other: &Cell,
+    notes: &mut N,
+) -> Result<(), Failed>
+    ensures { Appends (N.told notes.old) (N.told notes.new) (differs_answer integration group.now lag.now first.now other.now).note (N.faults notes.old) (N.faults notes.new) result }
+{
+    let mut line = Stretch::new();
+    put_place(
+        integration,
+        u64::from(*group),
+        i64::from(*lag),
+        &mut line,
+        notes,
+    );
+    put_cell(first, &mut line, notes);
+    put_cell(other, &mut line, notes);
+    line.put(b"\n", notes);
+    line.finish(notes)
+}
+
+// Puts the begin of that line: the integration, the group and the lag.
+fn put_place<N: Sink>(integration: u64, group: u64, lag: i64, line: &mut Stretch, notes: &mut N)
+    ensures { Puts (place_text integration group lag) line.old line.new (N.told notes.old) (N.told notes.new) (N.faults notes.old) (N.faults notes.new) }
+{
+    line.put_pieces(
+        &[
+            Piece::Text("vlbi: merge: Differs "),
+            Piece::Number(integration),
+            Piece::Text(" "),
+            Piece::Number(group),
+            Piece::Text(" "),
+            Piece::Signed(lag),
+        ],
+        notes,
+    );
+}
+
+// Puts the three numbers of a cell, each behind a space.
+fn put_cell<N: Sink>(cell: &Cell, line: &mut Stretch, notes: &mut N)
+    ensures { Puts (cell_text cell.now) line.old line.new (N.told notes.old) (N.told notes.new) (N.faults notes.old) (N.faults notes.new) }
+{
+    line.put_pieces(
+        &[
+            Piece::Text(" "),
+            Piece::Signed(cell.re),
+            Piece::Text(" "),
+            Piece::Signed(cell.im),
+            Piece::Text(" "),
+            Piece::Number(cell.count),
+        ],
+        notes,
+    );
 }
 
 // Writes the line of another job's journal.

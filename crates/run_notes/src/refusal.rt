@@ -2,6 +2,7 @@
 ghost use Rattle.std.specs.Prelude.{◌≡◌};
 
 use crate::measure::Measure;
+use corr_model::Cell;
 use job_join::JoinFault;
 use job_text::JobFault;
 use journal_image::Differs;
@@ -41,6 +42,19 @@ pub enum Due {
     Bins(BinsFault),
     /// A scan of this name has a sample at which the pulse has no phase.
     NoPhase(Name),
+    /// The file of this name is no journal of a part of the job: the byte at which it differs.
+    NotShard(Name, u64),
+    /// No journal covers the integration of this number.
+    Uncovered(u64),
+    /// Two journals that cover an integration have different cells in it: the number of the integration, of the group (product by
+    /// product, then baseline) and the lag, the cell in the first journal and the cell in the other.
+    Differs {
+        integration: u64,
+        group: u32,
+        lag: i32,
+        first: Cell,
+        other: Cell,
+    },
 }
 
 /// Why a call did not do what it was asked for.

@@ -1,9 +1,9 @@
 -- Options and words of a command, and what words give them, as `clap` defines it.
 use Rattle.std.specs.Prelude.{◌≡◌, ◌⊎◌, true, List, [], ◌∷◌, Option, Some, None, Result, Ok, Err, codes}
 use Rattle.std.specs.Option.{option_map_or}
-use Rattle.clap.specs.Words.{App, Rule, Row, Text, Kinds, new_app, new_rule, with_rule, fault_of, matches_of, rows_of, found_of, first_of}
+use Rattle.clap.specs.Words.{App, Rule, Row, Text, Kinds, new_app, new_rule, with_rule, fault_of, matches_of, rows_of, found_of, first_of, all_of}
 use Rattle.clap.specs.Simple.{on_top}
-use Rattle.clap.specs.declared.builder.action.ArgAction.TheVariants.{Set}
+use Rattle.clap.specs.declared.builder.action.ArgAction.TheVariants.{Set, Append}
 use Rattle.clap.specs.declared.parser.matches.ArgMatches.{ArgMatches}
 use Rattle.clap.specs.declared.error.kind.ErrorKind.{ErrorKind}
 use Rattle.clap.specs.declared.error.kind.ErrorKind.TheVariants.{OutOfMemory}
@@ -21,6 +21,10 @@ needed_option name = record (new_rule name) { long = Some name; action = Some Se
 -- a word that has to be there
 abbrev pub needed_word : Text → Rule
 needed_word name = record (new_rule name) { action = Some Set; required = true }
+
+-- words of which one has to be there, and any number may be
+abbrev pub needed_words : Text → Rule
+needed_words name = record (new_rule name) { action = Some Append; required = true }
 
 -- a command of which all words are options and their values
 abbrev pub bare_app : Text → App
@@ -57,6 +61,15 @@ abbrev pub ◌>>=◌ : {A B : Type 0} → Result A WordsFault → (A → Result 
 -- the text of an option or a word that has to be there
 unfoldable pub needed : Text → List Row → Result Text WordsFault
 needed name rows = option_map_or Ok (first_of name rows) (Err OptionFault)
+
+-- texts, of which there has to be one
+abbrev pub unless_none : List Text → Result (List Text) WordsFault
+unless_none [] = Err OptionFault
+unless_none (text ∷ texts) = Ok (text ∷ texts)
+
+-- the texts of words of which one has to be there, in their order
+unfoldable pub all_needed : Text → List Row → Result (List Text) WordsFault
+all_needed name rows = option_map_or unless_none (all_of name rows) (Err OptionFault)
 
 -- what is read of the text of an option that may be absent, where it is there
 unfoldable pub given : {A : Type 0} → Text → (Text → Result A WordsFault) → List Row → Result (Option A) WordsFault

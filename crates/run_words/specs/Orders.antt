@@ -1,14 +1,15 @@
 -- What `clap` takes behind the name of each command, the order that is read of it, or the first fault, and what an order is that was read.
 use Rattle.read_steps.specs.Steps as steps
 use Rattle.std.specs.Prelude.{ℕ, ◌<◌, ◌≤◌, ◌^◌, ◌-◌, nat_lt, List, [], ◌∷◌, Option, Result, Ok, Err, IfSome, codes, bytes_eq, if◌then◌else◌}
+use Rattle.std.specs.List.{All}
 use Rattle.std.specs.Str.{IsUtf8}
 use Rattle.clap.specs.Words.{App, Row, Text, with_rule, first_of}
 use Rattle.run_words.specs.declared.fault.WordsFault.{WordsFault}
 use Rattle.run_words.specs.declared.fault.WordsFault.TheVariants.{NoCommand, UnknownCommand, Value, Memory}
 use Rattle.run_words.specs.declared.order.Order.{Order}
-use Rattle.run_words.specs.declared.order.Order.TheVariants.{Run, Plain, Check, Status, Dump, Gen, Fringe, Verify, Bins, Shard}
+use Rattle.run_words.specs.declared.order.Order.TheVariants.{Run, Plain, Check, Status, Dump, Gen, Fringe, Verify, Bins, Shard, Merge}
 use Rattle.run_words.specs.Numbers.{number_in, epoch_in, workers_in, piece_in}
-use Rattle.run_words.specs.Options.{◌>>=◌, option_rule, needed_option, needed_word, bare_app, work_app, needed, given, taken_by}
+use Rattle.run_words.specs.Options.{◌>>=◌, option_rule, needed_option, needed_word, needed_words, bare_app, work_app, needed, all_needed, given, taken_by}
 
 -- ---- a command on a job, by the names of its file and of the schedule's
 
@@ -141,6 +142,17 @@ shard_of rows =
     part_in from_text to_text >>= λ part.
     Ok (Shard job (first_of (codes "vex") rows) epoch workers piece part.0 part.1)
 
+-- ---- `merge`: a job as of `plain`, and the files of the journals of its parts
+
+abbrev pub merge_app : App
+merge_app = with_rule (job_app (codes "merge")) (needed_words (codes "files"))
+
+unfoldable pub merge_of : List Row → Result Order WordsFault
+merge_of rows =
+    job_names_of rows >>= λ names.
+    all_needed (codes "files") rows >>= λ files.
+    Ok (Merge names.0 names.1 files)
+
 -- ---- the order of words
 
 -- the order of a command and the words behind it
@@ -156,6 +168,7 @@ order_after command words =
     else if bytes_eq command (codes "verify") then taken_by verify_app verify_of words
     else if bytes_eq command (codes "bins") then taken_by bins_app bins_of words
     else if bytes_eq command (codes "shard") then taken_by shard_app shard_of words
+    else if bytes_eq command (codes "merge") then taken_by merge_app merge_of words
     else Err UnknownCommand
 
 abbrev pub order_of : List Text → Result Order WordsFault
@@ -206,3 +219,4 @@ IsOrder (Fringe file rates divide) = IsUtf8 file × IsGrid rates divide
 IsOrder (Verify file certificate) = IsUtf8 file × IsUtf8 certificate
 IsOrder (Bins job vex phase workers piece) = AreNames job vex × (IsUtf8 phase × IsWork workers piece)
 IsOrder (Shard job vex epoch workers piece from to) = AreNames job vex × (IsCut epoch × (IsWork workers piece × (from < to)))
+IsOrder (Merge job vex files) = AreNames job vex × All IsUtf8 files

@@ -1,7 +1,7 @@
 //! Commands as `clap` knows them, by their options and words, and what it makes of the words behind a command's name.
 ghost use Rattle.std.specs.Prelude.{◌≡◌, IfOk, map, string_bytes, true, false};
 ghost use Rattle.clap.specs.Words.{app_of, rule_of, with_rule, is_simple_and_free};
-ghost use Rattle.run_words.specs.Options.{option_rule, needed_option, needed_word, bare_app, work_app, rows_in, kind_fault, Parses};
+ghost use Rattle.run_words.specs.Options.{option_rule, needed_option, needed_word, needed_words, bare_app, work_app, rows_in, kind_fault, Parses};
 
 use crate::fault::WordsFault;
 use clap::error::ErrorKind;
@@ -33,6 +33,16 @@ pub(crate) fn needed_word<'a>(alloc: Global, name: &'a str) -> Arg<'a>
     ensures local { result.global ≡ false }
 {
     Arg::new(alloc, name).action(ArgAction::Set).required(true)
+}
+
+/// Words of which one has to be there, and any number may be.
+pub(crate) fn needed_words<'a>(alloc: Global, name: &'a str) -> Arg<'a>
+    ensures rule { rule_of result ≡ needed_words name.entry.now }
+    ensures local { result.global ≡ false }
+{
+    Arg::new(alloc, name)
+        .action(ArgAction::Append)
+        .required(true)
 }
 
 /// A command without options, whose name is none of its words.

@@ -2,22 +2,25 @@
 ghost use Rattle.std.specs.Prelude.{◌≡◌, IfOk, map, string_bytes};
 ghost use Rattle.clap.specs.Words.{app_of, rows_of, found_of};
 ghost use Rattle.run_words.specs.Options.{taken_by};
-ghost use Rattle.run_words.specs.Orders.{job_app, job_names_of, cut_app, cut_names_of, run_app, run_of, dump_app, dump_of, gen_app, gen_of, fringe_app, fringe_of, verify_app, verify_of, bins_app, bins_of, shard_app, shard_of, order_after, Gives, AreNames, IsCut, IsOrder};
+ghost use Rattle.run_words.specs.Orders.{job_app, job_names_of, cut_app, cut_names_of, run_app, run_of, dump_app, dump_of, gen_app, gen_of, fringe_app, fringe_of, verify_app, verify_of, bins_app, bins_of, shard_app, shard_of, merge_app, merge_of, order_after, Gives, AreNames, IsCut, IsOrder};
 
 use crate::fault::WordsFault;
-use crate::given::{epoch_given, name_given, name_of, needed};
+use crate::given::{all_needed, epoch_given, name_given, name_of, needed};
 use crate::numbers::{number_in, part_in, piece_in, workers_in};
-use crate::options::{bare, needed_option, needed_word, option, parsed, with, with_work};
+use crate::options::{
+    bare, needed_option, needed_word, needed_words, option, parsed, with, with_work,
+};
 use clap::{ArgMatches, Command};
+use item_list::ItemList;
 use num_time::Name;
 use std::alloc::{AllocError, Global};
 
 /// What a call asks for, by its command: the name of the job's file and that of the schedule's, where there is one; the samples
 /// of an epoch, where they are not those of the job's own line; how many workers share the work, and the samples of a piece of it; the name of a record file; of a generated job the seed and the
 /// length in seconds; of a search for fringes how many rates lie on either side of 0, and what divides a rate to steps of a
-/// sixteenth of a turn in an integration; the name of a certificate's file; that of the file of a pulse's phase; and of a shard,
-/// which sums a part of a job into a journal of its own, the numbers of the part's first integration and of the first one behind it.
-/// Integrations are numbered from 0 through the whole job.
+/// sixteenth of a turn in an integration; the name of a certificate's file; that of the file of a pulse's phase; of a shard,
+/// which sums a part of a job into a journal of its own, the numbers of the part's first integration and of the first one behind it;
+/// and of a merge the names of the files of such journals. Integrations are numbered from 0 through the whole job.
 #[derive(Debug, Drop)]
 pub enum Order {
     Run {
@@ -75,6 +78,11 @@ pub enum Order {
         from: u64,
         to: u64,
     },
+    Merge {
+        job: Name,
+        vex: Option<Name>,
+        files: ItemList<Name>,
+    },
 }
 
 /// The order of a command and the words behind it.
@@ -110,6 +118,8 @@ pub(crate) fn order_after(
         bins_order(alloc, words)
     } else if command == "shard" {
         shard_order(alloc, words)
+    } else if command == "merge" {
+        merge_order(alloc, words)
     } else {
         Err(WordsFault::UnknownCommand)
     }
@@ -463,4 +473,35 @@ fn shard_order(alloc: Global, words: &[String]) -> Result<Order, WordsFault>
 {
     let matches = parsed(shard_command(alloc)?, words)?;
     shard_of(alloc, &matches)
+}
+
+// ---- `merge`: a job as of `plain`, and the files of the journals of its parts
+
+// The command.
+fn merge_command<'a>(alloc: Global) -> Result<Command<'a>, AllocError>
+    ensures { IfOk result (λ command. app_of command ≡ merge_app) }
+{
+    let command = job_command(alloc, "merge")?;
+    with(command, needed_words(alloc, "files"))
+}
+
+// Its order.
+#[tactic(auto, unfolding(crate::specs::Orders::merge_of))]
+fn merge_of(alloc: Global, matches: &ArgMatches) -> Result<Order, WordsFault>
+    ensures order { Gives result (merge_of (rows_of (found_of matches.now))) }
+    ensures is_order { IfOk result IsOrder }
+{
+    let (job, vex) = job_names_of(alloc, matches)?;
+    let files = all_needed(alloc, matches, "files")?;
+    Ok(Order::Merge { job, vex, files })
+}
+
+// The order of the words behind `merge`.
+#[tactic(auto, unfolding(crate::specs::Options::taken_by))]
+fn merge_order(alloc: Global, words: &[String]) -> Result<Order, WordsFault>
+    ensures order { Gives result (taken_by merge_app merge_of (map string_bytes words.now)) }
+    ensures is_order { IfOk result IsOrder }
+{
+    let matches = parsed(merge_command(alloc)?, words)?;
+    merge_of(alloc, &matches)
 }

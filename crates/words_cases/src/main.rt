@@ -128,6 +128,14 @@ fn order_of(alloc: Global, order: &Order) -> Result<String> {
             let names = cut_of(alloc, "shard", job, vex, epoch)?;
             Ok(format!(in alloc; "{names} workers {workers} piece {piece} from {from} to {to}")?)
         }
+        Order::Merge { job, vex, files } => {
+            let mut words = names_of(alloc, "merge", job, vex)?;
+            write!(words, " files")?;
+            for file in files.items() {
+                write!(words, " \"{}\"", text_of(file)?.escape_debug())?;
+            }
+            Ok(words)
+        }
     }
 }
 

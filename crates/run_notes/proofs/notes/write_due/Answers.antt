@@ -1,3 +1,7 @@
+use Rattle.std.proofs.Common.{rules, w32, FitsSigned, to_z, of_z, sym, subst}
+use Rattle.std.proofs.lemmas.Int.{to_z-of_z}
+use Rattle.sink_text.specs.Appends.{Appends}
+use Rattle.run_notes.specs.Refusals.{due_answer}
 use Rattle.run_notes.proofs.notes.write_due.Goals as goal
 
 pub returns-in-Vex : goal.returns-in-Vex
@@ -29,3 +33,12 @@ returns-in-Bins g c = rw (c.in-Bins.is, ← c.name-in-Bins.ensures) c.append_pie
 
 pub returns-in-NoPhase : goal.returns-in-NoPhase
 returns-in-NoPhase g c = rw (c.in-NoPhase.is, ← c.bytes-in-NoPhase.ensures) c.append_pieces-in-NoPhase.ensures
+
+pub returns-in-NotShard : goal.returns-in-NotShard
+returns-in-NotShard g c = rw (c.in-NotShard.is, ← c.bytes-in-NotShard.ensures) c.append_pieces-in-NotShard.ensures
+
+pub returns-in-Uncovered : goal.returns-in-Uncovered
+returns-in-Uncovered g c = rw (c.in-Uncovered.is) c.append_pieces-in-Uncovered.ensures
+
+pub returns-in-Differs : goal.returns-in-Differs
+returns-in-Differs g c = rw (c.in-Differs.is) c.write_differs.ensures

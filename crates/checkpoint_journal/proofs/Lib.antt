@@ -5,6 +5,7 @@ pub mod ReadLemmas
 pub mod ReadCells
 pub mod WriteLemmas
 pub mod TextLemmas
+pub mod BodyCells
 pub mod ToldLemmas
 pub mod FrontLemmas
 pub mod StepLemmas

@@ -5,6 +5,7 @@ pub mod RowLemmas
 pub mod RangeCells
 pub mod FoldLemmas
 pub mod AddedLemmas
+pub mod EpochCells
 pub mod CountedSums
 pub mod SumCells
 pub mod PlacedCells

@@ -32,8 +32,8 @@ use Rattle.vis_writer.specs.Cells as counts
 use Rattle.vis_writer.specs.PlanCells.{cells_from}
 use Rattle.vis_writer.proofs.PlanText.{output-numbered}
 use Rattle.journal_records.specs.Kept.{added_kept, kept_cells, kept_text}
-use Rattle.journal_records.proofs.BodyCells.{body_cells-body_text}
-use Rattle.journal_records.proofs.EpochCells.{map-back, epoch_sums-IsCell}
+use Rattle.checkpoint_journal.proofs.BodyCells.{body_cells-body_text}
+use Rattle.job_epochs.proofs.EpochCells.{map-back, epoch_sums-IsCell}
 use Rattle.journal_records.proofs.AddedEpochs.{cover-added}
 
 -- the epochs of what is kept

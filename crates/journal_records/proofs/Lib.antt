@@ -1,5 +1,3 @@
-pub mod BodyCells
-pub mod EpochCells
 pub mod OrderSteps
 pub mod AddedEpochs
 pub mod KeptLemmas

@@ -15,6 +15,7 @@ mod piece;
 
 pub use epoch::EpochPlan;
 pub use job::{JobPlan, ScanSize};
+pub use limit::integrations_in;
 pub use piece::{Piece, PiecePlan};
 
 #[cfg(test)]

@@ -6,8 +6,8 @@ ghost use Rattle.piece_plan.specs.Limited.{limited_scan};
 
 use crate::ScanSize;
 
-// How many integrations of a scan belong to the job.
-pub(crate) fn integrations_in(size: &ScanSize, integration: u64) -> u64
+/// How many integrations of a scan belong to the job.
+pub fn integrations_in(size: &ScanSize, integration: u64) -> u64
     requires integration { 0 < integration }
     requires first { size.now.first * integration ≤ size.now.samples }
     requires samples { size.now.samples ≤ 2 ^ 40 }

@@ -26,8 +26,8 @@ use Rattle.journal_image.specs.Image.{KeptEpoch}
 use Rattle.shard_merge.specs.Covers.{follow, covers, epochs_of_kept, width_at, added, kept_in, shard_cells}
 use Rattle.shard_merge.specs.Honest.{EpochsFit, AreHonest}
 use Rattle.shard_merge.proofs.LawLists.{both-left, both-right, Each-all, Each-filter, filter-map}
-use Rattle.shard_merge.proofs.LawBodies.{body_cells-body_text}
-use Rattle.shard_merge.proofs.LawSums.{epoch_sums-IsCell}
+use Rattle.checkpoint_journal.proofs.BodyCells.{body_cells-body_text}
+use Rattle.job_epochs.proofs.EpochCells.{epoch_sums-IsCell}
 
 -- an epoch of the integration, with the cells of its samples
 record IsOwn (plan : Plan) (z : Samples) (scan : ScanPlan) (job : JobSizes) (number m : ℕ) (k : KeptEpoch) : Type 0 where

@@ -30,7 +30,7 @@ use Rattle.shard_merge.specs.Verdict.{integrations_in, verdict_at, verdict}
 use Rattle.shard_merge.specs.Merged.{first_image, merged_cells, merged}
 use Rattle.shard_merge.specs.Honest.{EpochsFit, AreHonest}
 use Rattle.shard_merge.proofs.LawLists.{Each-all, Each-mapped, Each-filter}
-use Rattle.shard_merge.proofs.LawSums.{map-back}
+use Rattle.job_epochs.proofs.EpochCells.{map-back}
 use Rattle.shard_merge.proofs.LawCells.{AreTrue, shard_cells-are}
 use Rattle.shard_merge.proofs.LawVerdicts.{verdict_on-one, verdict_on-some, verdict_from-agrees, verdict-none}
 

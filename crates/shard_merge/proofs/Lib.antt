@@ -4,8 +4,6 @@ pub mod CoveragePoints
 pub mod CoverageReads
 pub mod LawLists
 pub mod LawShards
-pub mod LawSums
-pub mod LawBodies
 pub mod LawCells
 pub mod LawVerdicts
 pub mod LawOutput

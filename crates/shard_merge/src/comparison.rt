@@ -5,7 +5,7 @@ ghost use Rattle.dev_traits.specs.Fault.{Counts};
 ghost use Rattle.dev_traits.specs.Told.{WhereTold};
 ghost use Rattle.corr_model.specs.declared.cell.Cell.{Cell};
 ghost use Rattle.piece_plan.specs.declared.job.ScanSize.{ScanSize};
-ghost use Rattle.piece_plan.specs.Epochs.{AreLags, job_sizes, integration_count};
+ghost use Rattle.piece_plan.specs.Epochs.{AreLags};
 ghost use Rattle.journal_image.specs.Image.{KeptEpoch};
 ghost use Rattle.shard_merge.specs.Covers.{width_at};
 ghost use Rattle.shard_merge.specs.Verdict.{same_cell, difference, earlier, differ_in, verdict_on, verdict_at, integrations_in, verdict_from, verdict, IsVerdict};
@@ -20,7 +20,7 @@ use crate::fault::{CellsDiffer, MergeFault};
 use crate::shard::Shard;
 use corr_model::Cell;
 use dev_traits::{Failed, Shelf};
-use piece_plan::{JobPlan, ScanSize};
+use piece_plan::{JobPlan, ScanSize, integrations_in};
 use std::alloc::{AllocError, Global};
 
 // How many cells of a shard are read at a time, and how many bytes that are.
@@ -97,17 +97,6 @@ fn width_of(size: &ScanSize, lags: u32) -> usize
     size.products as usize * size.baselines as usize * lags as usize
 }
 
-// How many integrations of a scan belong to the job.
-fn count_of(size: &ScanSize, integration: u64) -> u64
-    requires integration { 0 < integration }
-    requires first { size.now.first * integration ≤ size.now.samples }
-    requires samples { size.now.samples ≤ 2 ^ 40 }
-    ensures count { (scans : List ScanSize) (epoch lags : ℕ) → result ≡ integration_count (job_sizes scans integration epoch lags) size.now }
-    ensures few { result ≤ 2 ^ 40 }
-{
-    (size.samples - size.first * integration).div_ceil(integration)
-}
-
 // The greater of two numbers of cells.
 fn wider(most: usize, width: usize) -> usize
     ensures most { most ≤ result }
@@ -155,7 +144,7 @@ fn compare_scans<F: Shelf>(
     let mut i = 0;
     for (number, size) in plan.scans().iter().enumerate() {
         let width = width_of(size, lags);
-        let count = count_of(size, integration);
+        let count = integrations_in(size, integration);
         compare_scan(
             shelf,
             shards,

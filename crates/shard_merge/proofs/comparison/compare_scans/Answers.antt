@@ -24,16 +24,16 @@ loop-number-preserved g c =
     let is : size ≡ get_or plan.scans c.loop-number.number size =
     get_or_default scans c.loop-number.number _ size c.loop-number-test.true
     ∙ ap (λ (xs : List ScanSize). get_or xs c.loop-number.number size) c.scans-size-items.ensures.sizes in
-    let many : c.count_of-count.result ≡ integration_count plan size =
-    c.count_of-count.ensures.count plan.scans plan.epoch plan.lags
+    let many : c.integrations_in-count.result ≡ integration_count plan size =
+    c.integrations_in-count.ensures.count plan.scans plan.epoch plan.lags
     ∙ ap (λ n. integration_count (job_sizes plan.scans n plan.epoch plan.lags) size) c.integration-integration.ensures.samples in
     record {
-      few = omega (arith, before.few, c.count_of-count.ensures.few);
+      few = omega (arith, before.few, c.integrations_in-count.ensures.few);
       same = c.in_ok-compare_scan.ensures.same ∙ before.same;
       kept = c.in_ok-compare_scan.ensures.counts ∙ before.kept;
       left =
           IsLeftInJob-more (g.F.Shelf.told c.args.shelf.now) (g.F.Shelf.told c.loop-number.shelf) plan c.args.shards.now c.loop-number.i
-          c.loop-number.number c.count_of-count.result size before.same within is many before.left c.in_ok-compare_scan.ensures.verdict;
+          c.loop-number.number c.integrations_in-count.result size before.same within is many before.left c.in_ok-compare_scan.ensures.verdict;
     }
 
 pub returns-in_err-compare_scan-clause-verdict : goal.returns-in_err-compare_scan-clause-verdict
@@ -46,13 +46,13 @@ returns-in_err-compare_scan-clause-verdict g c =
     let is : size ≡ get_or plan.scans c.loop-number.number size =
     get_or_default scans c.loop-number.number _ size c.loop-number-test.true
     ∙ ap (λ (xs : List ScanSize). get_or xs c.loop-number.number size) c.scans-size-items.ensures.sizes in
-    let many : c.count_of-count.result ≡ integration_count plan size =
-    c.count_of-count.ensures.count plan.scans plan.epoch plan.lags
+    let many : c.integrations_in-count.result ≡ integration_count plan size =
+    c.integrations_in-count.ensures.count plan.scans plan.epoch plan.lags
     ∙ ap (λ n. integration_count (job_sizes plan.scans n plan.epoch plan.lags) size) c.integration-integration.ensures.samples in
     let p = err_from_is_err_and c.from_residual.result c.from_residual.ensures.1 in
     rw (p.1, p.2)
     (IsLeftInJob-fault (Unit {0}) (g.F.Shelf.told c.args.shelf.now) (g.F.Shelf.told c.loop-number.shelf) plan c.args.shards.now c.loop-number.i
-    c.loop-number.number c.count_of-count.result size _ before.same within is many before.left c.in_err-compare_scan.ensures.verdict)
+    c.loop-number.number c.integrations_in-count.result size _ before.same within is many before.left c.in_err-compare_scan.ensures.verdict)
 
 pub returns-clause-verdict : goal.returns-clause-verdict
 returns-clause-verdict g c =

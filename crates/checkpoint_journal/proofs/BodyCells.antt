@@ -12,7 +12,6 @@ use Rattle.byteorder.specs.Numbers.{little_number-reads_back, length-bytes_low_f
 use Rattle.corr_model.specs.declared.cell.Cell.{Cell}
 use Rattle.corr_model.specs.Records.{IsCell, cell_text}
 use Rattle.corr_model.proofs.CellLemmas.{same_cell}
-use Rattle.job_epochs.proofs.EachLemmas.{Each}
 use Rattle.checkpoint_journal.specs.Cells.{body_text, cell_from, cells_at, body_cells}
 use Rattle.checkpoint_journal.proofs.NumberLemmas.{little_from-places}
 use Rattle.checkpoint_journal.proofs.ReadCells.{cell_from-same}
@@ -86,7 +85,7 @@ cell_from-body_text (d ∷ cells) (suc k) c there is =
     ∙ cell_from-body_text cells k c there is
 
 -- the cells are read back
-pub body_cells-body_text : (cells : List Cell) → Each IsCell cells → body_cells (body_text cells) ≡ cells
+pub body_cells-body_text : (cells : List Cell) → ((k : ℕ) (c : Cell) → slice_get cells k ≡ Some c → IsCell c) → body_cells (body_text cells) ≡ cells
 body_cells-body_text cells all =
     let at : ℕ → Cell = λ i. cell_from (body_text cells) (0 + 24 * i) in
     let count : length (body_text cells) / 24 ≡ length cells = omega (arith, length-body_text cells) in

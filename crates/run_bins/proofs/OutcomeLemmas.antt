@@ -1,6 +1,6 @@
 -- What the files of a job and a pulse come to, step by step, and what the command tells of it.
 use Rattle.std.specs.Prelude.{option_map, IfErr}
-use Rattle.std.proofs.Common.{◌≡◌, ℕ, List, Option, Some, None, Result, Ok, Err, refl, sym, ap, inl, inr}
+use Rattle.std.proofs.Common.{◌≡◌, ℕ, List, Option, Some, None, Result, Ok, sym, ap}
 use Rattle.corr_model.specs.Files.{Files}
 use Rattle.dev_traits.specs.Told.{WhereTold}
 use Rattle.job_plan.specs.declared.plan.Plan.{Plan}
@@ -10,10 +10,10 @@ use Rattle.pulsar_bins.specs.Scans.{no_phase}
 use Rattle.vis_writer.specs.Writes.{Appended}
 use Rattle.run_notes.specs.declared.measure.Measure.TheVariants.{Phase}
 use Rattle.run_notes.specs.declared.refusal.Refusal.{Refusal}
-use Rattle.run_notes.specs.declared.refusal.Refusal.TheVariants.{Memory, Words, Due as DueRefusal, Other, Read, Journal, Write}
 use Rattle.run_notes.specs.Answers.{Answer, bins_answer, no_phase_answer}
 use Rattle.run_notes.specs.Refusals.{Outcomes, IsCause}
-use Rattle.run_notes.specs.Commands.{Tells, IsPartlyOf, IsOfFilesOrOutput}
+use Rattle.run_notes.specs.Commands.{Tells, IsOfOutput}
+use Rattle.run_notes.proofs.CommandLemmas.{tells-appended}
 use Rattle.run_ready.specs.Steps.{Is, Then, answered, unless}
 use Rattle.run_ready.specs.Due.{IsDue}
 use Rattle.run_ready.specs.Stage.{IsOfFiles}
@@ -21,8 +21,7 @@ use Rattle.run_ready.specs.Outcome.{JoinOf, text_under}
 use Rattle.run_ready.specs.Recordings.{recordings_answer}
 use Rattle.run_ready.proofs.StepLemmas.{IsCause-first, IsCause-next, IsCause-unless}
 use Rattle.run_bins.specs.Texts.{BinPlan, bin_output}
-use Rattle.run_bins.specs.Outcome.{scan_name, uncovered, too_many_cells, BinsUnder, BinsOf, WhereVerdict}
-use Rattle.run_bins.specs.Writes.{IsOfOutput}
+use Rattle.run_bins.specs.Outcome.{scan_name, uncovered, too_many_cells, BinsUnder, BinsOf}
 
 -- ---- the text of phases
 
@@ -141,71 +140,11 @@ job-done job vex phase (Some files) plan bins is there few fit = (
 
 -- ---- what the command tells
 
-pub tells-refused : {A : Type 0} (told : Option Files) (outcomes : Files → Outcomes A) (text : Files → A → List ℕ) (old : Option (List ℕ)) (r : Refusal)
-    → IsOfFiles r → WhereTold told (λ files. IsCause r (outcomes files))
-    → WhereTold told (λ files. Tells (outcomes files) (text files) old old (Err r))
-tells-refused None outcomes text old r stage cause = tt
-tells-refused (Some files) outcomes text old r stage cause = record { done = tt; cause = cause; part = part r stage }
-  where
-    part : (q : Refusal) → IsOfFiles q → IsPartlyOf q (outcomes files) (text files) old old
-    part Memory stage = inl refl
-    part (Words fault) stage = refl
-    part (DueRefusal due) stage = refl
-    part (Other d) stage = refl
-    part Read stage = inl refl
-    part (Journal kept) stage = absurd stage
-    part Write stage = absurd stage
-
 pub tells-written : (told : Option Files) (outcomes : Files → Outcomes BinPlan) (x : BinPlan) (old new : Option (List ℕ)) (result : Result (Unit {0}) Refusal)
     → WhereTold told (λ files. outcomes files (Ok x))
     → WhereTold told (λ files. Appended old (bin_output x files) new result)
     → IfErr result IsOfOutput
     → WhereTold told (λ files. Tells (outcomes files) (λ x. bin_output x files) old new result)
 tells-written None outcomes x old new result is written stage = tt
-tells-written (Some files) outcomes x old new result is written stage = by result written stage
-  where
-    by : (q : Result (Unit {0}) Refusal) → Appended old (bin_output x files) new q → IfErr q IsOfOutput → Tells (outcomes files) (λ x. bin_output x files) old new q
-    by (Ok y) written stage = record { done = (x, is, written.all); cause = tt; part = tt }
-    by (Err Memory) written stage = record { done = tt; cause = tt; part = inr (x, is, written.part) }
-    by (Err Read) written stage = record { done = tt; cause = tt; part = inr (x, is, written.part) }
-    by (Err Write) written stage = record { done = tt; cause = (x, is); part = (x, is, written.part) }
-    by (Err (Words fault)) written stage = absurd stage
-    by (Err (DueRefusal due)) written stage = absurd stage
-    by (Err (Other d)) written stage = absurd stage
-    by (Err (Journal kept)) written stage = absurd stage
-
-pub verdict-refused : (r : Refusal) (P : Type 0) → P → WhereVerdict r P
-verdict-refused Memory P p = tt
-verdict-refused (Words fault) P p = tt
-verdict-refused (DueRefusal due) P p = p
-verdict-refused (Other d) P p = tt
-verdict-refused Read P p = tt
-verdict-refused (Journal kept) P p = tt
-verdict-refused Write P p = tt
-
-pub verdict-written : (r : Refusal) (P : Type 0) → IsOfOutput r → WhereVerdict r P
-verdict-written Memory P stage = tt
-verdict-written (Words fault) P stage = tt
-verdict-written (DueRefusal due) P stage = absurd stage
-verdict-written (Other d) P stage = tt
-verdict-written Read P stage = tt
-verdict-written (Journal kept) P stage = tt
-verdict-written Write P stage = tt
-
-pub stage-files : (r : Refusal) → IsOfFiles r → IsOfFilesOrOutput r
-stage-files Memory stage = tt
-stage-files (Words fault) stage = absurd stage
-stage-files (DueRefusal due) stage = tt
-stage-files (Other d) stage = absurd stage
-stage-files Read stage = tt
-stage-files (Journal kept) stage = absurd stage
-stage-files Write stage = tt
-
-pub stage-output : (r : Refusal) → IsOfOutput r → IsOfFilesOrOutput r
-stage-output Memory stage = tt
-stage-output (Words fault) stage = absurd stage
-stage-output (DueRefusal due) stage = tt
-stage-output (Other d) stage = absurd stage
-stage-output Read stage = tt
-stage-output (Journal kept) stage = absurd stage
-stage-output Write stage = tt
+tells-written (Some files) outcomes x old new result is written stage =
+    tells-appended (outcomes files) (λ x. bin_output x files) x old new result is written.all written.part stage

@@ -18,6 +18,7 @@ use Rattle.vis_writer.proofs.Rows.{flat_map-next, flat_map-rest, rest_of}
 use Rattle.vis_writer.proofs.WritesLemmas.{where_then, where_both, where_always}
 use Rattle.run_notes.specs.declared.refusal.Refusal.{Refusal}
 use Rattle.run_notes.specs.declared.refusal.Refusal.TheVariants.{Write}
+use Rattle.run_notes.specs.Commands.{IsOfOutput}
 use Rattle.run_notes.specs.Counted.{CountsReads, CountsWrites}
 use Rattle.job_plan.specs.declared.plan.ScanPlan.{ScanPlan}
 use Rattle.job_plan.specs.declared.plan.Plan.{Plan}
@@ -26,7 +27,7 @@ use Rattle.job_plan.specs.Values.{rotated}
 use Rattle.pulsar_bins.specs.Bins.{BinsFields}
 use Rattle.bin_sums.specs.Binned.{bin_width}
 use Rattle.run_bins.specs.Texts.{BinPlan, integration_text}
-use Rattle.run_bins.specs.Writes.{WritesText, IsOfOutput, of_sink, of_stream}
+use Rattle.run_bins.specs.Writes.{WritesText, of_sink, of_stream}
 
 appended-then : {T U E : Type 0} {old mid new : Option (List ℕ)} {text a b : List ℕ} {x : U} (r : Result T E)
     → text ≡ a ++ b

@@ -1,5 +1,5 @@
 -- What a job and a text of phases come to: the plan and the bins, or the answer of the first thing that is wrong.
-use Rattle.std.specs.Prelude.{⊤, ℕ, nat_lt, Bool, List, [], find, slice_get, Option, None, option_map}
+use Rattle.std.specs.Prelude.{ℕ, nat_lt, Bool, List, [], find, slice_get, Option, None, option_map}
 use Rattle.std.specs.Option.{option_map_or}
 use Rattle.corr_model.specs.Files.{Files}
 use Rattle.job_plan.specs.declared.plan.ScanPlan.{ScanPlan}
@@ -9,8 +9,6 @@ use Rattle.pulsar_bins.specs.Answer.{bins_in}
 use Rattle.pulsar_bins.specs.Scans.{no_phase}
 use Rattle.bin_sums.specs.Binned.{bin_width}
 use Rattle.run_notes.specs.declared.measure.Measure.TheVariants.{Phase, BinCells}
-use Rattle.run_notes.specs.declared.refusal.Refusal.{Refusal}
-use Rattle.run_notes.specs.declared.refusal.Refusal.TheVariants.{Due}
 use Rattle.run_notes.specs.Answers.{Answer, limit_answer, bins_answer, no_phase_answer}
 use Rattle.run_notes.specs.Refusals.{Outcomes}
 use Rattle.run_ready.specs.Steps.{Is, Then, answered, unless}
@@ -47,8 +45,3 @@ BinsOf files job vex phase =
     (λ plan. Then (BinsUnder files phase plan)
     (λ bins. Then (Is (unless (too_many_cells plan bins) bins))
     (λ within. Is (unless (recordings_answer files plan.stations) (record { plan = plan; bins = within })))))
-
--- a fact where a refusal is a verdict on files
-abbrev pub WhereVerdict : Refusal → Type 0 → Type 0
-WhereVerdict (Due due) P = P
-WhereVerdict _ P = ⊤

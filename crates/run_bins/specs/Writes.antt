@@ -1,5 +1,5 @@
 -- Calls that read from a shelf and append a text to a sink.
-use Rattle.std.specs.Prelude.{◌≡◌, ⊤, ℕ, List, [], Option, Result, Ok, Err, IfErr, slice_get}
+use Rattle.std.specs.Prelude.{◌≡◌, ℕ, List, [], Option, Result, Ok, Err, IfErr, slice_get}
 use Rattle.std.specs.Option.{option_map_or}
 use Rattle.dev_traits.specs.Told.{WhereTold}
 use Rattle.corr_model.specs.Files.{Files}
@@ -10,15 +10,9 @@ use Rattle.vis_records.specs.declared.writer.SinkFault.{SinkFault}
 use Rattle.vis_writer.specs.Writes.{Appended}
 use Rattle.run_notes.specs.declared.refusal.Refusal.{Refusal}
 use Rattle.run_notes.specs.declared.refusal.Refusal.TheVariants.{Memory, Read, Write}
+use Rattle.run_notes.specs.Commands.{IsOfOutput}
 use Rattle.run_notes.specs.Counted.{CountsReads, CountsWrites}
 use Rattle.run_bins.specs.Texts.{BinPlan, scan_text}
-
--- want of memory, a read fault, or a fault of the output
-abbrev pub IsOfOutput : Refusal → Type 0
-IsOfOutput Memory = ⊤
-IsOfOutput Read = ⊤
-IsOfOutput Write = ⊤
-IsOfOutput _ = ⊥
 
 -- What the shelf tells and its count of faults before and now, the text by what the shelf tells, what the sink told before and tells
 -- now and its count, and the answer: all of the text was appended, or a first part of it and a fault.

@@ -28,15 +28,6 @@ MatchWrite-files Read P Q stage q = q
 MatchWrite-files (Journal kept) P Q stage q = absurd stage
 MatchWrite-files Write P Q stage q = absurd stage
 
-pub IsOfFiles-output : (r : Refusal) → IsOfFiles r → IsOfFilesOrOutput r
-IsOfFiles-output Memory stage = tt
-IsOfFiles-output (Words fault) stage = absurd stage
-IsOfFiles-output (DueRefusal due) stage = tt
-IsOfFiles-output (Other d) stage = absurd stage
-IsOfFiles-output Read stage = tt
-IsOfFiles-output (Journal kept) stage = absurd stage
-IsOfFiles-output Write stage = absurd stage
-
 -- a call that was refused for its files
 pub Shows-refused : {A : Type 0} (told : Option Files) (outcomes : Files → Outcomes A) (text : A → List ℕ) (old : Option (List ℕ)) (r : Refusal)
     → IsOfFiles r

@@ -5,6 +5,7 @@ pub mod FilesLemmas
 pub mod FirstLemmas
 pub mod RecordingLemmas
 pub mod StepLemmas
+pub mod TellLemmas
 pub mod StationLemmas
 pub mod LawLemmas
 pub mod IdentityLemmas

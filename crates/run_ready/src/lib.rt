@@ -24,4 +24,4 @@ pub use job::{Joined, join};
 pub use ready::{index_survey, load_recordings, prepare, survey};
 pub use recordings::StationFiles;
 pub use surveys::{Survey, survey_joined};
-pub use texts::load_text;
+pub use texts::{file_size, load_text};

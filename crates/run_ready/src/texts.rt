@@ -1,5 +1,5 @@
 //! Files by their names: their sizes, and those that are read whole.
-ghost use Rattle.std.specs.Prelude.{◌≡◌, ◌≤◌, length, IfOk, IfErr, Some, Ok};
+ghost use Rattle.std.specs.Prelude.{◌≡◌, ◌≤◌, ◌<◌, ◌^◌, length, IfOk, IfErr, Some, Ok};
 ghost use Rattle.std.specs.Str.{IsUtf8};
 ghost use Rattle.dev_traits.specs.Files.{size_of};
 ghost use Rattle.dev_traits.specs.Told.{WhereTold};
@@ -30,6 +30,7 @@ fn text_of(name: &Name) -> &str
 pub fn file_size<F: Shelf>(alloc: Global, shelf: &mut F, name: &Name) -> Result<u64, Refusal>
     requires text { IsUtf8 name.now }
     ensures same { F.told shelf.new ≡ F.told shelf.old }
+    ensures bound { IfOk result (λ size. size < 2 ^ 63) }
     ensures size { IfOk result (λ size. WhereTold (F.told shelf.old) (λ files. size_of (files name.now) ≡ Some size)) }
     ensures due { IfErr result (λ r. WhereTold (F.told shelf.old) (λ files. IsDue r (no_file files name.now))) }
     ensures stage { IfErr result IsOfFiles }

@@ -13,7 +13,7 @@ use Rattle.run_words.specs.declared.order.Order.TheVariants.{Run, Status, Shard}
 use Rattle.run_notes.specs.declared.refusal.Refusal.{Refusal}
 use Rattle.run_notes.specs.declared.refusal.Refusal.TheVariants.{Memory, Words, Due as DueRefusal, Other, Read, Journal, Write}
 use Rattle.run_notes.specs.Answers.{Answer, words_answer}
-use Rattle.run_notes.specs.Refusals.{Outcomes, IsCause}
+use Rattle.run_notes.specs.Refusals.{Outcomes, IsCause, WhereVerdict}
 use Rattle.run_notes.specs.Commands.{IsPartOf, IsPartlyOf, Tells, Shows, IsOfFilesOrOutput}
 use Rattle.run_notes.specs.Counted.{CountsReads, CountsReadsBeside}
 use Rattle.run_notes.proofs.CommandLemmas.{shows-tells}
@@ -24,7 +24,6 @@ use Rattle.station_stream.specs.declared.recording.Recording.{Recording as Stati
 use Rattle.station_stream.specs.Recorded.{AreRecorded}
 use Rattle.run_summary.specs.Summaries.{check_text}
 use Rattle.vis_writer.proofs.WritesLemmas.{where_then}
-use Rattle.run_bins.specs.Outcome.{WhereVerdict}
 use Rattle.run_part.specs.Outcome.{PartOf}
 use Rattle.vlbi_core.specs.Calls.{Call, call_of, Task, OfJob, OfText, TextFor, TaskFor, is_writer}
 use Rattle.vlbi_core.specs.Texts.{IsPart}

@@ -23,8 +23,8 @@ use Rattle.vis_writer.specs.Writes.{Composes, Writes, Appended, SinkCounts, Sour
 use Rattle.vis_writer.proofs.PlanCounts.{plan_full, cells-at}
 use Rattle.vis_writer.proofs.PlanText.{output-numbered}
 use Rattle.vis_writer.proofs.WritesLemmas.{Writes-same, Writes-sunk, Writes-failed}
+use Rattle.run_notes.specs.Commands.{IsOfOutput}
 use Rattle.run_notes.specs.Counted.{CountsReads, CountsWrites}
-use Rattle.vlbi_core.specs.Steps.{IsOfOutput}
 use Rattle.vlbi_core.specs.Shelf.{ShelfState, state, head_at, cells_at, stays, fails}
 use Rattle.vlbi_core.specs.Faults.{answer_with}
 

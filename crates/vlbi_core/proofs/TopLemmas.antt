@@ -19,13 +19,13 @@ use Rattle.checkpoint_journal.specs.Runs.{Changes}
 use Rattle.checkpoint_journal.proofs.RunLemmas.{changes_looks, told_value}
 use Rattle.run_words.specs.declared.fault.WordsFault.{WordsFault}
 use Rattle.run_words.specs.declared.order.Order.{Order}
-use Rattle.run_words.specs.declared.order.Order.TheVariants.{Run, Plain, Check, Status, Dump, Gen, Fringe, Verify, Bins, Shard}
+use Rattle.run_words.specs.declared.order.Order.TheVariants.{Run, Plain, Check, Status, Dump, Gen, Fringe, Verify, Bins, Shard, Merge as MergeOrder}
 use Rattle.run_notes.specs.declared.refusal.Due.{Due}
-use Rattle.run_notes.specs.declared.refusal.Due.TheVariants.{Vex, Schedule, Job, Join, Limit, NoFile, Recording, Records, Certificate, Bins as BinsDue, NoPhase}
+use Rattle.run_notes.specs.declared.refusal.Due.TheVariants.{Vex, Schedule, Job, Join, Limit, NoFile, Recording, Records, Certificate, Bins as BinsDue, NoPhase, NotShard, Uncovered, Differs as DifferDue}
 use Rattle.run_notes.specs.declared.refusal.Refusal.{Refusal}
 use Rattle.run_notes.specs.declared.refusal.Refusal.TheVariants.{Memory, Words, Due as DueRefusal, Other, Read, Journal, Write}
 use Rattle.run_notes.specs.Answers.{Answer, words_answer, journal_answer}
-use Rattle.run_notes.specs.Refusals.{Outcomes, MatchRead, MatchReadOrJournal, MatchJournal, MatchWrite, answer_of, due_answer}
+use Rattle.run_notes.specs.Refusals.{Outcomes, MatchRead, MatchReadOrJournal, MatchJournal, MatchWrite, answer_of, due_answer, WhereMemory}
 use Rattle.run_notes.specs.Commands.{IsOfFilesOrOutput}
 use Rattle.run_notes.specs.Counted.{CountsJournal}
 use Rattle.run_ready.specs.Steps.{Is, Then, answered}
@@ -41,6 +41,7 @@ use Rattle.run_fringe.specs.Searched.{FringeOf, VerifyOf, right_text}
 use Rattle.run_bins.specs.Texts.{BinPlan, bin_output}
 use Rattle.run_bins.specs.Outcome.{BinsOf}
 use Rattle.run_part.specs.Outcome.{PartOf}
+use Rattle.run_merge.specs.Outcome.{Merge, MergeOf, merged_text}
 use Rattle.sample_job.specs.Sample.{SampleOf, sample_shelf}
 use Rattle.vlbi_core.specs.Sample.{sample_text}
 use Rattle.vlbi_core.specs.Calls.{Part, Call, call_of, Task, OfJob, OfText, JobFor, TextFor, TaskFor, end_text, identity_for, sizes_for, IsOursFor, KeepsAtLeast, KeepsAll}
@@ -143,6 +144,10 @@ OneVerdict = (files : Files) (name certificate : List ℕ) (a b : Result Content
 abbrev pub OneBinned : Type 0
 OneBinned = (files : Files) (job : List ℕ) (vex : Option (List ℕ)) (phase : List ℕ) (a b : Result BinPlan Answer) → BinsOf files job vex phase a → BinsOf files job vex phase b → a ≡ b
 
+-- the law of merges
+abbrev pub OneMerge : Type 0
+OneMerge = (files : Files) (job : List ℕ) (vex : Option (List ℕ)) (names : List (List ℕ)) (a b : Result Merge Answer) → MergeOf files job vex names a → MergeOf files job vex names b → a ≡ b
+
 -- the law of parts of jobs, and that of the plans that they come to
 abbrev pub OnePart : Type 0
 OnePart =
@@ -162,6 +167,7 @@ pub record AreLaws : Type 0 where
   pub verdict : OneVerdict
   pub binned : OneBinned
   pub part : OnePart
+  pub merge : OneMerge
 
 task-one : AreLaws → (files : Files) (order : Order) → AreOne (TaskFor files order)
 task-one laws files (Run job vex epoch workers piece) = job-one true job vex epoch None (PlanOf files job vex epoch) (laws.outcome files (recordings_answer files) job vex epoch)
@@ -178,6 +184,7 @@ task-one laws files (Verify file certificate) = text-one (VerifyOf files file ce
 task-one laws files (Bins job vex phase workers piece) = text-one (BinsOf files job vex phase) (λ x. bin_output x files) (laws.binned files job vex phase)
 task-one laws files (Shard job vex epoch workers piece from to) =
     job-one true job vex epoch (Some (record { from = from; to = to })) (PartOf files job vex epoch to) (laws.part files job vex epoch to)
+task-one laws files (MergeOrder job vex names) = text-one (MergeOf files job vex names) merged_text (laws.merge files job vex names)
 
 -- the plan of a call on a job, whatever is looked at of its recordings
 pub plan-at : PartsHavePlan → (files : Files) (order : Order) (call : Call) → TaskFor files order (Ok (OfJob call))
@@ -197,6 +204,7 @@ plan-at law files (Shard job vex epoch workers piece from to) call there = (
   (λ stations. None),
   subst (λ (c : Call). JoinOf files c.job c.vex c.epoch (Ok call.plan)) (sym there.0) (law files job vex epoch to call.plan there.1),
 )
+plan-at law files (MergeOrder job vex names) call there = absurd there
 
 pub outcome-one : AreLaws → (wanted : Result Order WordsFault) (files : Files) → AreOne (OutcomeFrom wanted files)
 outcome-one laws wanted files =
@@ -206,7 +214,7 @@ outcome-one laws wanted files =
 
 -- the statuses of what is wrong with the files
 abbrev IsFilesStatus : ℕ → Type 0
-IsFilesStatus status = (status ≡ 3) ⊎ ((status ≡ 4) ⊎ ((status ≡ 5) ⊎ ((status ≡ 6) ⊎ ((status ≡ 11) ⊎ ((status ≡ 12) ⊎ (status ≡ 13))))))
+IsFilesStatus status = (status ≡ 3) ⊎ ((status ≡ 4) ⊎ ((status ≡ 5) ⊎ ((status ≡ 6) ⊎ ((status ≡ 11) ⊎ ((status ≡ 12) ⊎ ((status ≡ 13) ⊎ (status ≡ 14)))))))
 
 due-files : (due : Due) → IsFilesStatus (due_answer due).status
 due-files (Vex fault) = inl refl
@@ -219,7 +227,10 @@ due-files (Limit quantity value) = inr (inr (inr (inl refl)))
 due-files (NoFile name) = inr (inr (inr (inr (inl refl))))
 due-files (BinsDue fault) = inr (inr (inr (inr (inr (inl refl)))))
 due-files (NoPhase scan) = inr (inr (inr (inr (inr (inl refl)))))
-due-files (Certificate at) = inr (inr (inr (inr (inr (inr refl)))))
+due-files (Certificate at) = inr (inr (inr (inr (inr (inr (inl refl))))))
+due-files (NotShard name at) = inr (inr (inr (inr (inr (inr (inr refl))))))
+due-files (Uncovered i) = inr (inr (inr (inr (inr (inr (inr refl))))))
+due-files (DifferDue i group lag first other) = inr (inr (inr (inr (inr (inr (inr refl))))))
 
 due-verdict : (due : Due) → IsVerdictStatus (due_answer due).status
 due-verdict due = inr (due-files due)
@@ -634,6 +645,16 @@ early-nothing (Journal kept) P fact (inl is) = absurd (not_journal kept 1 is (λ
 early-nothing (Journal kept) P fact (inr is) = absurd (not_journal kept 7 is (λ e. cc))
 early-nothing Write P fact (inl is) = absurd cc
 early-nothing Write P fact (inr is) = absurd cc
+
+-- with want of memory
+pub memory-nothing : (r : Refusal) (P : Type 0) → WhereMemory r P → (answer_of r).status ≡ 1 → P
+memory-nothing Memory P fact is = fact
+memory-nothing (Words fault) P fact is = absurd cc
+memory-nothing (DueRefusal due) P fact is = absurd (not_due due 1 is (inr (inl refl)))
+memory-nothing (Other d) P fact is = absurd cc
+memory-nothing Read P fact is = absurd cc
+memory-nothing (Journal kept) P fact is = absurd (not_journal kept 1 is (λ e. cc))
+memory-nothing Write P fact is = absurd cc
 
 pub verdict-not : (status other : ℕ) → IsVerdictStatus status → status ≡ other → (other ≡ 10) ⊎ ((other ≡ 0) ⊎ ((other ≡ 1) ⊎ ((other ≡ 7) ⊎ ((other ≡ 8) ⊎ (other ≡ 9))))) → ⊥
 verdict-not status other is same of = grind arith

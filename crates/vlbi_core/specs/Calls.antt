@@ -16,7 +16,7 @@ use Rattle.checkpoint_journal.specs.Kept.{KeepsMany}
 use Rattle.checkpoint_journal.specs.Runs.{IsOurs}
 use Rattle.run_words.specs.declared.fault.WordsFault.{WordsFault}
 use Rattle.run_words.specs.declared.order.Order.{Order}
-use Rattle.run_words.specs.declared.order.Order.TheVariants.{Run, Plain, Check, Status, Dump, Gen, Fringe, Verify, Bins, Shard}
+use Rattle.run_words.specs.declared.order.Order.TheVariants.{Run, Plain, Check, Status, Dump, Gen, Fringe, Verify, Bins, Shard, Merge}
 use Rattle.run_words.specs.Orders.{order_of}
 use Rattle.run_notes.specs.Answers.{words_answer}
 use Rattle.run_notes.specs.Refusals.{Outcomes}
@@ -29,6 +29,7 @@ use Rattle.run_fringe.specs.Searched.{FringeOf, VerifyOf, right_text}
 use Rattle.run_bins.specs.Texts.{bin_output}
 use Rattle.run_bins.specs.Outcome.{BinsOf}
 use Rattle.run_part.specs.Outcome.{PartOf}
+use Rattle.run_merge.specs.Outcome.{MergeOf, merged_text}
 use Rattle.run_summary.specs.Summaries.{check_text, shard_line}
 use Rattle.sample_job.specs.Sample.{SampleOf}
 use Rattle.vlbi_core.specs.Sample.{sample_text}
@@ -82,7 +83,7 @@ TextFor {A} outcomes text (Ok (OfJob call)) = ⊥
 TextFor {A} outcomes text (Ok (OfText written)) = (x : A) × outcomes (Ok x) × (written ≡ text x)
 TextFor {A} outcomes text (Err answer) = outcomes (Err answer)
 
--- The task of an order. `status` looks at the lengths of the recordings alone, and `gen` has its own job and recordings.
+-- The task of an order. `status` and `merge` look at the lengths of the recordings alone, and `gen` has its own job and recordings.
 abbrev pub TaskFor : Files → Order → Outcomes Task
 TaskFor files (Run job vex epoch workers piece) = JobFor true job vex epoch None (PlanOf files job vex epoch)
 TaskFor files (Status job vex epoch) = JobFor false job vex epoch None (SurveyOf files job vex epoch)
@@ -94,6 +95,7 @@ TaskFor files (Fringe file rates divide) = TextFor (FringeOf files file rates di
 TaskFor files (Verify file certificate) = TextFor (VerifyOf files file certificate) right_text
 TaskFor files (Bins job vex phase workers piece) = TextFor (BinsOf files job vex phase) (λ x. bin_output x files)
 TaskFor files (Shard job vex epoch workers piece from to) = JobFor true job vex epoch (Some (record { from = from; to = to })) (PartOf files job vex epoch to)
+TaskFor files (Merge job vex names) = TextFor (MergeOf files job vex names) merged_text
 
 -- what words and files come to
 abbrev pub OutcomeOf : List (List ℕ) → Files → Outcomes Task

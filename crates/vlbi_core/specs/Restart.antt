@@ -6,7 +6,7 @@ use Rattle.journal_image.specs.Image.{KeptEpoch}
 use Rattle.checkpoint_journal.specs.Runs.{StepTold, KeepsEpochs}
 use Rattle.run_words.specs.declared.fault.WordsFault.{WordsFault}
 use Rattle.run_words.specs.declared.order.Order.{Order}
-use Rattle.run_words.specs.declared.order.Order.TheVariants.{Gen}
+use Rattle.run_words.specs.declared.order.Order.TheVariants.{Gen, Merge}
 use Rattle.run_notes.specs.Answers.{journal_answer}
 use Rattle.run_notes.specs.Refusals.{Outcomes}
 use Rattle.vlbi_core.specs.Calls.{Call, Task, OfJob, end_text, identity_for, sizes_for, KeepsFor, KeepsManyFor, KeepsAtLeast, KeepsAll, is_writer}
@@ -68,6 +68,11 @@ IsNoWriter (Err fault) = ⊤
 abbrev pub IsGenOf : Result Order WordsFault → Type 0
 IsGenOf (Ok (Gen seed seconds workers piece)) = ⊤
 IsGenOf _ = ⊥
+
+-- words of `merge`
+abbrev pub IsMergeOf : Result Order WordsFault → Type 0
+IsMergeOf (Ok (Merge job vex names)) = ⊤
+IsMergeOf _ = ⊥
 
 -- What the line of a journal's fault says. Where a call that sums names k epochs as kept, each image at the end keeps k or k + 1.
 -- Where it names none, nothing was appended, and what the disk reads keeps what it kept. `status` names none.

@@ -17,7 +17,7 @@ use Rattle.vlbi_core.specs.Steps.{OutcomeFrom}
 
 -- the statuses of what is wrong with words and files
 abbrev pub IsVerdictStatus : ℕ → Type 0
-IsVerdictStatus status = (status ≡ 2) ⊎ ((status ≡ 3) ⊎ ((status ≡ 4) ⊎ ((status ≡ 5) ⊎ ((status ≡ 6) ⊎ ((status ≡ 11) ⊎ ((status ≡ 12) ⊎ (status ≡ 13)))))))
+IsVerdictStatus status = (status ≡ 2) ⊎ ((status ≡ 3) ⊎ ((status ≡ 4) ⊎ ((status ≡ 5) ⊎ ((status ≡ 6) ⊎ ((status ≡ 11) ⊎ ((status ≡ 12) ⊎ ((status ≡ 13) ⊎ (status ≡ 14))))))))
 
 -- the statuses of what is wrong with what a call is given: those, and that of another job's journal
 abbrev pub IsDueStatus : ℕ → Type 0

@@ -97,14 +97,6 @@ pub record IsPlanned (outcomes : Outcomes Plan) : Type 0 where
   pub ranges : IsPlan plan
   pub few : length plan.scans ≤ 8388608
 
--- want of memory, and a fault of the shelf or of the output
-abbrev pub IsOfOutput : Refusal → Type 0
-IsOfOutput (Words fault) = ⊥
-IsOfOutput (DueRefusal due) = ⊥
-IsOfOutput (Other d) = ⊥
-IsOfOutput (Journal kept) = ⊥
-IsOfOutput _ = ⊤
-
 -- what a look at the journal may be refused for: want of memory, another job's journal, and a fault that names no epochs
 abbrev pub IsLookedFor : List ℕ → JobSizes → Option (List ℕ) → Refusal → Type 0
 IsLookedFor id job before Memory = ⊤

@@ -11,6 +11,7 @@ use journal_image::laws::reads;
 use run_bins::laws::one_plan;
 use run_dump::laws::one_shown;
 use run_fringe::laws::{one_search, one_verdict};
+use run_merge::laws::one_merge;
 use run_part::laws::{one_part, parts_have_the_plan};
 use run_ready::laws::{one_outcome, one_plan_for_job};
 
@@ -25,6 +26,7 @@ pub fn one_task()
     one_verdict();
     one_plan();
     one_part();
+    one_merge();
 }
 
 /// Calls of `run` for one job, or of `shard` for one part of it, on a disk that tells its content, as often as one likes, each of which ends

@@ -9,7 +9,7 @@ ghost use Rattle.job_plan.specs.Output.{head_of, integrations_of, output};
 ghost use Rattle.job_plan.specs.Ranges.{IsPlan, IsScanPlan};
 ghost use Rattle.job_epochs.specs.Added.{width_of};
 ghost use Rattle.run_ready.specs.Outcome.{PlanOf};
-ghost use Rattle.run_notes.specs.Commands.{Tells, IsOfFilesOrOutput};
+ghost use Rattle.run_notes.specs.Commands.{Tells, IsOfFilesOrOutput, IsOfOutput};
 ghost use Rattle.run_notes.specs.Counted.{CountsReads, CountsWrites};
 ghost use Rattle.station_stream.specs.Recorded.{AreNamed, AreRecorded};
 ghost use Rattle.vis_writer.specs.Cells.{all_cells, widest};
@@ -17,7 +17,7 @@ ghost use Rattle.vis_writer.specs.Texts.{integration_at, text_at, scans_text};
 ghost use Rattle.vis_writer.specs.Writes.{Writes, Appended};
 ghost use Rattle.vlbi_core.specs.Shelf.{ShelfState, state, head_at, cells_at, stays, fails};
 ghost use Rattle.vlbi_core.specs.Faults.{refusal_of, answer_with};
-ghost use Rattle.vlbi_core.specs.Steps.{IsOfOutput, MatchDue};
+ghost use Rattle.vlbi_core.specs.Steps.{MatchDue};
 
 use corr_model::Cell;
 use dev_traits::{Shelf, Sink};

@@ -4,10 +4,11 @@ ghost use Rattle.dev_traits.specs.Fault.{HasRisen};
 ghost use Rattle.dev_traits.specs.Told.{WhereTold};
 ghost use Rattle.checkpoint_journal.specs.Runs.{Looks};
 ghost use Rattle.run_words.specs.Orders.{IsOrder};
+ghost use Rattle.run_notes.specs.Refusals.{WhereMemory};
 ghost use Rattle.run_notes.specs.Counted.{CountsReads, CountsReadsBeside, CountsJournal, CountsWrites};
 ghost use Rattle.vlbi_core.specs.Calls.{texts_of, order_in, is_writer, OutcomeOf};
 ghost use Rattle.vlbi_core.specs.Run.{IsVerdictStatus, IsDueStatus, IsStatus, IsVerdict, IsAppended, IsNoteOf};
-ghost use Rattle.vlbi_core.specs.Restart.{Restarts, AppendsOutput, IsWriterOf, IsNoWriter, IsGenOf};
+ghost use Rattle.vlbi_core.specs.Restart.{Restarts, AppendsOutput, IsWriterOf, IsNoWriter, IsGenOf, IsMergeOf};
 ghost use Rattle.vlbi_core.specs.Steps.{OutcomeFrom, IsWorded, IsBehindWords, IsShort, IsUnnumbered, IsFullFor, CountsJournalOr, IsOfSample, Goes, GoesRanged, Does, Leaves};
 
 use crate::check::check_job;
@@ -22,6 +23,7 @@ use dev_traits::{Disk, Gate, Shelf, Sink};
 use run_bins::write_bins;
 use run_dump::show_records;
 use run_fringe::{verify_peaks, write_peaks};
+use run_merge::write_merge;
 use run_notes::{Refusal, status, write_note};
 use run_words::Order;
 use std::alloc::Global;
@@ -49,6 +51,7 @@ use std::thread::Threads;
 /// | 11 | a named file is not there |
 /// | 12 | the text of phases is not accepted, or a scan has a sample without a phase |
 /// | 13 | a text is no right certificate of the record file |
+/// | 14 | the journals that are merged are not those of parts of the job, or do not make it together |
 pub fn run<R: Threads + Sync, F: Shelf + Send, D: Disk + Send, S: Sink, N: Sink, G: Gate + Sync>(
     rt: &R,
     alloc: Global,
@@ -68,12 +71,13 @@ pub fn run<R: Threads + Sync, F: Shelf + Send, D: Disk + Send, S: Sink, N: Sink,
     ensures wordless { IsErr (order_in (texts_of words.now)) → (result ≡ 2) ⊎ (result ≡ 1) }
     ensures generated { IsGenOf (order_in (texts_of words.now)) → (result ≡ 0) ⊎ ((result ≡ 1) ⊎ (result ≡ 9)) }
 
-    // What is appended: with the statuses of what is wrong nothing, whether the devices tell their content or not, and of `run` and
-    // `shard` nothing before all is summed.
+    // What is appended: with the statuses of what is wrong nothing, whether the devices tell their content or not, and of `run`
+    // and `shard` nothing before all is summed, and of `merge` nothing before all memory is taken.
     ensures nothing { IsDueStatus result → S.told out.new ≡ S.told out.old }
     ensures appended { WhereTold (F.told shelf.old) (λ files. IsAppended (OutcomeOf (texts_of words.now) files) files
         (D.seen journal.old) (D.seen journal.new) result (S.told out.old) (S.told out.new)) }
     ensures whole { IsWriterOf (order_in (texts_of words.now)) → (result ≡ 1) ⊎ (result ≡ 7) → S.told out.new ≡ S.told out.old }
+    ensures unwritten { IsMergeOf (order_in (texts_of words.now)) → result ≡ 1 → S.told out.new ≡ S.told out.old }
 
     // The headline: a call of `run` or `shard` that continues its job, or its part, keeps every image of the journal honest, at every moment, keeps
     // what each image keeps, and with status 0 appends the record file of the direct sums, or the line of the part.
@@ -158,6 +162,7 @@ fn call<R: Threads + Sync, F: Shelf + Send, D: Disk + Send, S: Sink, G: Gate + S
     ensures words { IsWorded (order_in (texts_of words.now)) result }
     ensures unnumbered { IsNoWriter (order_in (texts_of words.now)) → IfErr result IsUnnumbered }
     ensures generated { IsGenOf (order_in (texts_of words.now)) → IfErr result IsOfSample }
+    ensures unwritten { IsMergeOf (order_in (texts_of words.now)) → IfErr result (λ r. WhereMemory r (S.told out.new ≡ S.told out.old)) }
     ensures reads { CountsReadsBeside (F.faults shelf.old) (F.faults shelf.new) result }
     ensures alone { IsNoWriter (order_in (texts_of words.now)) → CountsReads (F.faults shelf.old) (F.faults shelf.new) result }
     ensures journal { CountsJournalOr (WhereTold (F.told shelf.old) (λ files. IsFullFor (OutcomeOf (texts_of words.now) files) files
@@ -187,6 +192,7 @@ fn command<R: Threads + Sync, F: Shelf + Send, D: Disk + Send, S: Sink, G: Gate 
     ensures stage { IfErr result IsBehindWords }
     ensures unnumbered { is_writer order.now ≡ false → IfErr result IsUnnumbered }
     ensures generated { IsGenOf (Ok order.now) → IfErr result IsOfSample }
+    ensures unwritten { IsMergeOf (Ok order.now) → IfErr result (λ r. WhereMemory r (S.told out.new ≡ S.told out.old)) }
     ensures reads { CountsReadsBeside (F.faults shelf.old) (F.faults shelf.new) result }
     ensures alone { is_writer order.now ≡ false → CountsReads (F.faults shelf.old) (F.faults shelf.new) result }
     ensures journal { CountsJournalOr (WhereTold (F.told shelf.old) (λ files. IsFullFor (OutcomeFrom (Ok order.now) files) files
@@ -275,5 +281,8 @@ fn command<R: Threads + Sync, F: Shelf + Send, D: Disk + Send, S: Sink, G: Gate 
             out,
             gate,
         ),
+        Order::Merge { job, vex, files } => {
+            write_merge(alloc, job, vex.as_ref(), files, shelf, out)
+        }
     }
 }

@@ -1,11 +1,13 @@
 use Rattle.std.specs.Prelude.{option_copied}
 use Rattle.std.proofs.Common.{◌≡◌, refl}
 use Rattle.std.proofs.lemmas.Result.{err_from_is_err_and, IfErr-weaker}
+use Rattle.run_notes.proofs.CommandLemmas.{verdict-refused, verdict-written, stage-output}
+use Rattle.run_ready.proofs.TellLemmas.{tells-refused, stage-files}
 use Rattle.run_ready.proofs.ToldLemmas.{WhereTold-moved}
 use Rattle.run_bins.specs.Jobs.{plan_of}
 use Rattle.run_bins.specs.Texts.{BinPlan, bin_output}
 use Rattle.run_bins.specs.Outcome.{BinsOf}
-use Rattle.run_bins.proofs.OutcomeLemmas.{tells-refused, tells-written, verdict-refused, verdict-written, stage-files, stage-output}
+use Rattle.run_bins.proofs.OutcomeLemmas.{tells-written}
 use Rattle.run_bins.proofs.command.write_bins.Goals as goal
 
 pub returns-in_err-binned-clause-tells : goal.returns-in_err-binned-clause-tells

@@ -3,8 +3,9 @@ use Rattle.std.specs.Prelude.{⊤}
 use Rattle.std.proofs.lemmas.Result.{err_from_is_err_and}
 use Rattle.dev_traits.specs.Fault.{HasRisen}
 use Rattle.vis_records.specs.Dumped.{dump_text}
+use Rattle.run_ready.proofs.TellLemmas.{stage-files}
 use Rattle.run_dump.specs.Shown.{RecordsOf}
-use Rattle.run_dump.proofs.ShownLemmas.{MatchWrite-files, IsOfFiles-output, Shows-refused, Shows-shown, nothing-shown, stage-shown, reads-shown, writes-shown}
+use Rattle.run_dump.proofs.ShownLemmas.{MatchWrite-files, Shows-refused, Shows-shown, nothing-shown, stage-shown, reads-shown, writes-shown}
 use Rattle.run_dump.proofs.show.show_records.Goals as goal
 
 pub returns-in_err-vis-clause-shows : goal.returns-in_err-vis-clause-shows
@@ -23,7 +24,7 @@ returns-in_err-vis-clause-nothing g c =
 pub returns-in_err-vis-clause-stage : goal.returns-in_err-vis-clause-stage
 returns-in_err-vis-clause-stage g c =
     let p = err_from_is_err_and c.from_residual.result c.from_residual.ensures.1 in
-    rw (p.1, p.2) (IsOfFiles-output c.in_err-vis.field-0.0 c.in_err-vis.ensures.stage)
+    rw (p.1, p.2) (stage-files c.in_err-vis.field-0.0 c.in_err-vis.ensures.stage)
 
 pub returns-in_err-vis-clause-reads : goal.returns-in_err-vis-clause-reads
 returns-in_err-vis-clause-reads g c =

@@ -9,7 +9,8 @@ use Rattle.vis_records.specs.Dumped.{dump_text}
 use Rattle.run_summary.specs.Summaries.{check_text}
 use Rattle.run_dump.specs.Shown.{RecordsOf}
 use Rattle.run_words.specs.declared.order.Order.{Order}
-use Rattle.run_words.specs.declared.order.Order.TheVariants.{Run, Plain, Check, Status, Bins, Shard}
+use Rattle.run_words.specs.Orders.{IsOrder}
+use Rattle.run_words.specs.declared.order.Order.TheVariants.{Run, Plain, Check, Status, Bins, Shard, Merge as MergeOrder}
 use Rattle.run_ready.specs.Outcome.{PlanOf}
 use Rattle.sample_job.specs.Sample.{SampleOf}
 use Rattle.vis_writer.proofs.WritesLemmas.{where_always}
@@ -17,8 +18,9 @@ use Rattle.fringe_search.specs.Certificates.{lines_text}
 use Rattle.run_fringe.specs.Searched.{FringeOf, VerifyOf, right_text}
 use Rattle.run_bins.specs.Texts.{BinPlan, bin_output}
 use Rattle.run_bins.specs.Outcome.{BinsOf}
+use Rattle.run_merge.specs.Outcome.{Merge, MergeOf, merged_text}
 use Rattle.vlbi_core.specs.Calls.{is_writer}
-use Rattle.vlbi_core.specs.Restart.{IsGenOf}
+use Rattle.vlbi_core.specs.Restart.{IsGenOf, IsMergeOf}
 use Rattle.vlbi_core.specs.Sample.{sample_text}
 use Rattle.vlbi_core.specs.Steps.{OutcomeFrom, IsFullFor, CountsJournalOr, GoesRanged, Does, Leaves}
 use Rattle.vlbi_core.proofs.CommandLemmas.{reads-beside, not_both, files-unnumbered, verdict-due, does-text, does-shown, leaves-tells}
@@ -299,3 +301,67 @@ returns-in-Bins-clause-journal g c = journal-or _ _ _ c.write_bins.result (files
 
 pub returns-in-Bins-clause-journal_alone : goal.returns-in-Bins-clause-journal_alone
 returns-in-Bins-clause-journal_alone g c = λ alone. files-journal _ c.write_bins.result c.write_bins.ensures.stage
+
+pub write_merge-requires-clause-file_texts : goal.write_merge-requires-clause-file_texts
+write_merge-requires-clause-file_texts g c = (subst IsOrder c.in-Merge.is c.requires).1
+
+pub returns-in-Merge-clause-does : goal.returns-in-Merge-clause-does
+returns-in-Merge-clause-does g c =
+    let same : c.args.order.now ≡ MergeOrder c.in-Merge.job (option_copied c.as_ref-in-Merge.result) c.in-Merge.files = cc in
+    does-text g.D.Disk.seen g.D.Disk.moment g.D.Disk.may_leave (g.F.Shelf.told c.args.shelf.now) c.args.order.now _
+    (λ (files : Files). MergeOf files c.in-Merge.job (option_copied c.as_ref-in-Merge.result) c.in-Merge.files) (λ (files : Files) (x : Merge). merged_text x) same (λ files o p. p)
+    c.args.journal.now (g.S.Sink.told c.args.out.now) (g.S.Sink.told c.write_merge.new.out) c.write_merge.result c.write_merge.ensures.stage c.write_merge.ensures.tells
+
+pub returns-in-Merge-clause-leaves : goal.returns-in-Merge-clause-leaves
+returns-in-Merge-clause-leaves g c =
+    leaves-tells g.D.Disk.seen g.D.Disk.moment g.D.Disk.may_leave c.args.order.now c.args.journal.now (g.S.Sink.told c.args.out.now) (g.S.Sink.told c.write_merge.new.out) c.write_merge.result
+    (subst (λ (o : Order). is_writer o ≡ false) (sym c.in-Merge.is) refl)
+    (verdict-due (g.S.Sink.told c.args.out.now) (g.S.Sink.told c.write_merge.new.out) c.write_merge.result c.write_merge.ensures.stage c.write_merge.ensures.nothing)
+
+pub returns-in-Merge-clause-reads : goal.returns-in-Merge-clause-reads
+returns-in-Merge-clause-reads g c = reads-beside _ _ c.write_merge.result c.write_merge.ensures.reads
+
+pub returns-in-Merge-clause-unnumbered : goal.returns-in-Merge-clause-unnumbered
+returns-in-Merge-clause-unnumbered g c = λ alone. files-unnumbered c.write_merge.result c.write_merge.ensures.stage
+
+pub returns-in-Merge-clause-generated : goal.returns-in-Merge-clause-generated
+returns-in-Merge-clause-generated g c = λ is. absurd (subst (λ (o : Order). IsGenOf (Ok o)) c.in-Merge.is is)
+
+pub returns-in-Merge-clause-ranged : goal.returns-in-Merge-clause-ranged
+returns-in-Merge-clause-ranged g c = where_always (g.F.Shelf.told c.args.shelf.now) _ (λ files. inl (looks_none g.D.Disk.seen g.D.Disk.moment g.D.Disk.may_leave c.args.journal.now))
+
+pub returns-in-Merge-clause-journal : goal.returns-in-Merge-clause-journal
+returns-in-Merge-clause-journal g c = journal-or _ _ _ c.write_merge.result (files-journal _ c.write_merge.result c.write_merge.ensures.stage)
+
+pub returns-in-Merge-clause-journal_alone : goal.returns-in-Merge-clause-journal_alone
+returns-in-Merge-clause-journal_alone g c = λ alone. files-journal _ c.write_merge.result c.write_merge.ensures.stage
+
+pub returns-in-Run-clause-unwritten : goal.returns-in-Run-clause-unwritten
+returns-in-Run-clause-unwritten g c = λ is. absurd (subst (λ (o : Order). IsMergeOf (Ok o)) c.in-Run.is is)
+
+pub returns-in-Shard-clause-unwritten : goal.returns-in-Shard-clause-unwritten
+returns-in-Shard-clause-unwritten g c = λ is. absurd (subst (λ (o : Order). IsMergeOf (Ok o)) c.in-Shard.is is)
+
+pub returns-in-Plain-clause-unwritten : goal.returns-in-Plain-clause-unwritten
+returns-in-Plain-clause-unwritten g c = λ is. absurd (subst (λ (o : Order). IsMergeOf (Ok o)) c.in-Plain.is is)
+
+pub returns-in-Check-clause-unwritten : goal.returns-in-Check-clause-unwritten
+returns-in-Check-clause-unwritten g c = λ is. absurd (subst (λ (o : Order). IsMergeOf (Ok o)) c.in-Check.is is)
+
+pub returns-in-Status-clause-unwritten : goal.returns-in-Status-clause-unwritten
+returns-in-Status-clause-unwritten g c = λ is. absurd (subst (λ (o : Order). IsMergeOf (Ok o)) c.in-Status.is is)
+
+pub returns-in-Dump-clause-unwritten : goal.returns-in-Dump-clause-unwritten
+returns-in-Dump-clause-unwritten g c = λ is. absurd (subst (λ (o : Order). IsMergeOf (Ok o)) c.in-Dump.is is)
+
+pub returns-in-Gen-clause-unwritten : goal.returns-in-Gen-clause-unwritten
+returns-in-Gen-clause-unwritten g c = λ is. absurd (subst (λ (o : Order). IsMergeOf (Ok o)) c.in-Gen.is is)
+
+pub returns-in-Fringe-clause-unwritten : goal.returns-in-Fringe-clause-unwritten
+returns-in-Fringe-clause-unwritten g c = λ is. absurd (subst (λ (o : Order). IsMergeOf (Ok o)) c.in-Fringe.is is)
+
+pub returns-in-Verify-clause-unwritten : goal.returns-in-Verify-clause-unwritten
+returns-in-Verify-clause-unwritten g c = λ is. absurd (subst (λ (o : Order). IsMergeOf (Ok o)) c.in-Verify.is is)
+
+pub returns-in-Bins-clause-unwritten : goal.returns-in-Bins-clause-unwritten
+returns-in-Bins-clause-unwritten g c = λ is. absurd (subst (λ (o : Order). IsMergeOf (Ok o)) c.in-Bins.is is)

@@ -6,7 +6,7 @@ use Rattle.vis_writer.proofs.WritesLemmas.{where_then, where_always}
 use Rattle.vlbi_core.specs.Calls.{texts_of, order_in}
 use Rattle.vlbi_core.specs.Restart.{IsNoWriter}
 use Rattle.vlbi_core.specs.Steps.{OutcomeFrom, IsShort}
-use Rattle.vlbi_core.proofs.TopLemmas.{verdict-done, verdict-told, appended-done, appended-refused, read-risen, read-kept, read-no_fall, restarts-told, all-done, headline-done, headline-refused, refusal-not-zero, line-refused, words-line, unnumbered-line, sample-status, noted-nothing, noted-appends, due-nothing, early-nothing, verdict-fact, other-fact, verdict-not}
+use Rattle.vlbi_core.proofs.TopLemmas.{verdict-done, verdict-told, appended-done, appended-refused, read-risen, read-kept, read-no_fall, restarts-told, all-done, headline-done, headline-refused, refusal-not-zero, line-refused, words-line, unnumbered-line, sample-status, noted-nothing, noted-appends, due-nothing, early-nothing, memory-nothing, verdict-fact, other-fact, verdict-not}
 use Rattle.vlbi_core.proofs.NoteLemmas.{nothing-other, other-says, refused-says}
 use Rattle.vlbi_core.proofs.top.run.Goals as goal
 
@@ -91,6 +91,9 @@ returns-in-Err-clause-nothing g c = rw c.status.ensures (λ is. due-nothing c.in
 
 pub returns-in-Err-clause-whole : goal.returns-in-Err-clause-whole
 returns-in-Err-clause-whole g c = rw c.status.ensures (λ run is. early-nothing c.in-Err.refusal _ (c.in-Err.ensures.leaves.whole run) is)
+
+pub returns-in-Err-clause-unwritten : goal.returns-in-Err-clause-unwritten
+returns-in-Err-clause-unwritten g c = rw c.status.ensures (λ merge is. memory-nothing c.in-Err.refusal _ (c.in-Err.ensures.unwritten merge) is)
 
 pub returns-in-Err-clause-read : goal.returns-in-Err-clause-read
 returns-in-Err-clause-read g c = rw c.status.ensures (λ is. read-risen c.in-Err.refusal _ _ _ c.in-Err.ensures.reads is)

@@ -1,0 +1,3 @@
+pub mod ShardLemmas
+pub mod OutcomeLemmas
+pub mod LawLemmas

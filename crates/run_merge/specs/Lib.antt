@@ -1,0 +1,4 @@
+pub mod Outcome
+pub mod Shards
+pub mod Refused
+pub mod Jobs

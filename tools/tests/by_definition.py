@@ -9,7 +9,7 @@ import calendar
 import functools
 import re
 import struct
-from collections.abc import Iterator
+from collections.abc import Iterable, Iterator
 from dataclasses import dataclass, field
 
 Files = dict[str, bytes]
@@ -222,28 +222,41 @@ def fields(job: Job) -> bytes:
     """A head behind its mark."""
     parts = [struct.pack("<IQQ", job.numbers["lags"], job.numbers["integration"], job.numbers["rate"])]
     parts += [struct.pack("<I", len(job.stations)), *map(name, job.stations)]
-    parts += [struct.pack("<I", len(job.products)), *(name(x) + name(y) for x, y in job.products), struct.pack("<I", len(job.scans))]
-    for scan in job.scans:
+    scans = job.scans if baselines(job) else []
+    parts += [struct.pack("<I", len(job.products)), *(name(x) + name(y) for x, y in job.products), struct.pack("<I", len(scans))]
+    for scan in scans:
         parts += [name(scan.name), struct.pack("<QQI", scan.start, scan.samples, len(baselines(job)))]
         parts += [struct.pack("<II", a, b) for a, b in baselines(job)]
     return b"".join(parts)
 
 
-def records(job: Job, files: Files) -> tuple[bytes, list[Cell]]:
-    """The record file of a job that has a baseline, and its cells."""
+def record_file(job: Job, integrations: Iterable[tuple[int, int, list[Cell]]]) -> tuple[bytes, list[Cell]]:
+    """The record file of a job, and its cells: of each integration of a scan they are given by product, baseline and lag."""
+    lags, pairs = job.numbers["lags"], len(baselines(job))
+    parts, found, count = [head(job)], [], 0
+    for number, m, cells in integrations:
+        for group, begin in enumerate(range(0, len(cells), lags)):
+            parts.append(struct.pack("<BIQII", 1, number, m, *divmod(group, pairs)))
+            parts += [struct.pack("<qqQ", *one) for one in cells[begin : begin + lags]]
+            count += 1
+        found += cells
+    return b"".join([*parts, struct.pack("<BQ", 255, count)]), found
+
+
+def sums(job: Job, files: Files) -> Iterator[tuple[int, int, list[Cell]]]:
+    """The number of each scan, that of each integration in it, and its cells."""
     lags, integration, stations = job.numbers["lags"], job.numbers["integration"], list(job.stations.values())
-    parts, cells, count = [head(job)], [], 0
+    pairs = [(x, y, a, b) for x, y in job.products for a, b in baselines(job)]
     for number, scan in enumerate(job.scans):
         known = [{x: values(job, station, x, scan, files) for pair in job.products for x in pair} for station in stations]
         for m, begin in enumerate(range(0, scan.samples, integration)):
-            for p, (x, y) in enumerate(job.products):
-                for q, (a, b) in enumerate(baselines(job)):
-                    end = min(begin + integration, scan.samples)
-                    made = [cell(known[a][x], known[b][y], begin, end, lag) for lag in range(-lags // 2, lags // 2)]
-                    parts += [struct.pack("<BIQII", 1, number, m, p, q), *(struct.pack("<qqQ", *one) for one in made)]
-                    cells += made
-                    count += 1
-    return b"".join([*parts, struct.pack("<BQ", 255, count)]), cells
+            end = min(begin + integration, scan.samples)
+            yield number, m, [cell(known[a][x], known[b][y], begin, end, lag) for x, y, a, b in pairs for lag in range(-lags // 2, lags // 2)]
+
+
+def records(job: Job, files: Files) -> tuple[bytes, list[Cell]]:
+    """The record file of a job, and its cells."""
+    return record_file(job, sums(job, files))
 
 
 def bin_records(job: Job, files: Files, pulsed: Pulse) -> tuple[bytes, list[list[Cell]]]:

@@ -243,9 +243,8 @@ def name(text: str) -> bytes:
     return struct.pack("<H", len(raw)) + raw
 
 
-def records(job: Job, folder: str, phases: Phases | None = None) -> bytes:
-    """The record file of a job; with phases the text of the cells of bins."""
-    lags, integration = job.numbers["lags"], job.numbers["integration"]
+def listed_scans(job: Job) -> list[tuple[Scan, list[tuple[int, int]]]]:
+    """The scans that have a baseline, each with its baselines."""
     keys = list(job.stations)
     listed = []
     for scan in job.scans:
@@ -253,12 +252,25 @@ def records(job: Job, folder: str, phases: Phases | None = None) -> bytes:
         baselines = [(a, b) for a in standing for b in standing if a < b or a == b and job.auto]
         if baselines:
             listed.append((scan, baselines))
-    parts = [b"VLBIVIS1"] if phases is None else [b"VLBIBIN1", struct.pack("<I", phases.count)]
-    parts += [struct.pack("<IQQI", lags, integration, job.rate, len(keys)), *map(name, keys)]
+    return listed
+
+
+def head(job: Job) -> bytes:
+    """What a record file has behind its mark and before its records."""
+    listed = listed_scans(job)
+    parts = [struct.pack("<IQQI", job.numbers["lags"], job.numbers["integration"], job.rate, len(job.stations)), *map(name, job.stations)]
     parts += [struct.pack("<I", len(job.products)), *(name(x) + name(y) for x, y in job.products), struct.pack("<I", len(listed))]
     for scan, baselines in listed:
         parts.append(name(scan.name) + struct.pack("<QQI", scan.start, scan.samples, len(baselines)))
         parts += [struct.pack("<II", a, b) for a, b in baselines]
+    return b"".join(parts)
+
+
+def records(job: Job, folder: str, phases: Phases | None = None) -> bytes:
+    """The record file of a job; with phases the text of the cells of bins."""
+    lags, integration = job.numbers["lags"], job.numbers["integration"]
+    keys, listed = list(job.stations), listed_scans(job)
+    parts = [b"VLBIVIS1" if phases is None else b"VLBIBIN1" + struct.pack("<I", phases.count), head(job)]
     count = 0
     for number, (scan, baselines) in enumerate(listed):
         known = {(key, channel): values(job, key, channel, scan, folder) for key in scan.parts for pair in job.products for channel in pair}

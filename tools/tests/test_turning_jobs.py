@@ -17,7 +17,7 @@ def test_random_jobs_whose_fringes_turn() -> None:
     answers = turning_jobs.answers(lines)
     pulsed = len(turning_jobs.ROWS) - turning_jobs.PULSED
     restarts = (2 * turning_jobs.RESTARTS + 1) * len(turning_jobs.ROWS)
-    assert len(answers) == 2 * turning_jobs.PULSED + 4 * pulsed + restarts + 3 * len(turning_jobs.PARTS)
+    assert len(answers) == 2 * turning_jobs.PULSED + 4 * pulsed + restarts + 3 * len(turning_jobs.PARTS) + turning_jobs.MERGED * len(turning_jobs.MERGES)
     assert (CASES / "stdin").read_text().splitlines()[-len(lines) :] == lines
     assert (CASES / "stdout").read_text().splitlines()[-len(answers) :] == answers
 

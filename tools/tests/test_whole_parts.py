@@ -17,9 +17,9 @@ CELLS = ["87 00*7 00*8 0f 00*7  90 00*7 00*8 10 00*7", *["90 00*7 00*8 10 00*7  
 
 
 def test_what_is_printed_of_parts() -> None:
-    """All answers to the lines of parts stand before those to the random jobs."""
+    """All answers to the lines of parts stand before those to merges."""
     answers = list(whole_parts.answers(LINES))
-    end = next(number for number, line in enumerate(TOLD) if line.startswith("random job 1, "))
+    end = next(number for number, line in enumerate(TOLD) if line.startswith("parts of four integrations that are merged: "))
     assert TOLD[end - len(answers) : end] == answers
     assert len(answers) > 100
 

@@ -13,16 +13,19 @@ from collections.abc import Iterator
 from dataclasses import dataclass
 
 import by_definition
+import merged_journals
 import whole_calls
 import whole_journals
 from checkpoint_journals import Part
 
 FIRST = "# Random jobs whose fringes turn: tools/tests/turning_jobs.py writes these lines, and what is printed for them by the definitions."
-MOST = 6_500_000  # samples times lags, products and baselines of all cases
+MOST = 7_500_000  # samples times lags, products and baselines of all cases
 YEAR = by_definition.second_of("2010y001d00h00m00s")
 KINDS = ("missing", "invalid", "invalid and good", "doubled", "foreign", "late")  # of a frame that is not as it should be
 RESTARTS = 2  # of the journal of each job
 PARTS = (0, 4, 5, 7, 9, 11, 12, 24, 27, 30, 34, 40)  # rows of which a part in shorter integrations is summed too
+MERGES = (0, 1, 3, 4, 5, 7, 8, 10, 11, 13, 24, 25, 26, 28, 30, 32, 35, 36, 37, 39, 40, 43)  # rows of which parts are merged
+MERGED = 8  # calls of each of these
 KNOTS = (1, 2, 7, 10, 33, 100, 333, 1000, 4096)  # samples
 SKY_KNOTS = (7, 33, 1000, 32768, 1000000)
 
@@ -297,6 +300,8 @@ def case_lines(number: int) -> Iterator[str]:
     yield from restart_lines(number, "".join(f"{line}\n" for line in text))
     if number in PARTS:
         yield from part_lines(of, number, text)
+    if number in MERGES:
+        yield from merge_lines(of, number, text)
 
 
 def threads(draw: random.Random) -> str:
@@ -351,6 +356,44 @@ def part_lines(of: Row, number: int, text: list[str]) -> Iterator[str]:
     yield from cut_lines(draw, f"P{number + 1}", part.size(epochs[: draw.randrange(len(epochs))]))
     yield f"call |shard|--job|k|--epoch|{part_length(draw, job)}|{threads(draw)}|{words}"
     yield "show"
+
+
+def merge_lines(of: Row, number: int, text: list[str]) -> Iterator[str]:
+    """Three parts of the job, in shorter integrations and several scans, are summed, and merged: as they are, with a byte of a cell of one of them
+    set, beside that one itself and in its place, and without it."""
+    draw = random.Random(f"merges {number}")
+    lines = list(parted_lines(draw, of, text))
+    job = whole_journals.SummedJob("".join(f"{line}\n" for line in lines).encode())
+    ranges, changed = overlapping(draw, job.integrations()), draw.randrange(3)
+    yield from (f"| {line}" for line in lines)
+    yield "file m"
+    yield "call |plain|--job|m"
+    for at, (begin, end) in enumerate(ranges):
+        samples = part_length(draw, job)
+        yield "journal"
+        yield f"call |shard|--job|m|--epoch|{samples}|{threads(draw)}|--from|{begin}|--to|{end}"
+        yield f"keep M{number + 1}-{at}"
+        yield from [f"use M{number + 1}-{at}", f"file m{at}"]
+        if at == changed:
+            yield from [f"use M{number + 1}-{at}", byte_line(draw, Part(job, begin, end), samples), "file x"]
+    names = ["m0", "m1", "m2"]
+    others = [name for name in names if name != f"m{changed}"]
+    for chosen in (names, [*names, "x"], [*others, "x"], others):
+        yield f"call |merge|--job|m|{'|'.join(draw.sample(chosen, len(chosen)))}"
+
+
+def overlapping(draw: random.Random, count: int) -> list[tuple[int, int]]:
+    """Three ranges of so many integrations, of which each is in one at least."""
+    cuts = [0, *sorted(draw.sample(range(1, count), 2)), count]
+    return [(max(begin - draw.randint(0, 2), 0), min(end + draw.randint(0, 2), count)) for begin, end in zip(cuts, cuts[1:])]
+
+
+def byte_line(draw: random.Random, part: Part, samples: int) -> str:
+    """A byte of a cell is set in the journal of a part that was summed by epochs of so many samples."""
+    epochs = part.walk(part.first(), samples)
+    number = draw.randrange(len(epochs))
+    cells = part.size(epochs[:number]) + 28
+    return f"byte {cells + draw.randrange(24 * part.count(epochs[number]))} {draw.choice(('01', '5A', '80', 'FE'))}"
 
 
 def parted_lines(draw: random.Random, of: Row, text: list[str]) -> Iterator[str]:
@@ -412,10 +455,12 @@ def answers(asked: list[str]) -> list[str]:
             work += sum(scan.samples for scan in job.scans) * job.numbers["lags"] * len(job.products) * len(by_definition.baselines(job))
             records, cells = by_definition.records(job, texts)
             told = whole_calls.told(records, cells)
-            told_bins = binned(job, texts, cells) if "p" in texts else ""
+            told_bins = binned(job, texts, cells) if "p" in texts and text == texts["j"] else ""
         answer = told_bins if words[0] == "bins" else told
         if words[0] in ("run", "status", "shard"):
             answer, _, table.journal = whole_journals.call(jobs[text], table.journal, words, told)
+        if words[0] == "merge":
+            answer = merged_journals.merge(jobs[text], [(file, texts[file]) for file in words[3:]])
         found.append(f"{name}: {answer}")
     assert work < MOST, work
     return found

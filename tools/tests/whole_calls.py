@@ -11,7 +11,7 @@ from by_definition import Cell, Files
 FIELDS = {"epoch": 20, "second": 0, "number": 0, "station": 1, "thread": 0, "bits": 2, "chans": 0, "seed": 0, "noise": 0}
 MARKS = ("invalid", "legacy", "complex")
 CALLS = ("call", "count", "runs", "show")
-ASKING = (*CALLS, "meets", "told", "stop", "fail", "broken", "refused", "disk", "left", "stops", "reads", "writes")
+ASKING = (*CALLS, "meets", "told", "stop", "fail", "broken", "refused", "disk", "left", "stops", "reads", "writes", "cuts")
 
 
 def runs(text: str) -> bytes:
@@ -114,6 +114,8 @@ class Table:
             self.text += b"".join(self.pieces[name] for name in rest.split())
         elif word == "cut":
             self.text = self.text[: int(rest)]
+        elif word == "byte":
+            self.text = self.text[: int(count)] + bytes.fromhex(behind) + self.text[int(count) + 1 :]
         elif word == "change":
             old, _, new = rest.partition(" => ")
             self.text = self.text.replace(escaped(old), escaped(new), 1)

@@ -2,7 +2,7 @@
 
     whole_parts.py < crates/vlbi_cases/stdin     what is printed for the lines of parts
 
-These lines are those from `FIRST` on, up to the random jobs. Calls of them are of `shard`, and beside it of `run`, `status` and `plain`.
+These lines are those from `FIRST` on, up to `PAST`. Calls of them are of `shard`, and beside it of `run`, `status` and `plain`.
 """
 from __future__ import annotations
 
@@ -11,7 +11,6 @@ from collections.abc import Callable, Iterator, Sequence
 from typing import Optional
 
 import by_definition
-import turning_jobs
 import whole_calls
 import whole_journals
 from by_definition import Cell, Files
@@ -19,6 +18,7 @@ from checkpoint_journals import FILLS, MOST_CALLS, Disk, DiskFault, Epoch, Job, 
 from whole_journals import SummedJob
 
 FIRST = "# Parts of jobs, each summed into a journal of its own: tools/tests/whole_parts.py says by the definitions what is printed for these lines."
+PAST = "# Journals of parts that are merged: tools/tests/whole_merges.py says by the definitions what is printed for these lines."
 RANGES = {"--epoch": (1, 4194304), "--workers": (1, 64), "--piece": (64, 4194304), "--from": (0, 2**64 - 1), "--to": (0, 2**64 - 1)}
 NEEDED = {"plain": ["--job"], "status": ["--job"], "run": ["--job", "--workers", "--piece"]}
 NEEDED["shard"] = [*NEEDED["run"], "--from", "--to"]
@@ -76,8 +76,12 @@ class Calls:
         if words[0] == "shard" and int(given["--to"]) > job.integrations():
             return f"6 vlbi: limit: shard {int(given['--to'])}"
         names = names_of(job.plan)
-        missing = [f"11 vlbi: no file {name}" for name in names if name not in self.files]
-        return next(iter([*missing, *(FOREIGN[name] for name in names if name in FOREIGN)]), None)
+        foreign = [FOREIGN[name] for name in names if name in FOREIGN and words[0] != "status"]
+        return next(iter([*self.missing(names), *foreign]), None)
+
+    def missing(self, names: Sequence[str]) -> list[str]:
+        """What is said of files that are not there."""
+        return [f"11 vlbi: no file {name}" for name in names if name not in self.files]
 
     def job(self, words: Sequence[str]) -> SummedJob:
         """The job of a call; recordings that are not there are empty."""
@@ -249,7 +253,7 @@ LINES = {
 def section(lines: list[str]) -> tuple[list[str], list[str]]:
     """The lines of the table before those of parts, and these."""
     first = lines.index(FIRST)
-    return lines[:first], lines[first : lines.index(turning_jobs.FIRST)]
+    return lines[:first], lines[first : lines.index(PAST)]
 
 
 def answers(lines: list[str]) -> Iterator[str]:

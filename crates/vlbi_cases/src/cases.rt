@@ -3,7 +3,7 @@
 use crate::answer::{Answer, print_journal};
 use crate::calls::{Called, Device, Faults, Refused, call, call_meeting, call_noted, call_refused};
 use crate::frames::Frame;
-use crate::texts::{append_numbered, append_runs, bytes_of, replaced};
+use crate::texts::{append_numbered, append_runs, bytes_of, replaced, set_byte};
 use crate::told::print_told;
 use anyhow::{Context, Result, bail};
 use std::alloc::Global;
@@ -65,6 +65,7 @@ impl Cases {
             "fail" => self.call_with_one_failing(rt, Device::Disk, rest)?,
             "broken" => self.call_on_broken_shelf(rt, rest)?,
             "refused" => self.call_with_one_refused(rt, rest)?,
+            "cuts" => self.call_over_fronts(rt, rest)?,
             _ => self.describe(word, rest)?,
         }
         Ok(())
@@ -80,6 +81,7 @@ impl Cases {
             "frames" => self.append_frames(rest)?,
             "use" => self.append_pieces(rest)?,
             "cut" => self.bytes.truncate(rest.parse::<usize>()?),
+            "byte" => set_byte(&mut self.bytes, rest)?,
             "change" => self.change(rest)?,
             "piece" => {
                 let piece = self.take_bytes(rest)?;
@@ -456,6 +458,39 @@ impl Cases {
             }
         }
         Ok(false)
+    }
+
+    // The call over each front of a file of the case, whose name stands before the words, and over the whole file. Where a merge does not
+    // say of a front that it is no journal of a part at its end, the answer is printed.
+    fn call_over_fronts<R: Print + Threads + Sync>(&self, rt: &R, rest: &str) -> Result<()> {
+        let (file, line) = rest.split_once(' ').context("a file and words")?;
+        let image = find(&self.files, file).context("no such file")?;
+        let words = words_of(self.alloc, line)?;
+        for length in 0..image.len() {
+            let front = image.get(..length).context("a front")?;
+            let files = self.files_with(file, front)?;
+            let none = Faults::none(self.alloc, self.most);
+            let answer = call(rt, self.alloc, &words, files, &self.journal, none)?.answer;
+            let note = format!(in self.alloc; "vlbi: merge: NotShard {file} at byte {length}\n")?;
+            if !answer.is_fault(14, note.as_str().as_bytes(), &[]) {
+                print!(rt; "{}, {length} bytes of {file}:", self.name)?;
+                answer.print(rt, self.alloc)?;
+            }
+        }
+        print!(rt;
+            "{}, other fronts of {file}: NotShard at their ends, then",
+            self.name
+        )?;
+        self.whole(rt, line)?.print(rt, self.alloc)
+    }
+
+    // The files of a call, of which that of a name has these bytes.
+    fn files_with(&self, name: &str, bytes: &[u8]) -> Result<Vec<(String, Vec<u8>)>> {
+        let mut files = Vec::new(self.alloc);
+        let name = String::from_str(self.alloc, name)?;
+        files.push((name, bytes.to_vec(self.alloc)?))?;
+        files.extend_from_slice(&self.all_files()?)?;
+        Ok(files)
     }
 
     // The calls of `run` with these options, by 1, 3 and 64 workers and pieces of 64, 65, 127 and 4,194,304 samples, each over a

@@ -70,6 +70,16 @@ pub fn append_run(bytes: &mut Vec<u8>, byte: u8, count: u32) -> Result<(), Alloc
     bytes.extend_from_slice(&block[..(count % 1024) as usize])
 }
 
+/// Sets the byte at a place to another one, both as a line has them.
+pub fn set_byte(bytes: &mut [u8], rest: &str) -> Result<()> {
+    let (place, byte) = rest.split_once(' ').context("a place and a byte")?;
+    let there = bytes
+        .get_mut(place.parse::<usize>()?)
+        .context("no such place")?;
+    *there = u8::from_str_radix(byte, 16)?;
+    Ok(())
+}
+
 /// The bytes with the first place of `old` replaced by `new`.
 pub fn replaced(alloc: Global, bytes: &[u8], old: &[u8], new: &[u8]) -> Result<Vec<u8>> {
     let at = place_of(bytes, old).context("nothing to replace")?;

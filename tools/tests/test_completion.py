@@ -33,6 +33,13 @@ CASES = [
     (["vlbi", "night.journal", "sh"], ["shard"]),
     (["vlbi", "night.journal", "shard", "--fr"], ["--from"]),
     (["vlbi", "night.journal", "shard", "--from", "2", "--to", ""], [""]),
+    (["vlbi", "night.journal", "me"], ["merge"]),
+    (["vlbi", "night.journal", "merge", "--"], ["--job", "--vex"]),
+    (["vlbi", "night.journal", "merge", "--job", "jo"], ["job.txt"]),
+    (["vlbi", "night.journal", "merge", "fi"], ["first.journal"]),
+    (["vlbi", "night.journal", "merge", "--job", "job.txt", "first.journal", "se"], ["second.journal"]),
+    (["vlbi", "night.journal", "merge", "first.journal", "second.journal", "--v"], ["--vex"]),
+    (["vlbi", "night.journal", "merge", "--ep"], [""]),
     (["vlbi", "night.journal", "run", "--fr"], [""]),
     (["vlbi", "night.journal", "plain", "--e"], [""]),
     (["vlbi", "night.journal", "check", "--epoch", ""], [""]),
@@ -41,6 +48,9 @@ CASES = [
     (["vlbi-plot", "--what", "m"], ["map"]),
     (["vlbi-plot", "--dpi", ""], [""]),
     (["vlbi-lint", "jo"], ["job.txt"]),
+    (["vlbi-cluster", "s"], ["submit", "status"]),
+    (["vlbi-cluster", "plan", "jo"], ["job.txt"]),
+    (["vlbi-cluster", "plan", "--no"], ["--nodes"]),
     (["vlbi-plot", "--certificate", "jo"], ["job.txt"]),
     (["/usr/bin/vlbi-report", "sky.vis", "--tit"], ["--title"]),
 ]
@@ -51,7 +61,8 @@ def folder(tmp_path: Path, monkeypatch: pytest.MonkeyPatch) -> Path:
     monkeypatch.chdir(tmp_path)
     (tmp_path / "vlbi").write_text("".join(completion.bash()))
     (tmp_path / "_vlbi").write_text("".join(completion.zsh()))
-    (tmp_path / "job.txt").write_text("")
+    for name in ("job.txt", "first.journal", "second.journal"):
+        (tmp_path / name).write_text("")
     return tmp_path
 
 
@@ -69,7 +80,11 @@ def test_bash(folder: Path, words: list[str], said: list[str]) -> None:
     ("vlbi j gen --see", "vlbi j gen --seed"),
     ("vlbi j run --ep", "vlbi j run --epoch"),
     ("vlbi j shard --fr", "vlbi j shard --from"),
+    ("vlbi j me", "vlbi j merge"),
+    ("vlbi j merge fi", "vlbi j merge first.journal"),
+    ("vlbi j merge --job job.txt first.journal se", "vlbi j merge --job job.txt first.journal second.journal"),
     ("vlbi-lint jo", "vlbi-lint job.txt"),
+    ("vlbi-cluster pl", "vlbi-cluster plan"),
 ])
 def test_zsh(folder: Path, line: str, said: str) -> None:
     """A shell in a terminal completes the line."""

@@ -280,7 +280,7 @@ WORDS = [
     (("plain", "--job", "a", "--job", "b"), ["--job is given 2 times"]),
     (("plain", "--jbo", "a"), [
         "--job is missing", "`--jbo` is no option of `plain`: --job, --vex; is `--job` meant?", "`a` is no option of `plain`: --job, --vex"]),
-    (("rnu", "--job", "a"), ["`rnu` is no command: run, plain, check, status, dump, gen, fringe, verify, bins, shard; is `run` meant?"]),
+    (("rnu", "--job", "a"), ["`rnu` is no command: run, plain, check, status, dump, gen, fringe, verify, bins, shard, merge; is `run` meant?"]),
     (("gen", "--seed=7", "--seconds", "61", "--workers", "1", "--piece", "64"), ["--seconds 61: it is a whole number, 1 to 60"]),
     (("dump",), ["`dump` takes the name of one record file"]),
     (("fringe", "a", "--rates", "4097"), ["--rates 4097: it is a whole number, 0 to 4096", "--divide is missing"]),
@@ -290,12 +290,23 @@ WORDS = [
     (("shard", "--job", "a", "--workers", "1", "--piece", "64", "--from", "-1", "--to", "18446744073709551616"), [
         "--from has no value", "--to 18446744073709551616: it is a whole number, 0 to 18446744073709551615"]),
     (("shard", "--job", "a", "--workers", "1", "--piece", "64", "--to", "2"), ["--from is missing"]),
+    (("merge", "--job", "a"), ["`merge` takes the name of one journal of a part, or those of more"]),
+    (("merge", "p", "--job", "a", "q", "--epoch", "1", "--workers", "2", "r"), [
+        "`--epoch` is no option of `merge`: --job, --vex", "`--workers` is no option of `merge`: --job, --vex"]),
+    (("merge", "p", "--vex", "v", "q", "--", "--job", "--r"), ["--job is missing"]),
+    (("plain", "--job", "a", "--", "b"), ["`--` is no option of `plain`: --job, --vex", "`b` is no option of `plain`: --job, --vex"]),
 ]
 
 
 @pytest.mark.parametrize("words, said", WORDS, ids=[row[1][0] for row in WORDS])
 def test_words_of_a_call(words: tuple[str, ...], said: list[str]) -> None:
     assert told(2, "vlbi: words: Option", *words) == said
+
+
+@pytest.mark.parametrize("names", [("p",), ("p", "q"), ("p", "q", "p"), ("--", "-p", "--job")])
+def test_words_of_a_merge(names: tuple[str, ...]) -> None:
+    call = refusal.Call("j", ("merge", "--job", "job.txt", *names))
+    assert list(refusal.of_words(call, "")) == [] and call.names == [name for name in names if name != "--"] and call.job == "job.txt"
 
 
 def test_a_line_of_a_certificate(folder: Path) -> None:
@@ -429,3 +440,90 @@ def test_the_journal_of_another_job(folder: Path) -> None:
     (folder / "sky.vex").write_bytes(SCHEDULE.replace(b"= G", b"= F"))
     assert told(10, "vlbi: other journal at byte 9", "run", "--job", "job.txt", "--vex", "sky.vex")[0] == (
         "the journal was begun without a schedule, and the call is with one")
+
+
+# Journals of parts that are merged
+
+MERGE = ("merge", "--job", "job.txt", "first", "second")
+NEXT = "Name the journal that `shard` made of this job, copy it whole, or sum its part anew into another one."
+
+
+def test_files_and_limits_of_a_merge(folder: Path) -> None:
+    part_journal(folder / "first", 0, 2, 1)
+    assert told(7, "vlbi: read fault", *MERGE) == [
+        f"second: there is no such file in {folder}", "Then call the same command again: it begins anew."]
+    assert told(11, "vlbi: no file second", *MERGE) == [f"second: there is no such file in {folder}"]
+    assert told(9, "vlbi: write fault", *MERGE)[1] == "Call the same command again: it only writes the records anew, from the journals."
+    assert told(1, "vlbi: out of memory", *MERGE)[1] == "Else call the same command again once memory is free."
+    assert told(6, "vlbi: limit: epochs 5000000000", *MERGE) == [
+        "epochs 5000000000: the greatest is 4294967296", "take a longer epoch, by `--epoch` or in the job, or some scans by `take` lines",
+        "`merge` has no `--epoch`: it goes by the job's own line",
+        "The journals of parts are of the job as it is: with a job that is changed sum them anew."]
+
+
+def changed(path: Path, at: int, byte: int) -> None:
+    """A file with another byte at a place."""
+    text = path.read_bytes()
+    path.write_bytes(text[:at] + bytes([byte]) + text[at + 1:])
+
+
+def test_files_that_are_no_journals_of_parts(folder: Path) -> None:
+    first = folder / "first"
+    journal(first, 3)
+    assert told(14, "vlbi: merge: NotShard first at byte 5", *MERGE) == ["first: it is the journal of a `run`, and `merge` takes those of `shard`", NEXT]
+    first.write_bytes(JOB)
+    assert told(14, "vlbi: merge: NotShard first at byte 1", *MERGE) == ["first: it is no journal, and `merge` takes those of `shard`", NEXT]
+    part_journal(first, 0, 5, 1)
+    assert told(14, "vlbi: merge: NotShard first at byte 9", *MERGE) == ["first: it is of the part from 0 to 5, and the job has 4 integrations", NEXT]
+    part_journal(first, 0, 2, 2)
+    whole = first.read_bytes()
+    for length in (5, 9, 100, len(whole) - 1):
+        first.write_bytes(whole[:length])
+        assert told(14, f"vlbi: merge: NotShard first at byte {length}", *MERGE) == [f"first: it is cut off behind {length} bytes", NEXT]
+    first.write_bytes(whole)
+    changed(first, 38, 1)  # the length of the job
+    assert told(14, "vlbi: merge: NotShard first at byte 38", *MERGE) == ["first: a byte of its front was changed", NEXT]
+    first.write_bytes(whole)
+    changed(first, 65 + len(JOB) + 1, 1)  # the scan of the first epoch
+    assert told(14, f"vlbi: merge: NotShard first at byte {66 + len(JOB)}", *MERGE) == [
+        "first: an epoch in it is not the one that is due: it was changed", NEXT]
+
+
+def test_journals_of_parts_of_another_job(folder: Path) -> None:
+    part_journal(folder / "first", 0, 2, 1, JOB.replace(b"lags 4", b"lags 8"))
+    assert told(14, "vlbi: merge: NotShard first at byte 70", *MERGE) == [
+        "first: it is of another job", "the job differs in line 1:", "    job.txt: lags 4", "    the journal's: lags 8", NEXT]
+    part_journal(folder / "first", 0, 2, 1, JOB.replace(b"epoch 500", b"epoch 250"))
+    assert told(14, "vlbi: merge: NotShard first at byte 93", *MERGE) == [
+        "first: it is of another job", "the job differs in line 3:", "    job.txt: epoch 500", "    the journal's: epoch 250",
+        "epochs of another length need no other job: leave that line as the journal has it", NEXT]
+    part_journal(folder / "first", 0, 2, 1)
+    (folder / "b.vdif").write_bytes(bytes(120))
+    assert told(14, "vlbi: merge: NotShard first at byte 57", *MERGE) == [
+        "first: it is of another job", "the recording b.vdif has 120 bytes, and had 80 when the journal was begun", NEXT]
+
+
+def test_an_integration_that_no_journal_covers(folder: Path) -> None:
+    part_journal(folder / "first", 0, 2, 3)
+    part_journal(folder / "second", 1, 3, 0)
+    assert told(14, "vlbi: merge: Uncovered 1", *MERGE) == [
+        "integration 1 is number 1 of scan S", "first: it keeps 1500 of the 2000 samples of the part from 0 to 2: call its `shard` again",
+        "second: it keeps 0 of the 2000 samples of the part from 1 to 3: call its `shard` again"]
+    (folder / "second").write_bytes(b"\0")
+    assert told(14, "vlbi: merge: Uncovered 2", *MERGE) == [
+        "integration 2 is number 2 of scan S", "No journal that is named is of a part with it: name that one too, or sum the part by `shard`.",
+        "second: it is blank, and its `shard` has kept nothing"]
+
+
+def test_cells_in_which_journals_differ(folder: Path) -> None:
+    """The third product of a scan with three baselines, of which the second is that of both stations."""
+    job = JOB.replace(b"product X X\n", b"chan A Y 1 0\nchan B Y 1 0\nproduct X X\nproduct X Y\nproduct Y X\nauto\n")
+    job += b"scan T 2010y001d00h00m05s 2000\nband Y 0 U\n"
+    (folder / "job.txt").write_bytes(job)
+    for name, begin, end in (("first", 0, 6), ("second", 5, 6), ("third", 0, 5)):
+        part_journal(folder / name, begin, end, 0, job)
+    assert told(14, "vlbi: merge: Differs 5 7 -1 144 0 16 145 -2 16", *MERGE, "third") == [
+        "integration 5 is number 1 of scan T; group 7 is the product Y X of A B",
+        "real part, imaginary part and count at lag -1: 144 0 16 in the first journal that covers it, 145 -2 16 in another",
+        "journals of a part with it: first, second",
+        "A recording of one machine is another one of the same length, or a journal was changed: find out which, and sum that part anew into a new journal."]

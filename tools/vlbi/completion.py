@@ -35,10 +35,11 @@ class Option:
 
 @dataclasses.dataclass(frozen=True)
 class Command:
-    """A command: its name, its Options, and whether its words are files."""
+    """A command: its name, its Options, and what its first word may be, where it is none of files."""
 
     name: str
     options: tuple[Option, ...]
+    words: tuple[str, ...] = ()
 
 
 def around() -> list[Command]:
@@ -48,7 +49,8 @@ def around() -> list[Command]:
 
 
 def of_parser(parser: argparse.ArgumentParser) -> Command:
-    return Command(parser.prog, tuple(option_of(action) for action in parser._actions if action.option_strings))
+    words = next((tuple(action.choices) for action in parser._actions if not action.option_strings and action.choices), ())
+    return Command(parser.prog, tuple(option_of(action) for action in parser._actions if action.option_strings), words)
 
 
 def option_of(action: argparse.Action) -> Option:
@@ -78,6 +80,10 @@ def bash() -> Iterator[str]:
         for option in command.options:
             if option.has_value:
                 yield f"    {'|'.join(quoted(name, one) for one in option.names)}) echo '{value_words(option)}' ;;\n"
+    yield "  esac\n}\n_vlbi_words() {\n  case $1 in\n"
+    for name, command in rows:
+        if command.words:
+            yield f"    '{name}') echo '{' '.join(command.words)}' ;;\n"
     yield "  esac\n}\n" + BASH + f"complete -F _vlbi vlbi {' '.join(command.name for command in around())}\n"
 
 
@@ -105,6 +111,11 @@ BASH = r"""_vlbi() {
       return
     fi
     name="vlbi ${words[2]}"
+  fi
+  values=$(_vlbi_words "$name")
+  if [[ $cword == 1 && -n $values && $cur != -* ]]; then
+    COMPREPLY=($(compgen -W "$values" -- "$cur"))
+    return
   fi
   values=$(_vlbi_values "$name $prev")
   case $values in
@@ -145,6 +156,8 @@ def specs(command: Command) -> Iterator[str]:
             said = "".join("\\" + sign if sign in "[]:\\" else sign for sign in option.help)
             text = f"{'*' if option.again else ''}{name}{'=' if option.has_value and name.startswith('--') else ''}{f'[{said}]' if said else ''}{value}"
             yield "'" + text.replace("'", "'\\''") + "'"
+    if command.words:
+        yield f"'1:word:({' '.join(command.words)})'"
     yield "'*:file:_files'"
 
 

@@ -19,9 +19,10 @@ from collections.abc import Callable, Iterable, Iterator, Sequence
 from vlbi import job as jobs
 from vlbi import joined, recording, records, vex
 from vlbi.faults import Fault
-from vlbi.words import COMMANDS, FORMS, GREATEST, NAMED, PHASE_FORMS, RANGES, RECORD_RULES, SCHEDULE_FAULTS, WANTED, WANTED_INLINE
+from vlbi.words import COMMANDS, FORMS, GREATEST, NAMED, PHASE_FORMS, RANGES, RECORD_RULES, REPEATED, SCHEDULE_FAULTS, WANTED, WANTED_INLINE
 
 SHOWN = 100  # characters of a line that is shown
+KEEPING = ("run", "shard")  # the commands that go on from their journal
 TIME_WORDS = "a time is written 2010y113d20h29m00s, of a day that its year has"
 
 
@@ -37,9 +38,11 @@ class Call:
         return self.words[0] if self.words else ""
 
     def values(self, option: str) -> list[str]:
-        """What stands behind each of these options; empty where nothing does."""
+        """What stands behind each of these options, up to a word `--`; empty where nothing does."""
         found = []
         for place, word in enumerate(self.words):
+            if word == "--":
+                break
             if word == option:
                 found.append(self.words[place + 1] if place + 1 < len(self.words) else "")
             elif word.startswith(option + "="):
@@ -48,10 +51,13 @@ class Call:
 
     @property
     def names(self) -> list[str]:
-        """The words that are no options and no values of them."""
-        found, rest = [], list(self.words[1:])
+        """The words that are no options and no values of them; behind a word `--` each is one."""
+        found: list[str] = []
+        rest = list(self.words[1:])
         while rest:
             word = rest.pop(0)
+            if word == "--":
+                return found + rest
             if word in COMMANDS.get(self.command, {}):
                 rest[:1] = []
             elif not word.startswith("-"):
@@ -81,7 +87,7 @@ def advice(call: Call, status: int, note: str) -> list[str]:
     """What to do after a status of a call, and its line on standard error: lines, none for the status 0."""
     handlers: dict[int, Callable[[Call, str], Iterable[str]]] = {
         1: memory, 2: of_words, 3: of_schedule, 4: of_job, 5: of_content, 6: of_limit, 7: of_read, 8: of_journal, 9: of_output, 10: of_other, 11: of_name,
-        12: of_phases, 13: of_certificate,
+        12: of_phases, 13: of_certificate, 14: of_merge,
     }
     if status not in handlers:
         return []
@@ -92,6 +98,10 @@ def advice(call: Call, status: int, note: str) -> list[str]:
 
 
 def memory(call: Call, note: str) -> Iterator[str]:
+    if call.command == "merge":
+        yield "It has two integrations in memory, and the list of the epochs of each journal: merge the same journals on a machine that has more of it."
+        yield "Else call the same command again once memory is free."
+        return
     yield "A smaller `--epoch` needs less memory, and so does a new job of fewer products, lags or stations."
     yield "Else call the same command again once memory is free: what the journal keeps is not lost."
 
@@ -134,10 +144,12 @@ def is_number(option: str, value: str) -> bool:
 def unknown_words(call: Call, known: Iterable[str]) -> Iterator[str]:
     """The words that are no options of the command and no values of them."""
     rest, wanted = list(call.words[1:]), NAMED.get(call.command, ())
-    if wanted and len(call.names) != len(wanted):
+    if len(call.names) < len(wanted) or wanted and len(call.names) > len(wanted) and call.command not in REPEATED:
         yield f"`{call.command}` takes the name of {' and that of '.join(wanted)}"
     while rest:
         word = rest.pop(0)
+        if word == "--" and wanted:
+            return
         if word in known:
             rest[:1] = []
         elif word.split("=")[0] not in known and not (wanted and word in call.names):
@@ -343,6 +355,10 @@ def of_limit(call: Call, note: str) -> Iterator[str]:
         greatest, words = GREATEST[found.group(1)]
         yield f"{found.group(1)} {found.group(2)}: the greatest is {greatest}"
         yield words
+        if "--epoch" in words and "--epoch" not in COMMANDS.get(call.command, {}):
+            yield f"`{call.command}` has no `--epoch`: it goes by the job's own line"
+        if call.command == "merge":
+            yield "The journals of parts are of the job as it is: with a job that is changed sum them anew."
     elif found and found.group(1) == "shard":
         plan = joined.read(call.job or "", call.schedule).plan
         yield f"--to {found.group(2)}: the greatest is {plan.integrations}, the number of the job's integrations"
@@ -391,7 +407,7 @@ def of_certificate(call: Call, note: str) -> Iterator[str]:
 def of_read(call: Call, note: str) -> Iterator[str]:
     wrong = [words for path in named_files(call) for words in why_not(path)]
     yield from wrong or ["All files that the call names can be opened now: look at the disk they are on."]
-    yield "Then call the same command again: it goes on from the epochs that are kept."
+    yield f"Then call the same command again: it {'goes on from the epochs that are kept' if call.command in KEEPING else 'begins anew'}."
 
 
 def of_name(call: Call, note: str) -> Iterator[str]:
@@ -450,7 +466,8 @@ def of_journal(call: Call, note: str) -> Iterator[str]:
 
 def of_output(call: Call, note: str) -> Iterator[str]:
     yield f"Standard output could not be written; the disk of this folder has {shutil.disk_usage('.').free} bytes left. What was written is not whole."
-    yield f"Call the same command again: it only writes {'its line' if call.command == 'shard' else 'the records'} anew, from the journal."
+    written, kept = ("its line" if call.command == "shard" else "the records"), ("journals" if call.command == "merge" else "journal")
+    yield f"Call the same command again: it only writes {written} anew, from the {kept}."
 
 
 # Another job's journal
@@ -466,6 +483,11 @@ def of_other(call: Call, note: str) -> Iterator[str]:
 def differences(call: Call, kept: records.Identity) -> Iterator[str]:
     if kept.part != call.part:
         yield f"the journal is of {told_part(kept.part)}, and the call is of {told_part(call.part)}"
+    yield from other_job(call, kept)
+
+
+def other_job(call: Call, kept: records.Identity) -> Iterator[str]:
+    """In what a journal's texts, and the lengths of its recordings, are others than those of the call."""
     pairs = (("schedule", kept.schedule, call.schedule), ("job", kept.job, call.job))
     for what, text, path in pairs:
         ours = b""
@@ -473,7 +495,7 @@ def differences(call: Call, kept: records.Identity) -> Iterator[str]:
             with open(path, "rb") as file:
                 ours = file.read()
         if text != ours:
-            yield from first_difference(what, text, ours, path)
+            yield from first_difference(call, what, text, ours, path)
     asked = joined.read(call.job or "", call.schedule)
     paths = [path for files in asked.files.values() for path, _ in files]
     if len(paths) != len(kept.recordings):
@@ -489,7 +511,7 @@ def told_part(part: tuple[int, int] | None) -> str:
     return "the whole job" if part is None else f"the part from {part[0]} to {part[1]}"
 
 
-def first_difference(what: str, kept: bytes, ours: bytes, path: str | None) -> Iterator[str]:
+def first_difference(call: Call, what: str, kept: bytes, ours: bytes, path: str | None) -> Iterator[str]:
     """The first line in which two texts differ."""
     if not kept or not ours:
         yield f"the journal was begun {'with' if kept else 'without'} a {what}, and the call is {'with' if ours else 'without'} one"
@@ -500,4 +522,91 @@ def first_difference(what: str, kept: bytes, ours: bytes, path: str | None) -> I
     for front, rows in ((f"    {path}: ", own), ("    the journal's: ", theirs)):
         yield front + (rows[number].decode("utf-8", "replace")[:SHOWN] if number < len(rows) else "(it has no such line)")
     if all(number < len(rows) and rows[number].split()[:1] == [b"epoch"] for rows in (theirs, own)):
-        yield "epochs of another length need no other job: leave that line as the journal has it, and call with --epoch"
+        more = ", and call with --epoch" if "--epoch" in COMMANDS.get(call.command, {}) else ""
+        yield f"epochs of another length need no other job: leave that line as the journal has it{more}"
+
+
+# Journals of parts that are merged
+
+def of_merge(call: Call, note: str) -> Iterator[str]:
+    """Which file is no journal of a part, which integration is not covered, or in which cell two journals differ."""
+    not_shard = re.fullmatch(r"vlbi: merge: NotShard (.*) at byte (\d+)", note, re.DOTALL)
+    uncovered = re.fullmatch(r"vlbi: merge: Uncovered (\d+)", note)
+    differs = re.fullmatch(r"vlbi: merge: Differs (\d+) (\d+) (-?\d+) (-?\d+ -?\d+ \d+) (-?\d+ -?\d+ \d+)", note)
+    if not_shard:
+        yield from of_file(call, not_shard.group(1), int(not_shard.group(2)))
+    elif uncovered:
+        yield from of_uncovered(call, int(uncovered.group(1)))
+    elif differs:
+        integration, group, lag = map(int, differs.groups()[:3])
+        yield from of_cells(call, integration, group, lag, differs.groups()[3:])
+
+
+def of_file(call: Call, name: str, at: int) -> Iterator[str]:
+    """What a file is that is no journal of a part of the job."""
+    with open(name, "rb") as file:
+        mark = file.read(9)[1:]
+    if os.path.getsize(name) <= at:
+        yield f"{name}: it is cut off behind {at} bytes"
+    elif at < 9:
+        yield f"{name}: it is {'the journal of a `run`' if mark in records.JOURNAL_MAGICS else 'no journal'}, and `merge` takes those of `shard`"
+    else:
+        yield from other_part(call, name)
+    yield "Name the journal that `shard` made of this job, copy it whole, or sum its part anew into another one."
+
+
+def other_part(call: Call, name: str) -> Iterator[str]:
+    """In what the journal of a part is not one of this job."""
+    plan = joined.read(call.job or "", call.schedule).plan
+    try:
+        kept = records.identity(name)
+    except Fault:  # lengths past its end
+        kept = None
+    if kept is None or kept.part is None:
+        yield f"{name}: a byte of its front was changed"
+    elif not kept.part[0] < kept.part[1] <= plan.integrations:
+        yield f"{name}: it is of {told_part(kept.part)}, and the job has {plan.integrations} integrations"
+    else:
+        found = list(other_job(call, kept))
+        yield f"{name}: {'it is of another job' if found else 'an epoch in it is not the one that is due: it was changed'}"
+        yield from found
+
+
+def of_uncovered(call: Call, number: int) -> Iterator[str]:
+    """Which journals are of a part with an integration that none covers, and how far they are."""
+    scan, place = place_of(call, number)
+    yield f"integration {number} is number {place.integration} of scan {scan.name}"
+    there = parts_with(call, number)
+    for name in there:
+        found = records.journal(name)
+        yield f"{name}: it keeps {found.kept_samples} of the {found.samples} samples of {told_part(found.part)}: call its `shard` again"
+    if not there:
+        yield "No journal that is named is of a part with it: name that one too, or sum the part by `shard`."
+        yield from (f"{name}: it is blank, and its `shard` has kept nothing" for name in dict.fromkeys(call.names) if records.identity(name) is None)
+
+
+def of_cells(call: Call, number: int, group: int, lag: int, cells: Sequence[str]) -> Iterator[str]:
+    """What a cell is of in which two journals differ, and which journals may have it."""
+    scan, place = place_of(call, number)
+    plan = joined.read(call.job or "", call.schedule).plan
+    product, baseline = divmod(group, len(scan.baselines))
+    keys = " ".join(plan.stations[station] for station in scan.baselines[baseline])
+    yield f"integration {number} is number {place.integration} of scan {scan.name}; group {group} is the product {' '.join(plan.products[product])} of {keys}"
+    yield f"real part, imaginary part and count at lag {lag}: {cells[0]} in the first journal that covers it, {cells[1]} in another"
+    yield f"journals of a part with it: {', '.join(parts_with(call, number))}"
+    yield "A recording of one machine is another one of the same length, or a journal was changed: find out which, and sum that part anew into a new journal."
+
+
+def place_of(call: Call, number: int) -> tuple[jobs.Scan, jobs.Place]:
+    """The scan in which an integration of the job begins, and where."""
+    part = joined.read(call.job or "", call.schedule).plan.limited(number, number + 1)
+    place = part.first()
+    if place is None:
+        raise Fault(f"the job has no integration {number}", call.job)
+    return part.scans[place.scan], place
+
+
+def parts_with(call: Call, number: int) -> list[str]:
+    """The journals of a call that are of a part with an integration."""
+    parts = {name: kept.part for name in call.names if (kept := records.identity(name)) is not None}
+    return [name for name, part in parts.items() if part is not None and part[0] <= number < part[1]]

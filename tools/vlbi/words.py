@@ -17,8 +17,15 @@ COMMANDS: dict[str, dict[str, bool]] = {  # the options of each, and whether it 
     "verify": {},
     "bins": {**JOB_OPTIONS, "--phase": True, **WORK_OPTIONS},
     "shard": {**CUT_OPTIONS, **WORK_OPTIONS, "--from": True, "--to": True},
+    "merge": JOB_OPTIONS,
 }
-NAMED = {"dump": ("one record file",), "fringe": ("one record file",), "verify": ("one record file", "one certificate")}  # without an option
+NAMED = {  # without an option
+    "dump": ("one record file",),
+    "fringe": ("one record file",),
+    "verify": ("one record file", "one certificate"),
+    "merge": ("one journal of a part, or those of more",),
+}
+REPEATED = ("merge",)  # the commands that may have more names than these
 RANGES = {"--epoch": (1, 4194304), "--workers": (1, 64), "--piece": (64, 4194304), "--seed": (0, 2 ** 64 - 1), "--seconds": (1, 60), "--rates": (0, 4096),
           "--divide": (1, 65536), "--from": (0, 2 ** 64 - 1), "--to": (0, 2 ** 64 - 1)}
 

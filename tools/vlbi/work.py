@@ -27,6 +27,16 @@ def cells(plan: Plan) -> int:
     return max((len(scan.baselines) for scan in plan.scans), default=0) * len(plan.products)
 
 
+def channels(plan: Plan) -> int:
+    """The names of channels in the products."""
+    return len({channel for product in plan.products for channel in product})
+
+
+def load(plan: Plan) -> int:
+    """Stations times channels times the samples of an epoch, which may come to MOST_LOAD."""
+    return len(plan.stations) * channels(plan) * plan.epoch
+
+
 def pieces(plan: Plan, piece: int) -> int:
     """The pieces of an epoch."""
     return cells(plan) * -(-min(plan.epoch, plan.integration) // piece)
@@ -46,8 +56,7 @@ def epoch_seconds(plan: Plan, many: int) -> float:
 
 def good_epoch(plan: Plan, rate: int, stations: int, many: int) -> int:
     """The samples of an epoch whose work is long against its syncs, as far as a job may have them and its integration is."""
-    channels = len({channel for product in plan.products for channel in product})
-    most = min(plan.integration, MOST_EPOCH, MOST_LOAD // max(stations * channels, 1))
+    most = min(plan.integration, MOST_EPOCH, MOST_LOAD // max(stations * channels(plan), 1))
     wanted = GOOD_EPOCH * PAIRS * many / max(cells(plan) * plan.lags, 1)
     return even_epoch(plan.integration, max(1, min(most, int(wanted))))
 

@@ -1,5 +1,5 @@
 -- The cell of a bin is that of values from which the first station's samples of other bins are gone: what is known of cells holds of it.
-use Rattle.std.proofs.Common.{◌≡◌, ◌∙◌, sym, ap, refl, ℕ, zero, suc, ◌+◌, ◌-◌, ◌*◌, ◌^◌, ◌<◌, ◌≤◌, ◌==◌, Bool, true, false, cond, ℤ, pos, ◌+ℤ◌, ◌≤ℤ◌, neg_ℤ, FitsSigned, w64, Some, None, IfSome, unsigned_abs, arith}
+use Rattle.std.proofs.Common.{◌≡◌, ◌∙◌, sym, ap, refl, ℕ, zero, suc, ◌+◌, ◌-◌, ◌*◌, ◌^◌, ◌<◌, ◌≤◌, ◌==◌, Bool, true, false, cond, ℤ, pos, ◌+ℤ◌, ◌≤ℤ◌, neg_ℤ, w64, None, IfSome, unsigned_abs, arith}
 use Rattle.std.specs.Prelude.{if◌then◌else◌}
 use Rattle.std.specs.Int.{int_wrapping_add}
 use Rattle.std.proofs.lemmas.Int.{ints, wrapping_add_is, int_wrap_fits}

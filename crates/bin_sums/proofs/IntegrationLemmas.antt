@@ -1,6 +1,6 @@
 -- The cells of an integration by bins, epoch by epoch.
-use Rattle.std.specs.Prelude.{replicate, slice_get, true, None}
-use Rattle.std.proofs.Common.{◌≡◌, ◌∙◌, sym, ap, subst, ℕ, ◌+◌, ◌*◌, ◌≤◌, min, List, Option, arith}
+use Rattle.std.specs.Prelude.{replicate}
+use Rattle.std.proofs.Common.{◌≡◌, ◌∙◌, sym, ap, subst, ℕ, ◌*◌, ◌≤◌, List, Option, arith}
 use Rattle.dev_traits.specs.Told.{WhereTold}
 use Rattle.frame_index.proofs.ToldLemmas.{WhereTold-weaker, WhereTold-both, WhereTold-always}
 use Rattle.corr_model.specs.declared.cell.Cell.{Cell}

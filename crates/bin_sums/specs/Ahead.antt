@@ -7,7 +7,7 @@ use Rattle.job_plan.specs.declared.plan.Plan.{Plan}
 use Rattle.job_plan.specs.Ranges.{IsScanPlan}
 use Rattle.ready_job.specs.declared.ready.Ready.{Ready}
 use Rattle.run_sums.specs.Found.{IsEpochOf}
-use Rattle.run_sums.specs.Reach.{HoldsEpoch}
+use Rattle.run_sums.specs.Frames.{HoldsFrames}
 use Rattle.bin_sums.specs.declared.ahead.Held.{Held}
 use Rattle.bin_sums.specs.declared.ahead.BinsAhead.{BinsAhead}
 
@@ -22,12 +22,12 @@ pub record IsOfJob (plan : Plan) (e : EpochPlan) : Type 0 where
   pub scan : ScanPlan
   pub of_scan : IsOfScan plan scan e
 
--- and its values, at the samples that its lags reach
+-- and its frames, at the samples that its lags reach
 pub record IsHeld (told : Option Files) (ready : Ready) (held : Held) : Type 0 where
   pub scan : ScanPlan
   pub of_scan : IsOfScan ready.plan scan held.epoch
-  pub values : HoldsEpoch told ready.plan scan held.epoch held.values
+  pub frames : HoldsFrames told ready.plan ready.recordings.items scan held.epoch held.frames
 
--- what is read ahead are the values of an epoch of the job, or nothing
+-- what is read ahead are the frames of an epoch of the job, or nothing
 abbrev pub IsAheadOf : Option Files → Ready → BinsAhead → Type 0
 IsAheadOf told ready ahead = IfSome ahead.held (IsHeld told ready)

@@ -35,7 +35,7 @@ struct Summed {
     held: Option<Held>,
 }
 
-/// Adds the sums of an epoch of a scan to `cells`, and reads the values of the next epoch of the job at the same time. `workers` and
+/// Adds the sums of an epoch of a scan to `cells`, and reads the frames of the next epoch of the job at the same time. `workers` and
 /// `piece` are as for `sum_integration`. A read fault is answered before want of memory for the sums; with a fault nothing is ahead.
 pub(crate) fn add_epoch<R: Threads + Sync, F: Shelf + Send, G: Gate + Sync>(
     rt: &R,
@@ -66,7 +66,7 @@ pub(crate) fn add_epoch<R: Threads + Sync, F: Shelf + Send, G: Gate + Sync>(
     ensures counts { CountsReads (F.faults shelf.old) (F.faults shelf.new) result }
 {
     let plan = ready.plan.plan();
-    let values = take_values(alloc, ready, shelf, ahead, scan, e)?;
+    let values = take_values(rt, alloc, ready, shelf, ahead, scan, e, workers)?;
     let next = epoch_behind(plan, scan, e);
     let spare = &mut ahead.spare;
     let summed = sum_and_read(
@@ -78,7 +78,7 @@ pub(crate) fn add_epoch<R: Threads + Sync, F: Shelf + Send, G: Gate + Sync>(
     Ok(())
 }
 
-// Sums an epoch, and reads the values of the epoch `next` at the same time, in room of `spare`.
+// Sums an epoch, and reads the frames of the epoch `next` at the same time, in room of `spare`.
 fn sum_and_read<R: Threads + Sync, F: Shelf + Send, G: Gate + Sync>(
     rt: &R,
     alloc: Global,

@@ -24,7 +24,7 @@ use std::thread::Threads;
 
 /// Sets `cells` to those of integration `m` of a scan, whose number this is, by the bins of a pulse: by product, then by baseline,
 /// then by bin, then by rising lag. It is summed epoch by epoch by `workers` threads, 1 to 64, in pieces of at most `piece` samples, 64
-/// to 4,194,304; while one epoch is summed, the values of the next one of the job are read into `ahead`. With a fault `cells` have any
+/// to 4,194,304; while one epoch is summed, the frames of the next one of the job are read into `ahead`. With a fault `cells` have any
 /// values.
 pub fn sum_integration<R: Threads + Sync, F: Shelf + Send, G: Gate + Sync>(
     rt: &R,

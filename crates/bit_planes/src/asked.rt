@@ -1,6 +1,6 @@
 //! Values that are asked for one by one.
 ghost use Rattle.std.specs.Prelude.{◌≡◌, ◌<◌, ◌≤◌, ◌+◌, ◌^◌, ℕ, None, length, pos, slice_index_or, IfOk};
-ghost use Rattle.bit_planes.specs.Held.{AreHeld, HaveRoom, values_in};
+ghost use Rattle.bit_planes.specs.Held.{AreHeld, values_in};
 
 use crate::held::Held;
 use corr_model::Values;
@@ -18,7 +18,6 @@ pub(crate) fn ask<V: Values>(
 ) -> Result<Held, AllocError>
     requires scan { n + size ≤ 2 ^ 40 }
     ensures held { IfOk result AreHeld }
-    ensures room { IfOk result (HaveRoom size) }
     ensures long { IfOk result (λ h. length (values_in h) ≡ size) }
     ensures values { IfOk result (λ h. (k : ℕ) → k < size → slice_index_or (values_in h) k None ≡ V.samples v.now station chan (pos (n + k))) }
 {

@@ -1,5 +1,5 @@
 //! The values of a range of samples.
-ghost use Rattle.std.specs.Prelude.{◌≡◌, ◌<◌, ◌≤◌, ◌+◌, ◌^◌, ℕ, ℤ, pos, ◌+ℤ◌, ◌-ℤ◌, ◌≤ℤ◌, ◌<ℤ◌, unsigned_abs, length, slice_index, IfOk, None};
+ghost use Rattle.std.specs.Prelude.{◌≡◌, ◌<◌, ◌≤◌, ◌+◌, ◌^◌, ℕ, ℤ, pos, ◌+ℤ◌, ◌-ℤ◌, ◌≤ℤ◌, ◌<ℤ◌, length, map, IfOk};
 ghost use Rattle.std.specs.Int.{bit_at};
 ghost use Rattle.packed_values.specs.From.{value_from};
 ghost use Rattle.packed_values.specs.Packed.{values_of};
@@ -24,17 +24,14 @@ pub struct Planes {
 }
 
 impl Model for Planes {
-    ghost use Rattle.std.specs.Prelude.{◌-ℤ◌, unsigned_abs};
     ghost use Rattle.bit_planes.specs.Planes.{PlanesFields, ArePlanes};
-    ghost use Rattle.bit_planes.specs.Held.{AreHeld, HaveRoom, values_in};
+    ghost use Rattle.bit_planes.specs.Held.{AreHeld, values_in};
 
     ghost Value = { PlanesFields };
 
     ghost view = { λ p. record { from = p.from; to = p.to; values = values_in p.held } };
 
-    // there is room for all the samples, so that `fill` takes no memory
-    ghost invariant = { λ p. ArePlanes (record { from = p.from; to = p.to; values = values_in p.held })
-        × (AreHeld p.held × HaveRoom (unsigned_abs (p.to -ℤ p.from)) p.held) };
+    ghost invariant = { λ p. ArePlanes (record { from = p.from; to = p.to; values = values_in p.held }) × AreHeld p.held };
 }
 
 impl Planes {
@@ -65,49 +62,26 @@ impl Planes {
         Ok(Planes { from, to, held })
     }
 
-    /// Room for the values of the samples from `from` up to, not including, `to`: none is there yet.
-    pub fn room(alloc: Global, from: i64, to: i64) -> Result<Planes, AllocError>
+    /// The values of codes, one a sample, from sample `from` on. The codes stay where they are in memory, and none is taken.
+    pub fn of_codes(from: i64, codes: Vec<u8>) -> Planes
         requires start { pos 0 ≤ℤ from }
-        requires end { to ≤ℤ pos (2 ^ 40) }
-        requires order { from ≤ℤ to }
-        ensures range { IfOk result (λ p. (p.from ≡ from) × (p.to ≡ to)) }
-        ensures none { IfOk result (λ p. (n : ℤ) → plane_value p n ≡ None) }
+        requires end { (from +ℤ pos (length codes.items)) ≤ℤ pos (2 ^ 40) }
+        ensures range { (result.from ≡ from) × (result.to ≡ from +ℤ pos (length codes.items)) }
+        ensures values { (n : ℤ) → plane_value result n ≡ value_from (map value_of codes.items) (n -ℤ from) }
     {
-        let held = Held::room(alloc, samples_between(from, to))?;
-        Ok(Planes { from, to, held })
-    }
-
-    /// Room as `room` makes it, in the room of these planes where that is large enough.
-    pub fn again(self, alloc: Global, from: i64, to: i64) -> Result<Planes, AllocError>
-        requires start { pos 0 ≤ℤ from }
-        requires end { to ≤ℤ pos (2 ^ 40) }
-        requires order { from ≤ℤ to }
-        ensures range { IfOk result (λ p. (p.from ≡ from) × (p.to ≡ to)) }
-        ensures none { IfOk result (λ p. (n : ℤ) → plane_value p n ≡ None) }
-    {
-        let held = self.held;
-        if held.has_room(samples_between(from, to)) {
-            return Ok(Planes {
-                from,
-                to,
-                held: held.cleared(),
-            });
+        let to = from + codes.len() as i64;
+        Planes {
+            from,
+            to,
+            held: Held::Codes(codes),
         }
-        Planes::room(alloc, from, to)
     }
 
-    /// Sets the values from sample `at` on to those of codes, one a sample; behind them there is none. No value is there yet from
-    /// sample `at` on.
-    pub fn fill(&mut self, at: i64, codes: &[u8])
-        requires begin { self.old.from ≤ℤ at }
-        requires end { (at +ℤ pos (length codes.now)) ≤ℤ self.old.to }
-        requires none { (n : ℤ) → at ≤ℤ n → plane_value self.old n ≡ None }
-        ensures range { (self.new.from ≡ self.old.from) × (self.new.to ≡ self.old.to) }
-        ensures before { (n : ℤ) → n <ℤ at → plane_value self.new n ≡ plane_value self.old n }
-        ensures here { (n : ℤ) → at ≤ℤ n → plane_value self.new n ≡ value_of (slice_index codes.now (unsigned_abs (n -ℤ at))) }
-    {
-        let first = samples_between(self.from, at);
-        self.held.fill(first, codes);
+    /// Gives the room of the codes to spare lists; where there is no memory for its place among them, it goes.
+    pub fn leave(self, spare: &mut Vec<Vec<u8>>) {
+        if let Held::Codes(codes) = self.held {
+            let _ = spare.push(codes);
+        }
     }
 
     /// The first sample.

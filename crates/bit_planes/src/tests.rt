@@ -156,7 +156,7 @@ fn words_from_every_sample(rt: HostRuntime) -> Result<(), Fail> {
 }
 
 // Whether the words of planes from place `at` on show the values of codes one by one.
-fn is_filled(codes: &[u8], planes: &Planes, at: usize) -> bool
+fn is_coded(codes: &[u8], planes: &Planes, at: usize) -> bool
     requires { at < 2 ^ 16 }
 {
     let words = words(planes, at as u64);
@@ -169,11 +169,11 @@ fn is_filled(codes: &[u8], planes: &Planes, at: usize) -> bool
 }
 
 // Whether the words of planes from each place up to `end` show the values of codes one by one.
-fn are_filled(codes: &[u8], planes: &Planes, end: usize) -> bool
+fn are_coded(codes: &[u8], planes: &Planes, end: usize) -> bool
     requires { end < 2 ^ 16 }
 {
     for at in 0..end {
-        if !is_filled(codes, planes, at) {
+        if !is_coded(codes, planes, at) {
             return false;
         }
     }
@@ -196,102 +196,24 @@ fn mixed_codes() -> [u8; 200] {
     codes
 }
 
-// Planes filled from 200 codes show their values, and first none.
+// Planes of 200 codes show their values.
 #[test]
 fn planes_of_codes(rt: HostRuntime) -> Result<(), Fail> {
     let codes = mixed_codes();
-    let mut planes = Planes::room(rt.alloc(), 7, 207)?;
-    assert!(rt; are_filled(&[], &planes, 220));
-    planes.fill(7, &codes);
+    let planes = Planes::of_codes(7, codes.to_vec(rt.alloc())?);
     assert_eq!(rt; planes.from(), 7);
     assert_eq!(rt; planes.to(), 207);
-    assert!(rt; are_filled(&codes, &planes, 220));
+    assert_eq!(rt; planes.packed().len(), 200);
+    assert!(rt; are_coded(&codes, &planes, 220));
     Ok(())
 }
 
-// `count` codes from place `from` on.
-fn part(codes: &[u8], from: usize, count: usize) -> &[u8]
-    requires { from + count ≤ length codes.now }
-    ensures { length result.now ≡ count }
-{
-    &codes[from..from + count]
-}
-
-// Codes without values before place 3, from place 60 up to place 90, and from place 180 on.
-fn gapped_codes() -> [u8; 200] {
-    let mut codes = mixed_codes();
-    for (n, code) in codes.iter_mut().enumerate() {
-        if n < 3 || n >= 60 && n < 90 || n >= 180 {
-            *code = 0;
-        }
-    }
-    codes
-}
-
-// Two parts with a gap of 30 samples: there are no values in it, nor before the first part and behind the second one.
-#[test]
-fn two_parts_with_a_gap(rt: HostRuntime) -> Result<(), Fail> {
-    let codes = gapped_codes();
-    let mut planes = Planes::room(rt.alloc(), 7, 207)?;
-    planes.fill(10, part(&codes, 3, 57));
-    planes.fill(97, part(&codes, 90, 90));
-    assert!(rt; are_filled(&codes, &planes, 220));
-    assert_eq!(rt; planes.packed().len(), 180);
-    Ok(())
-}
-
-// Room that is used again holds no old value: for fewer samples, then for as many as before, then for more than it has room for.
-#[test]
-fn room_again(rt: HostRuntime) -> Result<(), Fail> {
-    let codes = mixed_codes();
-    let mut planes = Planes::room(rt.alloc(), 7, 157)?;
-    planes.fill(7, part(&codes, 0, 150));
-    let mut planes = planes.again(rt.alloc(), 100, 170)?;
-    assert!(rt; are_filled(&[], &planes, 220));
-    planes.fill(100, part(&codes, 50, 70));
-    assert!(rt; are_filled(part(&codes, 50, 70), &planes, 220));
-    let mut planes = planes.again(rt.alloc(), 0, 150)?;
-    planes.fill(0, part(&codes, 50, 150));
-    assert!(rt; are_filled(part(&codes, 50, 150), &planes, 220));
-    let mut planes = planes.again(rt.alloc(), 0, 200)?;
-    assert!(rt; are_filled(&[], &planes, 220));
-    planes.fill(0, &codes);
-    assert!(rt; are_filled(&codes, &planes, 220));
-    Ok(())
-}
-
-// Filling with no codes leaves no value.
+// Planes of no codes have no value.
 #[test]
 fn no_values_without_codes(rt: HostRuntime) -> Result<(), Fail> {
-    let mut planes = Planes::room(rt.alloc(), 7, 207)?;
-    planes.fill(7, &[]);
-    assert!(rt; are_filled(&[], &planes, 220));
-    planes.fill(207, &[]);
-    assert!(rt; are_filled(&[], &planes, 220));
-    Ok(())
-}
-
-// Codes of all kinds, more than are filled in at once.
-fn many_codes() -> [u8; 9_000] {
-    let mut codes = [0; 9_000];
-    let mut state = 1_u32;
-    for code in codes.iter_mut() {
-        state = state.wrapping_mul(1_664_525).wrapping_add(1_013_904_223);
-        *code = numbered_code((state >> 24) as u8 % 36);
-    }
-    codes
-}
-
-// Planes filled from many codes show their values, also those on both sides of places 4,096 and 8,192.
-#[test]
-fn planes_of_many_codes(rt: HostRuntime) -> Result<(), Fail> {
-    let codes = many_codes();
-    let mut planes = Planes::room(rt.alloc(), 7, 9_007)?;
-    planes.fill(7, &codes);
-    assert_eq!(rt; planes.packed().len(), 9_000);
-    assert!(rt; is_filled(&codes, &planes, 0));
-    assert!(rt; is_filled(&codes, &planes, 4_064));
-    assert!(rt; is_filled(&codes, &planes, 8_160));
-    assert!(rt; is_filled(&codes, &planes, 8_960));
+    let planes = Planes::of_codes(7, Vec::new(rt.alloc()));
+    assert_eq!(rt; planes.from(), 7);
+    assert_eq!(rt; planes.to(), 7);
+    assert!(rt; are_coded(&[], &planes, 220));
     Ok(())
 }

@@ -11,4 +11,5 @@ pub mod Board
 pub mod Fewer
 pub mod Streams
 pub mod PlaneValues
-pub mod PlaneFills
+pub mod StreamPlanes
+pub mod RowPlanes

@@ -4,14 +4,14 @@ use Rattle.std.proofs.Common.{◌≡◌, ℕ, zero, suc, ◌+◌, ◌^◌, ◌�
 use Rattle.std.specs.Vec.{with_items}
 use Rattle.std.proofs.Math.Seq.{get_or-append_seam}
 use Rattle.std.proofs.lemmas.Bool.{cases_lt}
-use Rattle.std.proofs.lemmas.List.{get_or_past, get_or_append_left, length-map}
+use Rattle.std.proofs.lemmas.List.{get_or_past, get_or_append_left, length-append, length-map}
 use Rattle.std.proofs.lemmas.Option.{slice_get-get_or, slice_get_past}
 use Rattle.corr_model.specs.Cell.{Value}
 use Rattle.bit_planes.specs.Planes.{PlanesFields, plane_value}
 use Rattle.station_stream.specs.Stream.{StreamFields, AreLevelled, stream_value, windowed}
 use Rattle.epoch_run.specs.Levelled.{AllLevelled, IsLevelled}
 use Rattle.epoch_run.specs.Streamed.{streamed}
-use Rattle.epoch_run.specs.Planes.{chans_value, planed, HoldStreams, HoldChans, AreFilled}
+use Rattle.epoch_run.specs.Planes.{chans_value, planed, HoldStreams, HoldChans, HoldEach}
 use Rattle.station_stream.proofs.ChansLemmas.{take-kept}
 use Rattle.epoch_run.proofs.Streams.{streamed-there, streamed-past}
 
@@ -70,6 +70,17 @@ chans_value-there chans chan n d h = ap (value_of n) (slice_get-get_or chans cha
 pub chans_value-past : (chans : List PlanesFields) (chan : ℕ) (n : ℤ) → length chans ≤ chan → chans_value chans chan n ≡ None
 chans_value-past chans chan n past = ap (value_of n) (slice_get_past chans chan past)
 
+-- one channel more
+pub chans-more : (value : ℕ → ℤ → Value) (chans : List PlanesFields) (p : PlanesFields) (count : ℕ) → length chans ≡ count
+    → ((k : ℕ) (n : ℤ) → k < count → chans_value chans k n ≡ value k n)
+    → ((n : ℤ) → plane_value p n ≡ value count n)
+    → (k : ℕ) (n : ℤ) → k < count + 1 → chans_value (chans ++ p ∷ []) k n ≡ value k n
+chans-more value chans p count long old new k n h =
+    let inside : k < length (chans ++ p ∷ []) = omega (arith, h, long, length-append chans (p ∷ [])) in
+    chans_value-there (chans ++ p ∷ []) k n no_planes inside
+    ∙ each-more (λ (j : ℕ) (x : PlanesFields). plane_value x n ≡ value j n) chans p count long
+    (λ j d below. sym (chans_value-there chans j n d (omega (arith, below, long))) ∙ old j n below) (new n) k no_planes h
+
 -- planes of each channel of a stream, as far as a channel's number goes
 chans_value-held : (s : StreamFields) (chans : List PlanesFields) → HoldChans s chans
     → (chan : ℕ) (n : ℤ) → chan < 2 ^ 32 → chans_value chans chan n ≡ windowed s chan n
@@ -96,9 +107,6 @@ HoldStreams-each stations streams count long all each station chan n small few =
 pub some_one : {A : Type 0} (x y : A) → Some x ≡ Some y → x ≡ y
 some_one x y e = cc
 
-pub none_some : {A : Type 0} (x : A) → None ≡ Some x → ⊥
-none_some x e = cc
-
 -- a vector with other items, as many
 pub kept_items : {A : Type 0} (v : Vec A Global) (xs : List A) → length xs ≡ length v.items → (with_items v xs).items ≡ xs
 kept_items v xs same = take-kept v.items xs v.len v.ok.0 same
@@ -115,30 +123,30 @@ mapped f (y ∷ xs) zero x e h is = ap f (is x)
 mapped f (y ∷ xs) (suc i) x e h is = mapped f xs i x e (omega arith) is
 
 -- the stream of a station and its planes
-filled-at : (streams : List StreamFields) (stations : List (Vec PlanesFields Global)) → AreFilled streams stations
+HoldEach-at : (streams : List StreamFields) (stations : List (Vec PlanesFields Global)) → HoldEach streams stations
     → (station : ℕ) → station < length stations
     → (s : StreamFields) × (chans : List PlanesFields) × (slice_get streams station ≡ Some s)
     × (get_or (map (λ (v : Vec PlanesFields Global). v.items) stations) station [] ≡ chans) × HoldChans s chans
-filled-at streams stations filled station h =
-    let few_streams : station < length streams = omega (arith, filled.count) in
+HoldEach-at streams stations hold station h =
+    let few_streams : station < length streams = omega (arith, hold.count) in
     let v = there stations station h in
     let s = there streams station few_streams in
     let is : slice_get streams station ≡ Some s.0 = slice_get-get_or streams station s.0 few_streams ∙ ap Some (s.1 s.0) in
-    let hold : HoldChans s.0 v.0.items = subst (λ (w : Vec PlanesFields Global). HoldChans s.0 w.items) (v.1 v.0) (filled.each station v.0 h s.0 is) in
+    let hold : HoldChans s.0 v.0.items = subst (λ (w : Vec PlanesFields Global). HoldChans s.0 w.items) (v.1 v.0) (hold.each station v.0 h s.0 is) in
     (s.0, v.0.items, is, mapped (λ (w : Vec PlanesFields Global). w.items) stations station v.0 [] h v.1, hold)
 
 -- planes of every stream that hold the values of its channels
-pub HoldStreams-filled : (streams : List StreamFields) (stations : List (Vec PlanesFields Global)) → AreFilled streams stations
+pub HoldEach-streams : (streams : List StreamFields) (stations : List (Vec PlanesFields Global)) → HoldEach streams stations
     → HoldStreams (map (λ (v : Vec PlanesFields Global). v.items) stations) streams
-HoldStreams-filled streams stations filled =
-    HoldStreams-each (map items stations) streams (length stations) (length-map stations items) (omega (arith, filled.count)) each
+HoldEach-streams streams stations hold =
+    HoldStreams-each (map items stations) streams (length stations) (length-map stations items) (omega (arith, hold.count)) each
   where
     items : Vec PlanesFields Global → List PlanesFields
     items v = v.items
 
     each : (station chan : ℕ) (n : ℤ) → station < length stations → chan < 2 ^ 32 → planed (map items stations) station chan n ≡ streamed streams station chan n
     each station chan n h few =
-        let f = filled-at streams stations filled station h in
+        let f = HoldEach-at streams stations hold station h in
         ap (λ (chans : List PlanesFields). chans_value chans chan n) f.3
         ∙ chans_value-held f.0 f.1 f.4 chan n few
         ∙ sym (streamed-there streams station chan n f.0 f.2)
@@ -154,12 +162,12 @@ levelled-chans s chans hold levelled chan n =
     ]
 
 -- and so do those of all streams
-pub AllLevelled-filled : (streams : List StreamFields) (stations : List (Vec PlanesFields Global)) → AreFilled streams stations
+pub HoldEach-levelled : (streams : List StreamFields) (stations : List (Vec PlanesFields Global)) → HoldEach streams stations
     → AllLevelled (streamed streams) → AllLevelled (planed (map (λ (v : Vec PlanesFields Global). v.items) stations))
-AllLevelled-filled streams stations filled all station chan n =
+HoldEach-levelled streams stations hold all station chan n =
     elim (cases_lt station (length stations)) [
       | inl q ↦
-          let f = filled-at streams stations filled station q in
+          let f = HoldEach-at streams stations hold station q in
           subst (λ (chans : List PlanesFields). IfSome (chans_value chans chan n) AreLevelled) (sym f.3)
           (levelled-chans f.0 f.1 f.4
           (λ c m. subst (λ (v : Value). IfSome v AreLevelled) (streamed-there streams station c m f.0 f.2) (all station c m)) chan n)

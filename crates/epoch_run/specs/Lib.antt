@@ -3,6 +3,7 @@ pub mod Sums
 pub mod Binned
 pub mod Amounts
 pub mod Planes
+pub mod Rows
 pub mod Levelled
 pub mod Part
 pub mod Team

@@ -1,14 +1,14 @@
 //! The planes of all channels of an epoch's stations.
-ghost use Rattle.std.specs.Prelude.{◌≡◌, ◌≢◌, ◌<◌, ◌≤◌, ◌^◌, ◌≤ℤ◌, ◌<ℤ◌, ℕ, ℤ, pos, None, [], IfOk, length, slice_index_or};
+ghost use Rattle.std.specs.Prelude.{◌≡◌, ◌*◌, ℤ, None, IfOk, length};
 ghost use Rattle.std.specs.List.{All};
 ghost use Rattle.bit_planes.specs.Planes.{plane_value};
-ghost use Rattle.station_stream.specs.Stream.{windowed};
 ghost use Rattle.epoch_run.specs.Streamed.{streamed};
 ghost use Rattle.epoch_run.specs.Levelled.{AllLevelled};
-ghost use Rattle.epoch_run.specs.Planes.{HaveRange, HoldStreams, IsPartOf, planed};
+ghost use Rattle.epoch_run.specs.Planes.{HoldStreams, planed};
+ghost use Rattle.epoch_run.specs.Rows.{HoldRows, IsRowOf};
 
-use crate::rooms::{rooms, stream_rooms};
-use crate::window::{fill_chans, fill_streams};
+use crate::coded::stations_of_rows;
+use crate::copied::stations_of_streams;
 use bit_planes::Planes;
 use station_stream::Stream;
 use std::alloc::{AllocError, Global};
@@ -36,56 +36,40 @@ impl Model for EpochPlanes {
 }
 
 impl EpochPlanes {
-    /// Room for the planes of so many channels of each of so many stations, at the samples from `from` up to, not including, `to`:
-    /// none has a value yet. `spare` is planes of an epoch that is over: their room is used again, station by station and channel by
-    /// channel, where it is large enough.
-    pub fn room(
-        alloc: Global,
-        spare: Option<EpochPlanes>,
-        stations: usize,
-        chans: usize,
-        from: i64,
-        to: i64,
-    ) -> Result<EpochPlanes, AllocError>
-        requires start { pos 0 ≤ℤ from }
-        requires end { to ≤ℤ pos (2 ^ 40) }
-        requires order { from ≤ℤ to }
-        ensures range { IfOk result (HaveRange stations chans from to) }
-        ensures none { IfOk result (λ p. (station chan : ℕ) (n : ℤ) → planed p station chan n ≡ None) }
-    {
-        let nothing = Planes::room(alloc, 0, 0)?;
-        let over = left_by(alloc, spare);
-        let stations = rooms(alloc, over, stations, chans, from, to)?;
-        Ok(EpochPlanes { stations, nothing })
-    }
-
-    /// Sets the values of a station, by its place, at the samples of a stream's window to those of the stream. From the window's first
-    /// sample on the station has no value yet.
-    pub fn fill(&mut self, station: usize, stream: &Stream)
-        requires station { station < length self.old }
-        requires few { length stream.now.values ≤ 2 ^ 32 }
-        requires chans { length (slice_index_or self.old station []) ≡ length stream.now.values }
-        requires window { All (IsPartOf stream.now) (slice_index_or self.old station []) }
-        requires none { (chan : ℕ) (n : ℤ) → stream.now.from ≤ℤ n → planed self.old station chan n ≡ None }
-        ensures range { (stations chans : ℕ) (from to : ℤ)
-            → HaveRange stations chans from to self.old → HaveRange stations chans from to self.new }
-        ensures before { (chan : ℕ) (n : ℤ) → n <ℤ stream.now.from → planed self.new station chan n ≡ planed self.old station chan n }
-        ensures here { (chan : ℕ) (n : ℤ) → stream.now.from ≤ℤ n → planed self.new station chan n ≡ windowed stream.now chan n }
-        ensures beside { (other chan : ℕ) (n : ℤ) → other ≢ station → planed self.new other chan n ≡ planed self.old other chan n }
-    {
-        stream.is_levelled();
-        fill_chans(stream, &mut self.stations[station]);
-    }
-
-    /// The planes of streams: station `a` is the stream at place `a`. All room is taken first.
+    /// The planes of streams: station `a` is the stream at place `a`. They hold copies of the streams' codes.
     pub fn build(alloc: Global, streams: &[Stream]) -> Result<EpochPlanes, AllocError>
         ensures { IfOk result (λ p. HoldStreams p streams.now) }
     {
         are_levelled(streams);
-        let nothing = Planes::room(alloc, 0, 0)?;
-        let mut stations = stream_rooms(alloc, streams)?;
-        fill_streams(streams, &mut stations);
+        let nothing = no_values(alloc);
+        let stations = stations_of_streams(alloc, streams)?;
         Ok(EpochPlanes { stations, nothing })
+    }
+
+    /// The planes of rows of codes, one a sample from sample `from` on: `chans` rows for each of so many stations, station by station.
+    /// The codes stay where they are in memory.
+    pub fn of_rows(
+        alloc: Global,
+        from: u64,
+        stations: usize,
+        chans: usize,
+        rows: Vec<Vec<u8>>,
+    ) -> Result<EpochPlanes, AllocError>
+        requires count { length rows.items ≡ stations * chans }
+        requires end { All (IsRowOf from) rows.items }
+        ensures count { IfOk result (λ p. length p ≡ stations) }
+        ensures rows { IfOk result (HoldRows from chans rows.items) }
+    {
+        let nothing = no_values(alloc);
+        let stations = stations_of_rows(alloc, from, stations, chans, rows)?;
+        Ok(EpochPlanes { stations, nothing })
+    }
+
+    /// Gives the room of the planes to spare lists, as rows of codes.
+    pub fn leave(self, spare: &mut Vec<Vec<u8>>) {
+        for chans in self.stations {
+            leave_chans(chans, spare);
+        }
     }
 
     /// The planes of a channel of a station, those of nothing where there is no such channel.
@@ -106,14 +90,18 @@ impl EpochPlanes {
     }
 }
 
-// The planes that an epoch leaves, the last station first.
-fn left_by(alloc: Global, spare: Option<EpochPlanes>) -> Vec<Vec<Planes>> {
-    let mut over = match spare {
-        Some(planes) => planes.stations,
-        None => Vec::new(alloc),
-    };
-    over.reverse();
-    over
+// Planes without a value.
+fn no_values(alloc: Global) -> Planes
+    ensures { (n : ℤ) → plane_value result n ≡ None }
+{
+    Planes::of_codes(0, Vec::new(alloc))
+}
+
+// Gives the room of the planes of a station's channels to spare lists.
+fn leave_chans(chans: Vec<Planes>, spare: &mut Vec<Vec<u8>>) {
+    for planes in chans {
+        planes.leave(spare);
+    }
 }
 
 // Each value of the streams has components of a magnitude of at most 15.

@@ -69,25 +69,22 @@ const BIN_PLAN: EpochPlan = EpochPlan {
 // A byte of four samples of level +3.
 const HIGH: u8 = 0xFF;
 
-// A byte of four samples, one of each level.
-const EACH: u8 = 0xE4;
-
-// A frame of the scan's second, with `four` for each four samples.
-fn frame(number: u8, four: u8) -> [u8; 40] {
+// A frame of the scan's second.
+fn frame(number: u8) -> [u8; 40] {
     let mut bytes = [0; 40];
     bytes[4] = number;
     bytes[7] = 20;
     bytes[8] = 5;
     bytes[12] = 1;
     bytes[15] = 4;
-    bytes[32..].fill(four);
+    bytes[32..].fill(HIGH);
     bytes
 }
 
-// All frames, with `four` for each four samples of the first two and `rest` for those of the others.
-fn slots_with(alloc: Global, four: u8, rest: u8) -> Result<Vec<u8>, AllocError> {
-    let (first, second) = (frame(0, four), frame(1, four));
-    let (third, fourth) = (frame(2, rest), frame(3, rest));
+// All frames.
+fn all_slots(alloc: Global) -> Result<Vec<u8>, AllocError> {
+    let (first, second) = (frame(0), frame(1));
+    let (third, fourth) = (frame(2), frame(3));
     let slots: [&[u8]; 4] = [&first, &second, &third, &fourth];
     slots.concat(alloc)
 }
@@ -96,16 +93,6 @@ fn slots_with(alloc: Global, four: u8, rest: u8) -> Result<Vec<u8>, AllocError> 
 fn shelf_failing(alloc: Global, bytes: Vec<u8>, failing: Vec<u64>) -> Result<MemShelf, AllocError> {
     let name = String::from_str(alloc, "a.vdif")?;
     Ok(MemShelf::new(vec![in alloc; (name, bytes)]?, failing))
-}
-
-// A shelf with one file of all frames, with `four` for each four samples of the first two and `rest` for those of the others.
-fn shelf_with(alloc: Global, four: u8, rest: u8) -> Result<MemShelf, AllocError> {
-    shelf_failing(alloc, slots_with(alloc, four, rest)?, Vec::new(alloc))
-}
-
-// The same with one byte for each four samples of the scan.
-fn shelf_of(alloc: Global, four: u8) -> Result<MemShelf, AllocError> {
-    shelf_with(alloc, four, four)
 }
 
 // The file of a name.
@@ -166,7 +153,6 @@ fn delayed_part<F: Shelf>(
     requires begin { pos 0 ≤ℤ from }
     requires order { from ≤ℤ to }
     requires end { to ≤ℤ pos 128 }
-    ensures window { IfOk result (λ s. (s.from ≡ from) × ((s.to ≡ to) × (length s.values ≡ 1))) }
 {
     let files = [file_of(alloc, shelf, "a.vdif")?];
     let index = Index::build(alloc, shelf, &files, &SHAPE)?;
@@ -190,22 +176,10 @@ fn delayed_part<F: Shelf>(
     Ok(Stream::load_in(alloc, spare, shelf, &index, &part, from, to)?)
 }
 
-// The same without a delay.
-fn part_of<F: Shelf>(alloc: Global, shelf: &mut F, from: i64, to: i64) -> Result<Stream, Fail>
-    requires begin { pos 0 ≤ℤ from }
-    requires order { from ≤ℤ to }
-    requires end { to ≤ℤ pos 128 }
-    ensures window { IfOk result (λ s. (s.from ≡ from) × ((s.to ≡ to) × (length s.values ≡ 1))) }
-{
-    delayed_part(alloc, &mut Vec::new(alloc), shelf, &[0], from, to)
-}
-
-// The same from the first sample on.
-fn stream_of<F: Shelf>(alloc: Global, shelf: &mut F, to: i64) -> Result<Stream, Fail>
-    requires { (pos 0 ≤ℤ to) × (to ≤ℤ pos 128) }
-    ensures window { IfOk result (λ s. (s.from ≡ pos 0) × ((s.to ≡ to) × (length s.values ≡ 1))) }
-{
-    part_of(alloc, shelf, 0, to)
+// The stream of the scan.
+fn whole_stream(alloc: Global) -> Result<Stream, Fail> {
+    let mut shelf = shelf_failing(alloc, all_slots(alloc)?, Vec::new(alloc))?;
+    delayed_part(alloc, &mut Vec::new(alloc), &mut shelf, &[0], 0, 128)
 }
 
 // The sums of the scan.
@@ -230,19 +204,6 @@ fn summed<R: Threads + Sync, G: Gate + Sync>(
         workers,
         gate,
     )
-}
-
-// The planes of the scan, in the room of others.
-fn planed(
-    alloc: Global,
-    spare: Option<EpochPlanes>,
-    stream: &Stream,
-) -> Result<EpochPlanes, AllocError>
-    requires { (stream.now.from ≡ pos 0) × ((stream.now.to ≤ℤ pos 128) × (length stream.now.values ≡ 1)) }
-{
-    let mut planes = EpochPlanes::room(alloc, spare, 1, 1, 0, 128)?;
-    planes.fill(0, stream);
-    Ok(planes)
 }
 
 // The sums of the scan from its planes.
@@ -308,7 +269,7 @@ fn binned<R: Threads + Sync>(rt: &R, alloc: Global, stream: Stream) -> Result<Ep
 #[test]
 fn bins_by_three_workers(rt: HostRuntime) -> Result<(), Fail> {
     let alloc = rt.alloc();
-    let stream = stream_of(alloc, &mut shelf_of(alloc, HIGH)?, 128)?;
+    let stream = whole_stream(alloc)?;
     let sums = binned(&rt, alloc, stream)?;
     assert_eq!(rt; sums.pieces(), 4);
     for group in 0..2 {
@@ -335,7 +296,7 @@ fn of_pairs(count: u64) -> Cell
 #[test]
 fn two_pieces_by_one_worker(rt: HostRuntime) -> Result<(), Fail> {
     let alloc = rt.alloc();
-    let stream = stream_of(alloc, &mut shelf_of(alloc, HIGH)?, 128)?;
+    let stream = whole_stream(alloc)?;
     let sums = summed(&rt, alloc, stream, 1, &OpenGate::new())?;
     has_cells(&rt, &sums);
     Ok(())
@@ -346,7 +307,7 @@ fn two_pieces_by_one_worker(rt: HostRuntime) -> Result<(), Fail> {
 fn two_pieces_by_three_workers(rt: HostRuntime) -> Result<(), Fail> {
     let alloc = rt.alloc();
     let gate = HoldGate::new();
-    let stream = stream_of(alloc, &mut shelf_of(alloc, HIGH)?, 128)?;
+    let stream = whole_stream(alloc)?;
     let sums = summed(&rt, alloc, stream, 3, &gate)?;
     has_cells(&rt, &sums);
     assert!(rt; gate.saw_second());
@@ -356,60 +317,10 @@ fn two_pieces_by_three_workers(rt: HostRuntime) -> Result<(), Fail> {
 #[test]
 fn planes_are_summed_twice(rt: HostRuntime) -> Result<(), Fail> {
     let alloc = rt.alloc();
-    let stream = stream_of(alloc, &mut shelf_of(alloc, HIGH)?, 128)?;
+    let stream = whole_stream(alloc)?;
     let planes = EpochPlanes::build(alloc, &[stream])?;
     has_cells(&rt, &summed_planes(&rt, alloc, &planes)?);
     has_cells(&rt, &summed_planes(&rt, alloc, &planes)?);
-    Ok(())
-}
-
-// The sums of the scan, built in the room of planes of other samples up to `to`.
-fn built_again<R: Threads + Sync>(
-    rt: &R,
-    alloc: Global,
-    four: u8,
-    to: i64,
-) -> Result<EpochSums, Fail>
-    requires { (pos 0 ≤ℤ to) × (to ≤ℤ pos 128) }
-    ensures { IfOk result (λ sums. length sums.cells ≡ 4) }
-{
-    let other = stream_of(alloc, &mut shelf_of(alloc, four)?, to)?;
-    let spare = EpochPlanes::build(alloc, &[other])?;
-    let stream = stream_of(alloc, &mut shelf_of(alloc, HIGH)?, 128)?;
-    let planes = planed(alloc, Some(spare), &stream)?;
-    Ok(summed_planes(rt, alloc, &planes)?)
-}
-
-// The planes that were there before have other values, another window, or both.
-#[test]
-fn planes_in_room_of_others(rt: HostRuntime) -> Result<(), Fail> {
-    let alloc = rt.alloc();
-    for (four, to) in [(EACH, 128), (HIGH, 64), (EACH, 0)] {
-        has_cells(&rt, &built_again(&rt, alloc, four, to)?);
-    }
-    Ok(())
-}
-
-// The planes of a shelf's scan, filled from two streams of a half each.
-fn planed_by_halves(alloc: Global, shelf: &mut MemShelf) -> Result<EpochPlanes, Fail> {
-    let mut planes = EpochPlanes::room(alloc, None, 1, 1, 0, 128)?;
-    planes.fill(0, &part_of(alloc, shelf, 0, 64)?);
-    planes.fill(0, &part_of(alloc, shelf, 64, 128)?);
-    Ok(planes)
-}
-
-// The halves have different levels. Their sums are those of one stream.
-#[test]
-fn planes_filled_by_halves(rt: HostRuntime) -> Result<(), Fail> {
-    let alloc = rt.alloc();
-    let mut shelf = shelf_with(alloc, EACH, HIGH)?;
-    let stream = stream_of(alloc, &mut shelf, 128)?;
-    let whole = summed(&rt, alloc, stream, 1, &OpenGate::new())?;
-    let planes = planed_by_halves(alloc, &mut shelf)?;
-    let halves = summed_planes(&rt, alloc, &planes)?;
-    for n in 0..4 {
-        assert_eq!(rt; halves.cell(n), whole.cell(n));
-    }
     Ok(())
 }
 
@@ -446,7 +357,7 @@ fn bytes_that_are_not_given_are_zero(rt: HostRuntime) -> Result<(), Fail> {
     let alloc = rt.alloc();
     let mut spare = Vec::new(alloc);
     let mut shelf = CutShelf {
-        bytes: slots_with(alloc, HIGH, HIGH)?,
+        bytes: all_slots(alloc)?,
         gives: 160,
     };
     delayed_part(alloc, &mut spare, &mut shelf, &[0], 0, 128)?.leave(&mut spare);
@@ -468,7 +379,7 @@ fn bytes_that_are_not_given_are_zero(rt: HostRuntime) -> Result<(), Fail> {
 #[test]
 fn frames_are_read_once_for_a_rising_delay(rt: HostRuntime) -> Result<(), Fail> {
     let alloc = rt.alloc();
-    let slots = slots_with(alloc, HIGH, HIGH)?;
+    let slots = all_slots(alloc)?;
     let mut shelf = shelf_failing(alloc, slots, vec![in alloc; 3]?)?;
     let mut spare = Vec::new(alloc);
     let stream = delayed_part(alloc, &mut spare, &mut shelf, &[0, 1 << 57], 0, 112)?;

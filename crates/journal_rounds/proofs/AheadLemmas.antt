@@ -8,10 +8,12 @@ use Rattle.plan_places.specs.declared.place.Place.{Place as Spot}
 use Rattle.plan_places.specs.Places.{place_at, IsPlace}
 use Rattle.plan_places.specs.Walk.{AreLeft, next_epoch}
 use Rattle.ready_job.specs.declared.ready.Ready.{Ready}
+use Rattle.run_sums.proofs.FrameLemmas.{HoldsFrames-untold}
+use Rattle.journal_rounds.specs.declared.values.Framed.{Framed}
 use Rattle.journal_rounds.specs.declared.values.Held.{Held}
 use Rattle.journal_rounds.specs.declared.sums.Summed.{Summed}
 use Rattle.journal_rounds.specs.Epochs.{IsNext, behind}
-use Rattle.journal_rounds.specs.Ahead.{IsHeld, AreSumsOf, IsCut, IsAhead, epoch_summed, steps_done, steps_kept, kept_with}
+use Rattle.journal_rounds.specs.Ahead.{IsFramed, IsHeld, AreSumsOf, IsCut, IsAhead, epoch_summed, steps_done, steps_kept, kept_with}
 use Rattle.journal_rounds.proofs.WalkLemmas.{left-behind}
 
 -- values of an epoch, whether the files are told or not
@@ -22,6 +24,16 @@ held-untold told ready (Some h) are = record {
   scan = are.scan;
   of_scan = are.of_scan;
   values = record { pairs = are.values.pairs; count = are.values.count; values = tt };
+}
+
+-- frames too
+pub framed-untold : (told : Option Files) (ready : Ready) (framed : Option Framed) → IfSome framed (IsFramed told ready) → IfSome framed (IsFramed None ready)
+framed-untold told ready None are = tt
+framed-untold told ready (Some f) are = record {
+  fits = are.fits;
+  scan = are.scan;
+  of_scan = are.of_scan;
+  frames = HoldsFrames-untold told ready.plan ready.recordings.items are.scan f.epoch f.frames are.frames;
 }
 
 -- and sums

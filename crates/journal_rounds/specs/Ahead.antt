@@ -9,8 +9,10 @@ use Rattle.plan_places.specs.Walk.{cut_at}
 use Rattle.job_plan.specs.declared.plan.ScanPlan.{ScanPlan}
 use Rattle.ready_job.specs.declared.ready.Ready.{Ready}
 use Rattle.run_sums.specs.Found.{IsOfScan}
+use Rattle.run_sums.specs.Frames.{HoldsFrames}
 use Rattle.run_sums.specs.Reach.{HoldsEpoch}
 use Rattle.run_sums.specs.Sums.{AreSums}
+use Rattle.journal_rounds.specs.declared.values.Framed.{Framed}
 use Rattle.journal_rounds.specs.declared.values.Held.{Held}
 use Rattle.journal_rounds.specs.declared.sums.Summed.{Summed}
 use Rattle.journal_rounds.specs.declared.ahead.Ahead.{Ahead}
@@ -22,6 +24,13 @@ pub record IsHeld (told : Option Files) (ready : Ready) (held : Held) : Type 0 w
   pub scan : ScanPlan
   pub of_scan : IsOfScan ready.plan scan held.epoch
   pub values : HoldsEpoch told ready.plan scan held.epoch held.values
+
+-- frames of an epoch of the job, at the samples that its lags reach: those of the files, where these are told
+pub record IsFramed (told : Option Files) (ready : Ready) (framed : Framed) : Type 0 where
+  pub fits : IsEpoch ready.epochs framed.epoch
+  pub scan : ScanPlan
+  pub of_scan : IsOfScan ready.plan scan framed.epoch
+  pub frames : HoldsFrames told ready.plan ready.recordings.items scan framed.epoch framed.frames
 
 -- sums of an epoch of the job
 pub record AreSumsOf (told : Option Files) (ready : Ready) (s : Summed) : Type 0 where
@@ -37,6 +46,11 @@ IsCut job epoch s = IsEpoch job s.epoch × (cut_at job epoch (place_of s.epoch) 
 abbrev pub epoch_read : Option Held → Option EpochPlan
 epoch_read None = None
 epoch_read (Some held) = Some held.epoch
+
+-- the epoch whose frames are read
+abbrev pub epoch_framed : Option Framed → Option EpochPlan
+epoch_framed None = None
+epoch_framed (Some framed) = Some framed.epoch
 
 -- the epoch that is summed
 abbrev pub epoch_summed : Option Summed → Option EpochPlan

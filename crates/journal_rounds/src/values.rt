@@ -1,5 +1,6 @@
-//! The values that an epoch is summed from.
-ghost use Rattle.std.specs.Prelude.{◌≡◌, ◌≤◌, IfOk, IfSome, is_some, option_map};
+//! The frames and the values that an epoch is summed from.
+ghost use Rattle.std.specs.Prelude.{◌≡◌, ◌≤◌, None, Option, IfOk, IfSome, is_some, option_map};
+ghost use Rattle.corr_model.specs.Files.{Files};
 ghost use Rattle.dev_traits.specs.Told.{WhereTold};
 ghost use Rattle.station_stream.specs.Faults.{CountsReads};
 ghost use Rattle.station_stream.specs.Recorded.{AreRecorded};
@@ -7,25 +8,33 @@ ghost use Rattle.piece_plan.specs.Limited.{IsPart};
 ghost use Rattle.plan_places.specs.Places.{place_at, IsPlace};
 ghost use Rattle.run_sums.specs.Found.{IsOfJob};
 ghost use Rattle.journal_rounds.specs.Epochs.{IsNext};
-ghost use Rattle.journal_rounds.specs.Ahead.{IsHeld, epoch_read};
+ghost use Rattle.journal_rounds.specs.Ahead.{IsFramed, IsHeld, epoch_framed, epoch_read};
 
 use crate::epochs::epoch_from;
 use dev_traits::Shelf;
 use piece_plan::{EpochPlan, JobPlan};
 use plan_places::Place;
 use ready_job::Ready;
-use run_sums::{EpochValues, Spare, reach_epoch, scan_of};
+use run_sums::{EpochFrames, EpochValues, Spare, make_epoch, read_epoch, scan_of};
 use station_stream::StreamFault;
-use std::alloc::Global;
+use std::alloc::{AllocError, Global};
+use std::thread::Threads;
 
-/// Values that are read, and the epoch that they are of.
+/// Frames that are read, and the epoch that they are of.
+#[derive(Drop)]
+pub(crate) struct Framed {
+    pub(crate) epoch: EpochPlan,
+    pub(crate) frames: EpochFrames,
+}
+
+/// Values that are made, and the epoch that they are of.
 #[derive(Drop)]
 pub(crate) struct Held {
     pub(crate) epoch: EpochPlan,
     pub(crate) values: EpochValues,
 }
 
-/// Reads the values of the epoch of a part of the job from a place on, where there is a place, in room of `spare`.
+/// Reads the frames of the epoch of a part of the job from a place on, where there is a place, in room of `spare`.
 pub(crate) fn read_from<F: Shelf>(
     alloc: Global,
     spare: &mut Spare,
@@ -34,42 +43,93 @@ pub(crate) fn read_from<F: Shelf>(
     shelf: &mut F,
     at: Option<Place>,
     epoch: u64,
-) -> Result<Option<Held>, StreamFault>
+) -> Result<Option<Framed>, StreamFault>
     requires recorded { WhereTold (F.told shelf.old) (λ files. AreRecorded files ready.now.plan.stations ready.now.recordings.items) }
     requires part { IsPart ready.now.epochs part.now }
     requires place { IfSome at (λ p. IsPlace part.now (place_at p)) }
     requires epoch { (1 ≤ epoch) × (epoch ≤ 4194304) }
     ensures same { F.told shelf.new ≡ F.told shelf.old }
-    ensures values { IfOk result (λ held. IfSome held (IsHeld (F.told shelf.old) ready.now)) }
-    ensures next { IfOk result (λ held. IsNext part.now epoch (option_map place_at at) (epoch_read held)) }
-    ensures read { IfOk result (λ held. is_some held ≡ is_some at) }
+    ensures frames { IfOk result (λ framed. IfSome framed (IsFramed (F.told shelf.old) ready.now)) }
+    ensures next { IfOk result (λ framed. IsNext part.now epoch (option_map place_at at) (epoch_framed framed)) }
+    ensures read { IfOk result (λ framed. is_some framed ≡ is_some at) }
     ensures counts { CountsReads (F.faults shelf.old) (F.faults shelf.new) result }
 {
     match at {
         Some(place) => {
             let e = epoch_from(ready, part, &place, epoch);
-            Ok(Some(read_epoch(alloc, spare, ready, shelf, e)?))
+            Ok(Some(read_frames(alloc, spare, ready, shelf, e)?))
         }
         None => Ok(None),
     }
 }
 
-// Reads the values of an epoch of the job.
-fn read_epoch<F: Shelf>(
+// Reads the frames of an epoch of the job.
+fn read_frames<F: Shelf>(
     alloc: Global,
     spare: &mut Spare,
     ready: &Ready,
     shelf: &mut F,
     epoch: EpochPlan,
-) -> Result<Held, StreamFault>
+) -> Result<Framed, StreamFault>
     requires recorded { WhereTold (F.told shelf.old) (λ files. AreRecorded files ready.now.plan.stations ready.now.recordings.items) }
     requires epoch { IsOfJob ready.now.plan ready.now.epochs epoch }
     ensures same { F.told shelf.new ≡ F.told shelf.old }
-    ensures epoch { IfOk result (λ held. held.epoch ≡ epoch) }
-    ensures values { IfOk result (IsHeld (F.told shelf.old) ready.now) }
+    ensures epoch { IfOk result (λ framed. framed.epoch ≡ epoch) }
+    ensures frames { IfOk result (IsFramed (F.told shelf.old) ready.now) }
     ensures counts { CountsReads (F.faults shelf.old) (F.faults shelf.new) result }
 {
     let scan = scan_of(ready.plan.plan(), &epoch);
-    let values = reach_epoch(alloc, spare, ready, shelf, scan, &epoch)?;
+    let frames = read_epoch(alloc, spare, ready, shelf, scan, &epoch)?;
+    Ok(Framed { epoch, frames })
+}
+
+/// Makes the values of an epoch out of its frames, where there are such, by threads, of which about `workers` are at work, in room of
+/// `spare`.
+pub(crate) fn make_from<R: Threads + Sync>(
+    rt: &R,
+    alloc: Global,
+    spare: &mut Spare,
+    ready: &Ready,
+    framed: Option<Framed>,
+    workers: u32,
+) -> Result<Option<Held>, AllocError>
+    requires framed { IfSome framed (IsFramed None ready.now) }
+    requires workers { (1 ≤ workers) × (workers ≤ 64) }
+    ensures epoch { IfOk result (λ held. epoch_read held ≡ epoch_framed framed) }
+    ensures there { IfOk result (λ held. is_some held ≡ is_some framed) }
+    ensures values { IfOk result (λ held. (told : Option Files) → IfSome framed (IsFramed told ready.now) → IfSome held (IsHeld told ready.now)) }
+{
+    match framed {
+        Some(framed) => Ok(Some(make_held(rt, alloc, spare, ready, framed, workers)?)),
+        None => Ok(None),
+    }
+}
+
+// Makes the values of an epoch of the job.
+fn make_held<R: Threads + Sync>(
+    rt: &R,
+    alloc: Global,
+    spare: &mut Spare,
+    ready: &Ready,
+    framed: Framed,
+    workers: u32,
+) -> Result<Held, AllocError>
+    requires framed { IsFramed None ready.now framed }
+    requires workers { (1 ≤ workers) × (workers ≤ 64) }
+    ensures epoch { IfOk result (λ held. held.epoch ≡ framed.epoch) }
+    ensures values { IfOk result (λ held. (told : Option Files) → IsFramed told ready.now framed → IsHeld told ready.now held) }
+{
+    let epoch = framed.epoch;
+    let scan = scan_of(ready.plan.plan(), &epoch);
+    let values = make_epoch(
+        rt,
+        alloc,
+        spare,
+        ready,
+        scan,
+        &epoch,
+        framed.frames,
+        workers,
+    )?;
     Ok(Held { epoch, values })
 }

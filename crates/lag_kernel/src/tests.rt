@@ -251,9 +251,7 @@ impl Values for Coded {
 fn filled(alloc: Global, codes: &[u8], from: usize, to: usize) -> Result<Planes, AllocError> {
     let to = to.min(codes.len()).min(40_000);
     let from = from.min(to);
-    let mut planes = Planes::room(alloc, from as i64, to as i64)?;
-    planes.fill(from as i64, &codes[from..to]);
-    Ok(planes)
+    Ok(Planes::of_codes(from as i64, codes[from..to].to_vec(alloc)?))
 }
 
 // Ranges that begin and end inside runs, over the ends of both stations and of the scan.

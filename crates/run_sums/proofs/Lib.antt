@@ -2,6 +2,6 @@ pub mod PairLemmas
 pub mod PlaceLemmas
 pub mod FoundLemmas
 pub mod ReachLemmas
-pub mod PartLemmas
-pub mod ReachedLemmas
+pub mod FrameLemmas
+pub mod MadeLemmas
 pub mod SumsLemmas

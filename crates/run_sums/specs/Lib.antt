@@ -1,5 +1,5 @@
 pub mod Found
 pub mod Pairs
-pub mod Parts
 pub mod Reach
+pub mod Frames
 pub mod Sums

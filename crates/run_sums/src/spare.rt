@@ -1,14 +1,12 @@
 //! Room of epochs that are over.
 
 use crate::values::EpochValues;
-use epoch_run::EpochPlanes;
 use std::alloc::Global;
 
-/// Room that epochs which are over have left: lists of the codes of a part, and the planes of one of them.
+/// Room that epochs which are over have left: lists of bytes, of frames and of the codes of planes.
 #[derive(Drop)]
 pub struct Spare {
     pub(crate) codes: Vec<Vec<u8>>,
-    pub(crate) planes: Option<EpochPlanes>,
 }
 
 impl Spare {
@@ -16,14 +14,13 @@ impl Spare {
     pub fn none(alloc: Global) -> Spare {
         Spare {
             codes: Vec::new(alloc),
-            planes: None,
         }
     }
 
-    /// Keeps the planes of an epoch that is over, where there are such, in place of those that are kept.
+    /// Keeps the room of the planes of an epoch that is over, where there are such.
     pub fn keep(&mut self, values: Option<EpochValues>) {
         if let Some(values) = values {
-            self.planes = Some(values.planes);
+            values.planes.leave(&mut self.codes);
         }
     }
 }

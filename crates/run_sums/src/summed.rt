@@ -44,7 +44,7 @@ pub fn correlate<R: Threads + Sync, F: Shelf, G: Gate + Sync>(
     is_of_job(ready, e);
     let mut spare = Spare::none(alloc);
     let scan = scan_of(ready.plan.plan(), e);
-    let values = reach_epoch(alloc, &mut spare, ready, shelf, scan, e)?;
+    let values = reach_epoch(rt, alloc, &mut spare, ready, shelf, scan, e, workers)?;
     let sums = sum(rt, alloc, ready, &values, e, workers, piece, gate)?;
     Ok(sums)
 }

@@ -6,27 +6,15 @@ use borrow.Rule.Slice.PartMut.{put_mid}
 use Rattle.dev_traits.specs.Told.{WhereTold}
 use Rattle.corr_model.specs.Cell.{Value}
 use Rattle.frame_index.specs.Recording.{Shelved}
-use Rattle.frame_index.proofs.ToldLemmas.{WhereTold-weaker, WhereTold-both, WhereTold-always}
+use Rattle.frame_index.proofs.ToldLemmas.{WhereTold-weaker, WhereTold-always}
 use Rattle.station_stream.specs.declared.chan.StationChan.{StationChan}
 use Rattle.station_stream.specs.declared.part.StationPart.{StationPart}
 use Rattle.station_stream.specs.declared.window.Window.{Window}
-use Rattle.station_stream.specs.Part.{chan_value}
 use Rattle.value_codes.specs.Codes.{value_of}
-use Rattle.station_stream.specs.Filled.{AreValuesBefore, IsBlank, IsFilled, AreFilled, AreBlank}
+use Rattle.station_stream.specs.Filled.{AreValuesBefore, IsBlank, AreFilled}
 use Rattle.station_stream.specs.Window.{AreValues}
 use Rattle.station_stream.proofs.PartLemmas.{get_or-before, get_or-inside, get_or-behind, length-written}
 use Rattle.station_stream.proofs.ValueLemmas.{value_in-inside, value_in-outside, value_in-lacking}
-
--- ---- empty
-
--- where no byte is filled in yet
-pub AreFilled-blank : (told : Option Shelved) (part : StationPart) (chan : Option StationChan) (w : Window) (upto : ℕ) (codes : List ℕ)
-    → upto ≡ min (max part.from w.from) (w.from + w.count) → AreBlank part chan w codes → AreFilled told part chan w upto codes
-AreFilled-blank told part None w upto codes e blank = blank
-AreFilled-blank told part (Some chan) w upto codes e blank = record {
-  blank = blank;
-  values = WhereTold-always told (λ t. AreValuesBefore t part chan w.from upto codes) (λ t k inside begun under. absurd (omega (arith, e, inside, begun, under, blank.long)));
-}
 
 -- ---- filled
 
@@ -51,34 +39,6 @@ IsPut-of at to old mid order inside long =
           ap (λ (i : ℕ). get_or (put_mid at (to - at) old mid) i 0) (sym place) ∙ get_or-inside old mid at (to - at) (k - at) 0 (omega (arith, long, low, high)) begun;
       behind = λ k h. get_or-behind old mid at (to - at) k 0 long (omega (arith, order, h)) begun;
     }
-
--- a further sweep is filled in
-pub IsFilled-on : (told : Option Shelved) (part : StationPart) (chan : StationChan) (w : Window) (at to from upto : ℕ) (old mid new : List ℕ)
-    → w.from + at ≡ from → w.from + to ≡ upto → part.from ≤ from → from ≤ upto → upto ≤ max part.to w.from → IsPut at to old mid new
-    → IsFilled told part chan w from old
-    → WhereTold told (λ t. (k : ℕ) → k < length mid → value_of (get_or mid k 0) ≡ chan_value t part chan (from + k))
-    → IsFilled told part chan w upto new
-IsFilled-on told part chan w at to from upto old mid new at_is to_is begun order ends put filled values = record {
-  blank = record {
-    long = put.long ∙ filled.blank.long;
-    before = λ k h. put.under k (omega (arith, at_is, begun, h)) ∙ filled.blank.before k h;
-    behind = λ k h. put.behind k (omega (arith, to_is, ends, h)) ∙ filled.blank.behind k h;
-  };
-  values = WhereTold-both told (Before old from) (λ t. (k : ℕ) → k < length mid → value_of (get_or mid k 0) ≡ chan_value t part chan (from + k)) (Before new upto)
-      (λ t was is k inside low high.
-      ⊎_elim
-      (λ (under : k < at). ap value_of (put.under k under) ∙ was k (omega (arith, put.long, inside)) low (omega (arith, at_is, under)))
-      (λ (in_sweep : at ≤ k).
-      let there : k < to = omega (arith, to_is, high) in
-      let place : from + (k - at) ≡ w.from + k = omega (arith, at_is, in_sweep) in
-      let short : k - at < length mid = omega (arith, put.count, in_sweep, there) in
-      ap value_of (put.between k in_sweep there) ∙ is (k - at) short ∙ ap (chan_value t part chan) place)
-      (cases_lt k at))
-      filled.values values;
-}
-  where
-    Before : List ℕ → ℕ → Shelved → Type 0
-    Before codes n t = AreValuesBefore t part chan w.from n codes
 
 -- ---- blank
 
@@ -132,3 +92,13 @@ AreValues-filled told part (Some chan) w codes filled =
     (cases_lt (w.from + k) part.to))
     (cases_lt (w.from + k) part.from))
     filled.values
+
+-- bytes that are all 0 are those of a channel that the station lacks
+pub AreValues-lacking : (told : Option Shelved) (part : StationPart) (w : Window) (codes : List ℕ)
+    → length codes ≡ w.count → ((k : ℕ) → k < length codes → get_or codes k 0 ≡ 0)
+    → WhereTold told (λ t. AreValues t part None w.from w.count (map value_of codes))
+AreValues-lacking told part w codes long zero =
+    WhereTold-always told (λ t. AreValues t part None w.from w.count (map value_of codes))
+    (λ t k inside.
+    let there : k < length codes = omega (arith, long, inside) in
+    get_or-map value_of codes k 0 None there ∙ value_of-zero (get_or codes k 0) (zero k there) ∙ sym (value_in-lacking t part (w.from + k)))

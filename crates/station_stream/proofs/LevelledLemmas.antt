@@ -53,7 +53,7 @@ AreLevelled-value_of code = by (eqb (code / 8 % 2) 0)
     by false = AreLevelled-turned (code / 16 % 16) (2 * (code % 8)) (omega arith)
 
 -- the values of a list of bytes, and of none past its end
-AreLevelled-codes : (codes : List ℕ) (k : ℕ) → IfSome (get_or (map value_of codes) k None) AreLevelled
+pub AreLevelled-codes : (codes : List ℕ) (k : ℕ) → IfSome (get_or (map value_of codes) k None) AreLevelled
 AreLevelled-codes [] k = tt
 AreLevelled-codes (code ∷ codes) zero = AreLevelled-value_of code
 AreLevelled-codes (code ∷ codes) (suc k) = AreLevelled-codes codes k

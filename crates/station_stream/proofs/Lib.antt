@@ -8,6 +8,7 @@ pub mod StreamLemmas
 pub mod LevelledLemmas
 pub mod SweepLemmas
 pub mod FillLemmas
+pub mod SweptLemmas
 pub mod ThreadsLemmas
 pub mod PartLemmas
 pub mod TakenLemmas
@@ -15,3 +16,4 @@ pub mod RunLemmas
 pub mod TurnLemmas
 pub mod StayPartLemmas
 pub mod StayLemmas
+pub mod StayFramesLemmas

@@ -37,16 +37,6 @@ abbrev pub AllFilled : Option Shelved → StationPart → Window → ℕ → Lis
 AllFilled told part w upto chans =
     (i : ℕ) (d : Vec ℕ Global) → i < length chans → AreFilled told part (chan_at part.chans.now i) w upto (slice_index_or chans i d).items
 
--- the bytes of a channel of which none is filled in yet
-abbrev pub AreBlank : StationPart → Option StationChan → Window → List ℕ → Type 0
-AreBlank part None w codes = codes ≡ []
-AreBlank part (Some chan) w codes = IsBlank part w codes
-
--- those of each channel
-abbrev pub AllBlank : StationPart → Window → List (Vec ℕ Global) → Type 0
-AllBlank part w chans =
-    (i : ℕ) (d : Vec ℕ Global) → i < length chans → AreBlank part (chan_at part.chans.now i) w (slice_index_or chans i d).items
-
 -- the values of each channel
 abbrev pub AllValues : Shelved → StationPart → ℕ → ℕ → List (Vec ℕ Global) → Type 0
 AllValues told part from count chans =

@@ -11,4 +11,6 @@ pub mod FrameSlots
 pub mod ThreadFrames
 pub mod Sweep
 pub mod Threads
+pub mod Swept
+pub mod StayFrames
 pub mod Filled

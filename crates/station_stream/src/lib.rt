@@ -3,11 +3,13 @@
 //! delays, on `fringe_turns` for the direction of a delay's sector, on `value_codes` for levels and values in bytes, on
 //! `job_plan` for plans, and on a `Shelf` for the files, whose stretches `shelf_stretch` reads.
 //!
-//! A `Stream` keeps one byte for a sample, a code. It is loaded sweep by sweep, a sweep being samples whose recorded ones lie close
+//! Values are taken in two steps. The frames of a window are read sweep by sweep, a sweep being samples whose recorded ones lie close
 //! together, with less than a frame between them: a window's slots of a thread are read one behind the other, once, for all its
-//! channels. The bytes of a stream that is done with are room for those of another. `stay_stream` loads that of a station's part
-//! in a scan of a plan. Where the shelf tells its content, the values are those of the definition in `specs/Part`, which are those
-//! of the plan's; a fault of a read comes only where the shelf had one. (Thompson, Moran and Swenson, chapters 8 and 9.)
+//! channels. Then the bytes of a channel, a code for a sample, are filled out of the frames, all of them or those of a stretch of
+//! samples; that step has no shelf and takes no memory. A `Stream` is both at once; `StayFrames` are the frames alone, of a station's
+//! part in a scan of a plan, and `stay_stream` loads the stream of such a part. Bytes that are done with are room for others. Where
+//! the shelf tells its content, the values are those of the definition in `specs/Part`, which are those of the plan's; a fault of a
+//! read comes only where the shelf had one. (Thompson, Moran and Swenson, chapters 8 and 9.)
 #![tactic(auto)]
 
 mod chan;
@@ -22,9 +24,11 @@ mod room;
 mod samples;
 mod slot;
 mod stay;
+mod stay_frames;
 mod stay_part;
 mod stream;
 mod sweep;
+mod swept;
 mod thread_frames;
 mod threads;
 mod turned;
@@ -34,5 +38,7 @@ pub use chan::StationChan;
 pub use fault::StreamFault;
 pub use part::StationPart;
 pub use recording::Recording;
+pub use room::take_room;
 pub use stay::stay_stream;
+pub use stay_frames::StayFrames;
 pub use stream::Stream;

@@ -35,31 +35,31 @@ fn fill_piece(
     turn_levels(part, chan, from, codes);
 }
 
-/// Sets `codes` to the values of a channel from the first sample of a sweep on. The frames hold the samples of the sweep.
+/// Sets `codes` to the values of a channel at the samples of a sweep from `from` on. The frames hold the samples of the sweep.
 pub(crate) fn fill_values(
     frames: &ThreadFrames,
     part: &StationPart<'_>,
     chan: &StationChan,
     sweep: Sweep,
+    from: u64,
     codes: &mut [u8],
 )
     requires chan { IsChanOf part.now.shape chan.now }
-    requires inside { sweep.from + length codes.old ≤ part.now.track.samples }
+    requires inside { from + length codes.old ≤ part.now.track.samples }
     requires reach { Reach part.now.shape sweep.first sweep.last frames.now }
-    requires lie { LieIn part.now.track sweep.from (sweep.from + length codes.old) sweep.first sweep.last }
+    requires lie { LieIn part.now.track from (from + length codes.old) sweep.first sweep.last }
     ensures { (k : ℕ) → k < length codes.old
-        → value_of (slice_index codes.new k) ≡ value_in_frames part.now chan.now frames.now (sweep.from + k) }
+        → value_of (slice_index codes.new k) ≡ value_in_frames part.now chan.now frames.now (from + k) }
 {
     let mut done = 0;
     while done < codes.len() {
         let count = PIECE.min(codes.len() - done);
-        let from = sweep.from + done as u64;
         fill_piece(
             frames,
             part,
             chan,
             sweep,
-            from,
+            from + done as u64,
             &mut codes[done..done + count],
         );
         done += count;

@@ -23,7 +23,7 @@ fn best_place(spare: &[Vec<u8>], count: usize) -> Option<usize>
 }
 
 /// So many bytes that say nothing, in the room of one of the spare lists, or in room of their own where there is none.
-pub(crate) fn take_room(
+pub fn take_room(
     alloc: Global,
     spare: &mut Vec<Vec<u8>>,
     count: usize,

@@ -16,7 +16,8 @@ pub(crate) struct Threads {
 }
 
 impl Threads {
-    ghost use Rattle.std.specs.Prelude.{◌≡◌, ◌<◌, Option, IfOk, OnOk, length, slice_index};
+    ghost use Rattle.std.specs.Prelude.{◌≡◌, ◌<◌, ℕ, Option, OnOk, length, slice_index};
+    ghost use Rattle.std.specs.List.{Contains};
     ghost use Rattle.dev_traits.specs.Told.{WhereTold};
     ghost use Rattle.frame_index.specs.Recording.{Shelved};
     ghost use Rattle.station_stream.specs.declared.part.StationPart.{StationPart};
@@ -36,8 +37,8 @@ impl Threads {
         }
     }
 
-    /// The place of a thread's frames, which are read where they are not there yet.
-    pub(crate) fn place<F: Shelf>(
+    /// Reads the frames of a thread, where they are not there yet.
+    pub(crate) fn add<F: Shelf>(
         &mut self,
         alloc: Global,
         spare: &mut Vec<Vec<u8>>,
@@ -45,25 +46,37 @@ impl Threads {
         index: &Index,
         part: &StationPart<'_>,
         thread: u16,
-    ) -> Result<usize, StreamFault>
+    ) -> Result<(), StreamFault>
         requires thread { thread < 1024 }
         requires indexed { WhereTold (F.told shelf.old) (λ told. IsIndexed told part.now index.now) }
         requires threads { AreThreads (F.told shelf.old) part.now self.old }
         ensures same { F.told shelf.new ≡ F.told shelf.old }
         ensures sweep { self.new.sweep ≡ self.old.sweep }
         ensures threads { OnOk result (AreThreads (F.told shelf.old) part.now self.new) }
-        ensures inside { IfOk result (λ i. i < length self.new.frames.items) }
-        ensures thread { IfOk result (λ i. slice_index self.new.numbers.items i ≡ thread) }
+        ensures there { OnOk result (Contains self.new.numbers.items thread) }
+        ensures kept { OnOk result ((number : ℕ) → Contains self.old.numbers.items number → Contains self.new.numbers.items number) }
         ensures counts { CountsReads (F.faults shelf.old) (F.faults shelf.new) result }
     {
-        if let Some(i) = self.numbers.iter().position(|number| *number == thread) {
-            return Ok(i);
+        if self.numbers.contains(&thread) {
+            return Ok(());
         }
         let (first, last) = (self.sweep.first, self.sweep.last);
         let frames = ThreadFrames::read(alloc, spare, shelf, index, part, thread, first, last)?;
         self.numbers.push(thread)?;
         self.frames.push(frames)?;
-        Ok(self.frames.len() - 1)
+        Ok(())
+    }
+
+    /// The place of a thread's frames, which are there.
+    pub(crate) fn place(&self, thread: u16) -> usize
+        requires { Contains self.now.numbers.items thread }
+        ensures inside { result < length self.now.numbers.items }
+        ensures thread { slice_index self.now.numbers.items result ≡ thread }
+    {
+        match self.numbers.iter().position(|number| *number == thread) {
+            Some(i) => i,
+            None => unreachable!(),
+        }
     }
 
     /// Gives the room of the frames to the spare lists.

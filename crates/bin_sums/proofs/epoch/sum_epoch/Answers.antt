@@ -1,4 +1,4 @@
-use Rattle.std.proofs.Common.{◌≡◌, ◌∙◌, ℕ, ◌*◌, ◌≤◌, List, length, ap, arith}
+use Rattle.std.proofs.Common.{◌≡◌, ◌∙◌, ℕ, ◌*◌, List, length, ap, arith}
 use Rattle.corr_model.specs.declared.cell.Pair.{Pair}
 use Rattle.delay_track.specs.Track.{model_of}
 use Rattle.job_plan.specs.declared.plan.Plan.{Plan}

@@ -1,5 +1,5 @@
 use Rattle.std.specs.Prelude.{replicate}
-use Rattle.std.proofs.Common.{◌≡◌, ◌∙◌, ℕ, ◌+◌, ◌*◌, ◌<◌, ◌≤◌, min, Option, refl, sym, ap, subst, arith}
+use Rattle.std.proofs.Common.{◌≡◌, ◌∙◌, ℕ, ◌+◌, ◌*◌, ◌<◌, ◌≤◌, min, Option, refl, ap, subst, arith}
 use Rattle.corr_model.specs.Cell.{no_cell}
 use Rattle.corr_model.specs.Files.{Files}
 use Rattle.piece_plan.proofs.Quotients.{below_ceil}

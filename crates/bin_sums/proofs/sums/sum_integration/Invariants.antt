@@ -1,4 +1,4 @@
-use Rattle.std.proofs.Common.{◌≡◌, ◌-◌, ◌≤◌, length}
+use Rattle.std.proofs.Common.{◌≡◌, ◌-◌, ◌≤◌}
 use Rattle.bin_sums.specs.Ahead.{IsAheadOf}
 use Rattle.bin_sums.proofs.IntegrationLemmas.{AreOf}
 use Rattle.bin_sums.proofs.sums.sum_integration.Given as goal

@@ -14,7 +14,6 @@ loop-k-preserved g c =
     let at : to_z w64 (c.args.n + c.loop-k.k) ≡ pos (c.args.n + c.loop-k.k) = omega (arith, ints, c.requires.scan, c.loop-k-test.true) in
     record {
       are = rw more.items (words-more xs x old.are c.pack.ensures.word);
-      room = omega (arith, old.room, more.capacity);
       long = omega (arith, old.long, more.len, c.loop-k.words.ok.0, c.push.new.self.ok.0);
       values =
           rw more.items

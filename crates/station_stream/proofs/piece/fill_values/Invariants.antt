@@ -6,7 +6,7 @@ use Rattle.station_stream.proofs.piece.fill_values.Given as goal
 abbrev pub invariant-loop-done : goal.invariant-loop-done
 invariant-loop-done l = record {
   within : l.done ≤ length l.codes;
-  values : (k : ℕ) → k < l.done → value_of (get_or l.codes k 0) ≡ value_in_frames l.part l.chan l.frames (l.sweep.from + k);
+  values : (k : ℕ) → k < l.done → value_of (get_or l.codes k 0) ≡ value_in_frames l.part l.chan l.frames (l.from + k);
 }
 
 abbrev pub decreases-loop-done : goal.decreases-loop-done

@@ -1,16 +1,12 @@
-use Rattle.std.proofs.Common.{◌≡◌, ℕ, ◌<◌, List, length, get_or, Some, refl, ap, ◌∙◌, arith}
-use Rattle.std.specs.List.{slice_get}
+use Rattle.std.proofs.Common.{◌<◌, length, get_or, refl, ap, ◌∙◌, arith}
 use Rattle.std.proofs.lemmas.Int.{ints}
 use Rattle.std.proofs.lemmas.Option.{slice_get_read}
 use Rattle.frame_index.proofs.ToldLemmas.{WhereTold-weaker}
 use Rattle.job_plan.specs.declared.plan.StationPlan.{StationPlan}
 use Rattle.station_stream.proofs.StayPartLemmas.{IsIndexed-part, part_value-stay_value}
 use Rattle.station_stream.proofs.StayLemmas.{windowed-inside}
+use Rattle.station_stream.proofs.StayFramesLemmas.{slice_get-item}
 use Rattle.station_stream.proofs.stay.stay_stream.Goals as goal
-
--- the item at a place of a list that is read
-slice_get-item : {X : Type 0} (xs ys : List X) (i : ℕ) (x : X) → xs ≡ ys → i < length ys → x ≡ get_or xs i x → slice_get ys i ≡ Some x
-slice_get-item xs ys i x same there is = slice_get_read ys (length ys) i x refl there (is ∙ ap (λ zs. get_or zs i x) same)
 
 pub part_of-part-requires-clause-modelled : goal.part_of-part-requires-clause-modelled
 part_of-part-requires-clause-modelled g c =

@@ -37,9 +37,9 @@ fn plus(sums: u16x16, b: u8x32, a: u8x32) -> u16x16
     sums.strict_add(pairs(b, a))
 }
 
-// The sum of the lanes.
+/// The sum of the lanes.
 #[inline(always)]
-fn total(sums: u16x16) -> u32
+pub(crate) fn total(sums: u16x16) -> u32
     requires lanes { length sums ≡ 16 }
     requires small { Each1 (λ x. x ≤ 65000) sums }
     ensures { result ≡ sum_l sums }

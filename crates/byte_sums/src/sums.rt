@@ -3,6 +3,7 @@ ghost use Rattle.std.specs.Prelude.{◌≡◌, ◌<◌, ◌≤◌, ◌+◌, ◌*
 ghost use Rattle.byte_sums.specs.Sums.{AreAtMost, lag_sum};
 
 use crate::dots::{four_dot_sums, one_sum};
+use crate::levels::{have_levels, level_sums};
 use crate::shorts::four_short_sums;
 
 // The greatest byte for lanes of 16 bits.
@@ -25,9 +26,8 @@ fn four_sums(greatest: u8, a: &[u8], b: &[u8], at: usize) -> [u32; 4]
     }
 }
 
-/// Sets each place of `out` to the sum of the products of a's bytes with b's, each as many places on. `greatest` is what a byte
-/// is at most: 12 or less is faster.
-pub fn lag_sums(greatest: u8, a: &[u8], b: &[u8], out: &mut [u32])
+// Sets each place of `out` to the sum at its lag.
+fn each_lag_sums(greatest: u8, a: &[u8], b: &[u8], out: &mut [u32])
     requires greatest { greatest ≤ 60 }
     requires a { AreAtMost greatest a.now }
     requires b { AreAtMost greatest b.now }
@@ -46,5 +46,23 @@ pub fn lag_sums(greatest: u8, a: &[u8], b: &[u8], out: &mut [u32])
     }
     for i in 4 * fours..out.len() {
         out[i] = one_sum(a, b, i);
+    }
+}
+
+/// Sets each place of `out` to the sum of the products of a's bytes with b's, each as many places on. `greatest` is what a byte
+/// is at most: 12 or less is faster, and most of all where bytes are even and at most 6.
+pub fn lag_sums(greatest: u8, a: &[u8], b: &[u8], out: &mut [u32])
+    requires greatest { greatest ≤ 60 }
+    requires a { AreAtMost greatest a.now }
+    requires b { AreAtMost greatest b.now }
+    requires size { length a.now ≤ 7168 }
+    requires room { length a.now + length out.old ≤ length b.now + 1 }
+    ensures len { length out.new ≡ length out.old }
+    ensures sums { (i : ℕ) → i < length out.old → slice_index out.new i ≡ lag_sum a.now b.now i (length a.now) }
+{
+    if greatest <= SHORT && have_levels(a, b, out.len()) {
+        level_sums(a, b, out);
+    } else {
+        each_lag_sums(greatest, a, b, out);
     }
 }

@@ -9,6 +9,9 @@ const COUNT: usize = 4096;
 
 const LAGS: usize = 1024;
 
+// What a byte of a level of one or two bits is at most. Such bytes are even.
+const LEVEL: u8 = 6;
+
 /// What a byte is at most, how many bytes the first row has, how many lags are asked for, and how often.
 #[derive(Clone, Copy)]
 pub struct Case {
@@ -22,7 +25,19 @@ pub struct Case {
     ghost most: { lags ≤ 1024 },
 }
 
-// Sets byte `i` to `step * i + start`, less whole times one more than `greatest`.
+// The byte of a number: it less whole times one more than `greatest`, or, where bytes are those of levels, the double of its half's two
+// lower bits.
+fn byte_of(number: usize, greatest: u8) -> u8
+    ensures { result ≤ greatest }
+{
+    if greatest == LEVEL {
+        (number / 2 % 4 * 2) as u8
+    } else {
+        (number % (usize::from(greatest) + 1)) as u8
+    }
+}
+
+// Sets byte `i` to that of `step * i + start`.
 fn fill(row: &mut [u8], greatest: u8, step: usize, start: usize)
     requires step { step ≤ 16 }
     requires start { start ≤ 16 }
@@ -32,7 +47,7 @@ fn fill(row: &mut [u8], greatest: u8, step: usize, start: usize)
     ensures small { AreAtMost greatest row.new }
 {
     for i in 0..row.len() {
-        row[i] = ((step * i + start) % (usize::from(greatest) + 1)) as u8;
+        row[i] = byte_of(step * i + start, greatest);
     }
 }
 

@@ -1,4 +1,4 @@
--- The cells of an integration, epoch by epoch.
+-- The cells of an integration, part by part.
 use Rattle.std.specs.Prelude.{replicate}
 use Rattle.std.proofs.Common.{◌≡◌, ◌∙◌, sym, ap, subst, ℕ, ◌+◌, ◌*◌, ◌<◌, ◌≤◌, min, List, Option, arith}
 use Rattle.dev_traits.specs.Told.{WhereTold}
@@ -31,13 +31,13 @@ module _ (plan : Plan) (scan : ScanPlan) (told : Option Files) where
       WhereTold-always told (λ files. cells ≡ range_cells plan (rotated plan files scan) scan from from)
       (λ files. none ∙ sym (range_cells-none plan (rotated plan files scan) scan from))
 
-  -- one epoch more
-  pub epoch-more : (told' : Option Files) (from at end : ℕ) (before after : List Cell) → IsPlan plan → IsScanPlan plan scan
+  -- one part more
+  pub part-more : (told' : Option Files) (from at end : ℕ) (before after : List Cell) → IsPlan plan → IsScanPlan plan scan
       → told' ≡ told → from ≤ at → at ≤ end → end ≤ scan.samples
       → AreOf from at before
       → WhereTold told' (λ files. after ≡ add_cells before (range_cells plan (rotated plan files scan) scan at end))
       → AreOf from end after
-  epoch-more told' from at end before after ranges scan_is same begun on inside so_far added =
+  part-more told' from at end before after ranges scan_is same begun on inside so_far added =
       WhereTold-both told
       (λ files. before ≡ range_cells plan (rotated plan files scan) scan from at)
       (λ files. after ≡ add_cells before (range_cells plan (rotated plan files scan) scan at end))

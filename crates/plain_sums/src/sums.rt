@@ -18,8 +18,11 @@ use job_plan::{Plan, ScanPlan};
 use station_stream::{Recording, StreamFault};
 use std::alloc::Global;
 
+// The most samples whose values are in memory at a time, beside those that their lags reach.
+const PART: u64 = 262_144;
+
 /// Sets `cells` to those of integration `m` of a scan: by product, then by baseline, then by rising lag. The values are read
-/// one epoch after another, each with the samples that its lags reach.
+/// one part after another, each with the samples that its lags reach: an epoch, or 262,144 samples where an epoch has more.
 pub fn sum_integration<F: Shelf>(
     alloc: Global,
     shelf: &mut F,
@@ -43,10 +46,11 @@ pub fn sum_integration<F: Shelf>(
     start(cells);
     let from = m * plan.integration;
     let to = (from + plan.integration).min(scan.samples);
+    let size = plan.epoch.min(PART);
     let mut at = from;
     while at < to {
-        let end = (at + plan.epoch).min(to);
-        add_epoch(
+        let end = (at + size).min(to);
+        add_part(
             alloc, shelf, plan, scan, recordings, at, end, &mut lags, cells,
         )?;
         at = end;
@@ -61,8 +65,8 @@ fn start(cells: &mut [Cell])
     cells.fill(Cell::ZERO);
 }
 
-// Adds the cells of an epoch, the samples from `from` up to, not including, `to`. `lags` has room for the cells of a record.
-fn add_epoch<F: Shelf>(
+// Adds the cells of a part, the samples from `from` up to, not including, `to`. `lags` has room for the cells of a record.
+fn add_part<F: Shelf>(
     alloc: Global,
     shelf: &mut F,
     plan: &Plan,

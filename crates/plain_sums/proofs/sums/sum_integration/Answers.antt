@@ -2,7 +2,7 @@ use Rattle.std.specs.Prelude.{replicate}
 use Rattle.std.proofs.Common.{◌≡◌, ◌∙◌, ◌+◌, ◌*◌, ◌≤◌, min, length, drop, refl, ap, rules, arith}
 use Rattle.std.proofs.lemmas.List.{take_at}
 use Rattle.corr_model.specs.Cell.{no_cell}
-use Rattle.plain_sums.proofs.SumLemmas.{begins, none-yet, epoch-more, integration-whole}
+use Rattle.plain_sums.proofs.SumLemmas.{begins, none-yet, part-more, integration-whole}
 use Rattle.plain_sums.proofs.sums.sum_integration.Goals as goal
 
 pub loop-at-init : goal.loop-at-init
@@ -26,16 +26,16 @@ loop-at-preserved g c =
     let within : c.min-end.result ≤ c.min-to.result = omega (arith, c.min-end.ensures) in
     let lent : length c.deref_mut.result.now ≡ c.loop-at.lags.len = search rules in
     let room : length c.deref_mut.result.now ≡ c.args.plan.now.lags = search rules in
-    let given : length c.add_epoch.new.lags ≡ length c.deref_mut.result.now = c.add_epoch.auto.lags in
+    let given : length c.add_part.new.lags ≡ length c.deref_mut.result.now = c.add_part.auto.lags in
     record {
       begun = omega (arith, before.begun, on);
       within = within;
-      held = ap length (take_at c.add_epoch.new.lags (drop (length c.add_epoch.new.lags) c.loop-at.lags.items) c.loop-at.lags.len (given ∙ lent)) ∙ given ∙ room;
-      same = c.in_ok-add_epoch.ensures.same ∙ before.same;
-      kept = c.in_ok-add_epoch.ensures.counts.kept ∙ before.kept;
+      held = ap length (take_at c.add_part.new.lags (drop (length c.add_part.new.lags) c.loop-at.lags.items) c.loop-at.lags.len (given ∙ lent)) ∙ given ∙ room;
+      same = c.in_ok-add_part.ensures.same ∙ before.same;
+      kept = c.in_ok-add_part.ensures.counts.kept ∙ before.kept;
       cells =
-          epoch-more c.args.plan.now c.args.scan.now (g.F.Shelf.told c.args.shelf.now) (g.F.Shelf.told c.loop-at.shelf) _ _ _ c.loop-at.cells c.add_epoch.new.cells
-          c.requires.plan c.requires.scan before.same before.begun on (omega (arith, within, c.min-to.ensures)) before.cells c.in_ok-add_epoch.ensures.added;
+          part-more c.args.plan.now c.args.scan.now (g.F.Shelf.told c.args.shelf.now) (g.F.Shelf.told c.loop-at.shelf) _ _ _ c.loop-at.cells c.add_part.new.cells
+          c.requires.plan c.requires.scan before.same before.begun on (omega (arith, within, c.min-to.ensures)) before.cells c.in_ok-add_part.ensures.added;
     }
 
 pub returns-clause-cells : goal.returns-clause-cells

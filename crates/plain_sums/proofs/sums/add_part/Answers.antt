@@ -6,7 +6,7 @@ use Rattle.job_epochs.specs.Sums.{range_cells}
 use Rattle.job_epochs.specs.Added.{add_cells}
 use Rattle.plain_sums.specs.Values.{values_of}
 use Rattle.plain_sums.proofs.ReachLemmas.{range_cells-same}
-use Rattle.plain_sums.proofs.sums.add_epoch.Goals as goal
+use Rattle.plain_sums.proofs.sums.add_part.Goals as goal
 
 pub returns-clause-added : goal.returns-clause-added
 returns-clause-added g c =

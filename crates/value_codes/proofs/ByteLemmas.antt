@@ -1,8 +1,9 @@
 -- Where the levels of a channel lie in whole bytes.
-use Rattle.std.proofs.Common.{◌≡◌, ℕ, zero, suc, ◌+◌, ◌-◌, ◌*◌, ◌/◌, ◌%◌, ◌<◌, List, ◌++◌, length, min, slice_index, ⊎_elim, sym, subst, ap, ◌∙◌, arith}
+use Rattle.std.proofs.Common.{◌≡◌, ℕ, zero, suc, ◌+◌, ◌-◌, ◌*◌, ◌/◌, ◌%◌, ◌<◌, ◌≤◌, List, ◌++◌, length, min, slice_index, ⊎_elim, sym, subst, ap, ◌∙◌, arith}
 use Rattle.std.proofs.lemmas.Bool.{cases_lt}
 use Rattle.std.proofs.lemmas.List.{get_or_append_left, get_or-append-add}
 use Rattle.std.proofs.lemmas.Nat.{mul-add-lt, div_below, div-add-mod'}
+use Rattle.std.proofs.Math.Nat.{mul-div-le}
 
 -- each level of a byte begins in it
 pub in-byte : (low step per k : ℕ) → per * step ≡ 8 → low < step → k < per → low + k * step < 8
@@ -28,9 +29,12 @@ behind-byte byte shift low skipped head step per k eight first all =
     let apart : 8 * byte + (skipped * step + low) + (head + k) * step ≡ 8 * byte + (head + skipped) * step + low + k * step = grind arith in
     begun ∙ apart ∙ ap (λ n. 8 * byte + n + low + k * step) (ap (λ n. n * step) all ∙ eight) ∙ grind arith
 
-pub some-step : (per step : ℕ) → per * step ≡ 8 → 0 < step
+some-step : (per step : ℕ) → per * step ≡ 8 → 0 < step
 some-step per zero eight = let none : per * 0 ≡ 0 = grind arith in absurd (omega (arith, none, eight))
 some-step per (suc step) eight = omega arith
+
+pub some-per : (per step : ℕ) → per * step ≡ 8 → 0 < per
+some-per per step eight = let turned : step * per ≡ per * step = grind arith in some-step step per (turned ∙ eight)
 
 -- the place of a level behind the byte of the first, where a byte ends with the level before `head`
 pub behind-head : (byte shift step per n head k : ℕ) → per * step ≡ 8 → shift < 8 → head ≡ min (per - shift / step) n → k < n - head
@@ -45,6 +49,30 @@ pub behind-bytes : (byte shift step per n head count k : ℕ) → per * step ≡
     → 8 * byte + shift + (head + (per * count + k)) * step ≡ 8 * (byte + 1 + count) + shift % step + k * step
 behind-bytes byte shift step per n head count k eight below is h =
     behind-head byte shift step per n head (per * count + k) eight below is h ∙ in-bytes (byte + 1) (shift % step) step per count k eight
+
+pub per-is : (per step : ℕ) → per * step ≡ 8 → per ≡ 8 / step
+per-is per step eight = grind arith
+
+-- whole bytes of which each level is asked for lie in the array
+bytes-inside : (byte shift bits step per n head count size : ℕ) → per * step ≡ 8 → shift < 8 → 0 < bits → 0 < n → head ≡ min (per - shift / step) n
+    → per * count ≤ n - head → ((i : ℕ) → i < n → 8 * byte + shift + i * step + bits ≤ 8 * size) → byte + 1 + count ≤ size
+bytes-inside byte shift bits step per n head zero size eight below some any is levels inside = omega (arith, inside 0 any, some)
+bytes-inside byte shift bits step per n head (suc count) size eight below some any is levels inside =
+    let last : ℕ = per * count + (per - 1) in
+    let more : per * suc count ≡ per * count + per = grind arith in
+    let each : 0 < per = some-per per step eight in
+    let behind : last < n - head = omega (arith, levels, more, each) in
+    let place : 8 * byte + shift + (head + last) * step ≡ 8 * (byte + 1 + count) + shift % step + (per - 1) * step =
+    behind-bytes byte shift step per n head count (per - 1) eight below is behind in
+    omega (arith, place, some, inside (head + last) (omega (arith, behind)))
+
+pub vectors-inside : (byte shift bits step per n head size : ℕ) → per * step ≡ 8 → shift < 8 → 0 < bits → 0 < n → head ≡ min (per - shift / step) n
+    → ((i : ℕ) → i < n → 8 * byte + shift + i * step + bits ≤ 8 * size) → byte + 1 + 16 * ((n - head) / (16 * per)) ≤ size
+vectors-inside byte shift bits step per n head size eight below some any is inside =
+    let count : ℕ = (n - head) / (16 * per) in
+    let turned : per * (16 * count) ≡ 16 * per * count = grind arith in
+    bytes-inside byte shift bits step per n head (16 * count) size eight below some any is
+    (omega (arith, turned, mul-div-le (n - head) (16 * per))) inside
 
 -- what holds of each item of two lists holds of each of both together
 pub each-joined : (P : ℕ → ℕ → Type 0) (xs ys : List ℕ) (n : ℕ) → ((i : ℕ) → i < length xs → P i (slice_index xs i))

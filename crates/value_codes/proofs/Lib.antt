@@ -1,3 +1,5 @@
 pub mod ByteLemmas
+pub mod CodeLemmas
+pub mod FieldLemmas
 pub mod TakeLemmas
 pub mod VectorLemmas

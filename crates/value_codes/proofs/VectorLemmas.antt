@@ -1,145 +1,212 @@
--- Sixteen levels at a time: the byte of each, its bits and what a table has for them.
-use Rattle.std.proofs.Common.{◌≡◌, ℕ, ◌+◌, ◌-◌, ◌*◌, ◌/◌, ◌%◌, ◌^◌, ◌<◌, ◌≤◌, List, length, replicate, min, get_or, slice_index, bit_and, inl, inr, refl, sym, subst, ap, ◌∙◌, arith, w8}
-use Rattle.std.specs.Simd.Lanes.{Each2, zip2, chunk, put_chunk}
-use Rattle.std.proofs.lemmas.Bool.{cases_lt}
-use Rattle.std.proofs.lemmas.List.{length-replicate, get_or-replicate}
-use Rattle.std.proofs.lemmas.Nat.{and_mask, mod_below, mul-le, div-add-mod'}
-use Rattle.std.proofs.lemmas.Simd.{SwzOk, swz_l, SwzOk-from_below, get_or-swz_l_below, length-swz_l, Each1-all, Each1-from_get_or, Each2-of, get_or-zip2, length-zip2, get_or-chunk, get_or-put_chunk_below, get_or-put_chunk_at}
-use Rattle.std.proofs.Math.Nat.{mul-div-le}
-use Rattle.sample_unpack.specs.Level.{IsWidth, code_at}
-use Rattle.value_codes.specs.Taken.{taken_of}
-use Rattle.value_codes.proofs.ByteLemmas.{some-step, in-byte}
+-- The fields in the lanes of a vector, and what a table has for each.
+use Rattle.std.proofs.Common.{◌≡◌, ℕ, zero, suc, ◌+◌, ◌-◌, ◌*◌, ◌/◌, ◌%◌, ◌^◌, ◌<◌, ◌≤◌, eqb, true, List, [], ◌∷◌, ◌++◌, length, replicate, get_or, bit_and, inl, inr, refl, sym, subst, ap, ◌∙◌, arith, w8}
+use Rattle.std.specs.Simd.Lanes.{zip2, put_chunk, pick_l}
+use Rattle.std.proofs.lemmas.Bool.{cases_lt, agree_below_at, eqb-true}
+use Rattle.std.proofs.lemmas.List.{get_or-replicate, get_or-map, get_or_append_left, get_or-append-add}
+use Rattle.std.proofs.lemmas.Nat.{and_mask, one_shl, shr_le}
+use Rattle.std.proofs.lemmas.Simd.{SwzOk, swz_l, SwzOk-from_below, get_or-swz_l_below, Each1-from_get_or, get_or-zip2, length-zip2, length-swz_l, length-put_chunk, get_or-put_chunk_below, get_or-put_chunk_at}
+use Rattle.value_codes.specs.Fields.{field_at}
+use Rattle.value_codes.proofs.ByteLemmas.{each-joined}
+use Rattle.value_codes.proofs.FieldLemmas.{field-of-half}
 
--- what `swizzle_dyn` and the shifts ask of a vector of sixteen lanes
-pub places-inside : (places : List ℕ) → length places ≡ 16 → ((i : ℕ) → i < 16 → get_or places i 0 < 16) → SwzOk w8 16 16 0 places
-places-inside places long inside =
-    SwzOk-from_below w8 16 1 16 0 places refl (omega (arith, long))
-    (Each1-from_get_or (λ j. j < 16) places 0 (λ i h. inside i (omega (arith, h, long))))
+-- the lanes of a vector, shifted
+abbrev pub shifted : List ℕ → ℕ → List ℕ
+shifted lanes low = zip2 (λ x s. x / 2 ^ s) lanes (replicate 16 low)
 
-pub shifts-inside : (bytes shifts : List ℕ) → length shifts ≡ 16 → ((i : ℕ) → i < 16 → get_or shifts i 0 < 8) → Each2 (λ (a b : ℕ). b < 8) bytes shifts
-shifts-inside bytes shifts long inside =
-    Each2-of (λ (a : ℕ). 0 ≤ a) (λ b. b < 8) (λ a b. b < 8) (λ a b _ h. h) bytes shifts
-    (Each1-all (λ (a : ℕ). 0 ≤ a) (λ a. omega arith) bytes)
-    (Each1-from_get_or (λ b. b < 8) shifts 0 (λ i h. inside i (omega (arith, h, long))))
+pub shifted-long : (lanes : List ℕ) (low : ℕ) → length lanes ≡ 16 → length (shifted lanes low) ≡ 16
+shifted-long lanes low long = length-zip2 (λ x s. x / 2 ^ s) lanes (replicate 16 low) long ∙ long
 
--- the byte of a level is one of the sixteen that are read
-pub place-below : (step i : ℕ) → step ≤ 8 → i < 16 → i * step / 8 < 16
-place-below step i few h =
-    let most : i * step ≤ 15 * 8 = mul-le i step 15 8 (omega (arith, h)) few in
-    omega (arith, most)
+shifted-at : (lanes : List ℕ) (low k : ℕ) → length lanes ≡ 16 → k < 16 → get_or (shifted lanes low) k 0 ≡ get_or lanes k 0 / 2 ^ low
+shifted-at lanes low k long h =
+    get_or-zip2 (λ x s. x / 2 ^ s) lanes (replicate 16 low) k 0 0 0 (omega (arith, h, long)) h
+    ∙ ap (λ s. get_or lanes k 0 / 2 ^ s) (get_or-replicate 16 k low 0 h)
 
--- what the table has for four bits of each byte
-module _ (bytes places shifts table : List ℕ) (places_long : length places ≡ 16) (shifts_long : length shifts ≡ 16)
-    (places_inside : (i : ℕ) → i < 16 → get_or places i 0 < 16) where
-  abbrev picked : List ℕ
-  picked = swz_l w8 16 bytes 0 places
+-- and their lowest bits
+masked : (lanes : List ℕ) (mask width k : ℕ) → mask ≡ 2 ^ width - 1 → length lanes ≡ 16 → k < 16
+    → get_or (zip2 bit_and lanes (replicate 16 mask)) k 0 ≡ get_or lanes k 0 % 2 ^ width
+masked lanes mask width k is long h =
+    get_or-zip2 bit_and lanes (replicate 16 mask) k 0 0 0 (omega (arith, h, long)) h
+    ∙ ap (bit_and (get_or lanes k 0)) (get_or-replicate 16 k mask 0 h ∙ is)
+    ∙ and_mask (get_or lanes k 0) width
 
-  abbrev shifted : List ℕ
-  shifted = zip2 (λ x s. x / 2 ^ s) picked shifts
+-- all of a number
+from-start : (x width : ℕ) → x / 2 ^ (width * 0) ≡ x
+from-start x width = let none : width * 0 ≡ 0 = grind arith in let whole : x / 2 ^ 0 ≡ x = omega arith in ap (λ n. x / 2 ^ n) none ∙ whole
 
-  abbrev low_bits : List ℕ
-  low_bits = zip2 bit_and shifted (replicate 16 15)
+-- where the lanes of two vectors in turn come from
+abbrev first_turn : List ℕ
+first_turn = 0 ∷ 16 ∷ 1 ∷ 17 ∷ 2 ∷ 18 ∷ 3 ∷ 19 ∷ 4 ∷ 20 ∷ 5 ∷ 21 ∷ 6 ∷ 22 ∷ 7 ∷ 23 ∷ []
 
-  picked-long : length picked ≡ 16
-  picked-long = length-swz_l w8 16 bytes 0 places ∙ places_long
+abbrev second_turn : List ℕ
+second_turn = 8 ∷ 24 ∷ 9 ∷ 25 ∷ 10 ∷ 26 ∷ 11 ∷ 27 ∷ 12 ∷ 28 ∷ 13 ∷ 29 ∷ 14 ∷ 30 ∷ 15 ∷ 31 ∷ []
 
-  shifted-long : length shifted ≡ 16
-  shifted-long = length-zip2 (λ x s. x / 2 ^ s) picked shifts (picked-long ∙ sym shifts_long) ∙ picked-long
+module _ (xs ys : List ℕ) (lane : ℕ → ℕ → ℕ) (long : length xs ≡ 16) (of_first : (k : ℕ) → k < 16 → get_or xs k 0 ≡ lane k 0)
+    (of_second : (k : ℕ) → k < 16 → get_or ys k 0 ≡ lane k 1) where
+  in-both : (place k r : ℕ) → place ≡ 16 * r + k → k < 16 → r < 2 → get_or (xs ++ ys) place 0 ≡ lane k r
+  in-both place k zero is h few =
+      let there : place ≡ k = omega (arith, is) in
+      ap (λ n. get_or (xs ++ ys) n 0) there ∙ get_or_append_left xs ys 0 k (omega (arith, h, long)) ∙ of_first k h
+  in-both place k (suc zero) is h few =
+      let there : place ≡ length xs + k = omega (arith, is, long) in
+      ap (λ n. get_or (xs ++ ys) n 0) there ∙ get_or-append-add xs ys k 0 ∙ of_second k h
+  in-both place k (suc (suc r)) is h few = absurd (omega (arith, few))
 
-  pub low_bits-long : length low_bits ≡ 16
-  low_bits-long = length-zip2 bit_and shifted (replicate 16 15) (shifted-long ∙ sym (length-replicate {A = ℕ} 16 15)) ∙ shifted-long
+  in-turn : (places : List ℕ) (i n : ℕ) → length places ≡ 16 → i < 16 → n < 32 → get_or places i 0 ≡ 16 * (n % 2) + n / 2
+      → get_or (pick_l 0 (xs ++ ys) places) i 0 ≡ lane (n / 2) (n % 2)
+  in-turn places i n all h inside is =
+      get_or-map (λ k. get_or (xs ++ ys) k 0) places i 0 0 (omega (arith, h, all))
+      ∙ in-both (get_or places i 0) (n / 2) (n % 2) is (omega (arith, inside)) (omega arith)
 
-  picked-at : (i : ℕ) → i < 16 → get_or picked i 0 ≡ get_or bytes (get_or places i 0) 0
-  picked-at i h =
-      let place : 16 * ((0 + i) / 16) + get_or places i 0 ≡ get_or places i 0 = omega (arith, h) in
-      get_or-swz_l_below w8 16 bytes 0 places i (omega (arith, h, places_long)) (places_inside i h) ∙ ap (λ n. get_or bytes n 0) place
+  first-turns : (i : ℕ) → i < 16 → get_or (pick_l 0 (xs ++ ys) first_turn) i 0 ≡ lane (i / 2) (i % 2)
+  first-turns i h =
+      in-turn first_turn i i refl h (omega (arith, h))
+      (eqb-true _ _ (agree_below_at (λ n. eqb (get_or first_turn n 0) (16 * (n % 2) + n / 2)) (λ _. true) 16 i refl h))
 
-  shifted-at : (i : ℕ) → i < 16 → get_or shifted i 0 ≡ get_or bytes (get_or places i 0) 0 / 2 ^ get_or shifts i 0
-  shifted-at i h =
-      get_or-zip2 (λ x s. x / 2 ^ s) picked shifts i 0 0 0 (omega (arith, h, picked-long)) (omega (arith, h, shifts_long))
-      ∙ ap (λ x. x / 2 ^ get_or shifts i 0) (picked-at i h)
+  second-turns : (i : ℕ) → i < 16 → get_or (pick_l 0 (xs ++ ys) second_turn) i 0 ≡ lane ((16 + i) / 2) ((16 + i) % 2)
+  second-turns i h =
+      in-turn second_turn i (16 + i) refl h (omega (arith, h))
+      (eqb-true _ _ (agree_below_at (λ n. eqb (get_or second_turn n 0) (16 * ((16 + n) % 2) + (16 + n) / 2)) (λ _. true) 16 i refl h))
 
-  low_bits-at : (i : ℕ) → i < 16 → get_or low_bits i 0 ≡ get_or bytes (get_or places i 0) 0 / 2 ^ get_or shifts i 0 % 16
-  low_bits-at i h =
-      get_or-zip2 bit_and shifted (replicate 16 15) i 0 0 0 (omega (arith, h, shifted-long)) (omega (arith, h, length-replicate {A = ℕ} 16 15))
-      ∙ ap (bit_and (get_or shifted i 0)) (get_or-replicate 16 i 15 0 h)
-      ∙ and_mask (get_or shifted i 0) 4
-      ∙ ap (λ x. x % 16) (shifted-at i h)
+-- two vectors of the fields of each lane
+module _ (fields : List ℕ) (width : ℕ) (long : length fields ≡ 16) (narrow : width ≤ 4) where
+  abbrev mask : ℕ
+  mask = 1 * 2 ^ width % 256 - 1
 
-  low_bits-below : (i : ℕ) → i < 16 → get_or low_bits i 0 < 16
-  low_bits-below i h = omega (arith, low_bits-at i h)
+  abbrev lower : List ℕ
+  lower = zip2 bit_and fields (replicate 16 mask)
 
-  pub low_bits-inside : SwzOk w8 16 16 0 low_bits
-  low_bits-inside = places-inside low_bits low_bits-long low_bits-below
+  abbrev higher : List ℕ
+  higher = zip2 bit_and (shifted fields width) (replicate 16 mask)
 
-  pub looked_up-long : length (swz_l w8 16 table 0 low_bits) ≡ 16
-  looked_up-long = length-swz_l w8 16 table 0 low_bits ∙ low_bits-long
+  mask-is : mask ≡ 2 ^ width - 1
+  mask-is = ap (λ n. n - 1) (one_shl width 8 (omega (arith, narrow)))
 
-  pub looked_up-at : (i : ℕ) → i < 16
-      → get_or (swz_l w8 16 table 0 low_bits) i 0 ≡ get_or table (get_or bytes (get_or places i 0) 0 / 2 ^ get_or shifts i 0 % 16) 0
-  looked_up-at i h =
-      let place : 16 * ((0 + i) / 16) + get_or low_bits i 0 ≡ get_or low_bits i 0 = omega (arith, h) in
-      get_or-swz_l_below w8 16 table 0 low_bits i (omega (arith, h, low_bits-long)) (low_bits-below i h)
-      ∙ ap (λ n. get_or table n 0) (place ∙ low_bits-at i h)
+  lower-long : length lower ≡ 16
+  lower-long = length-zip2 bit_and fields (replicate 16 mask) long ∙ long
 
--- the code in the lowest of four bits
-low_code : (bits x : ℕ) → IsWidth bits → x % 16 % 2 ^ bits ≡ x % 2 ^ bits
-low_code bits x (inl e) = rw e (omega arith)
-low_code bits x (inr (inl e)) = rw e (omega arith)
-low_code bits x (inr (inr e)) = rw e (omega arith)
+  lower-at : (k : ℕ) → k < 16 → get_or lower k 0 ≡ get_or fields k 0 / 2 ^ (width * 0) % 2 ^ width
+  lower-at k h = masked fields mask width k mask-is long h ∙ ap (λ x. x % 2 ^ width) (sym (from-start (get_or fields k 0) width))
 
--- each level of a byte lies in it
-pub bits-inside : (low step per i : ℕ) → per * step ≡ 8 → low < step → low + i * step % 8 < 8
-bits-inside low step per i eight below =
-    let turned : step * per ≡ per * step = grind arith in
-    let some : 0 < per = some-step step per (turned ∙ eight) in
-    let whole : i / per * per + i % per ≡ i = div-add-mod' i per in
-    let apart : (i / per * per + i % per) * step ≡ i / per * (per * step) + i % per * step = grind arith in
-    let place : i * step ≡ i / per * 8 + i % per * step = ap (λ n. n * step) (sym whole) ∙ apart ∙ ap (λ n. i / per * n + i % per * step) eight in
-    omega (arith, place, in-byte low step per (i % per) eight below (mod_below i per some))
+  higher-at : (k : ℕ) → k < 16 → get_or higher k 0 ≡ get_or fields k 0 / 2 ^ (width * 1) % 2 ^ width
+  higher-at k h =
+      let one : width ≡ width * 1 = grind arith in
+      masked (shifted fields width) mask width k mask-is (shifted-long fields width long) h
+      ∙ ap (λ x. x % 2 ^ width) (shifted-at fields width k long h ∙ ap (λ n. get_or fields k 0 / 2 ^ n) one)
 
--- the levels of the bytes of vectors
-pub levels-of-vectors : (step per count : ℕ) → per * step ≡ 8 → per * (2 * step * count) ≡ 16 * count
-levels-of-vectors step per count eight =
-    let turned : per * (2 * step * count) ≡ 2 * count * (per * step) = grind arith in
-    turned ∙ ap (λ n. 2 * count * n) eight ∙ grind arith
+  pub first-half : (i : ℕ) → i < 16 → get_or (pick_l 0 (lower ++ higher) first_turn) i 0 ≡ field_at fields 2 width i
+  first-half = first-turns lower higher (λ k r. get_or fields k 0 / 2 ^ (width * r) % 2 ^ width) lower-long lower-at higher-at
 
--- as many vectors as there is room for
-pub vectors-inside : (step some room count : ℕ) → count ≡ min some (room / (2 * step)) → 2 * step * count ≤ room
-vectors-inside step some room count is =
-    let used : ℕ = 2 * step in
-    let no_more : used * count ≤ used * (room / used) = mul-le used count used (room / used) (omega arith) (omega (arith, is)) in
-    omega (arith, no_more, mul-div-le room used)
+  pub second-half : (i : ℕ) → i < 16 → get_or (pick_l 0 (lower ++ higher) second_turn) i 0 ≡ field_at fields 2 width (16 + i)
+  second-half = second-turns lower higher (λ k r. get_or fields k 0 / 2 ^ (width * r) % 2 ^ width) lower-long lower-at higher-at
 
--- the byte of level i of vector v
-pub code-in-vectors : (array table : List ℕ) (bits byte low step v i : ℕ) → IsWidth bits → step ≤ 8 → low + i * step % 8 < 8 → i < 16
-    → ((x : ℕ) → x < 16 → get_or table x 0 ≡ taken_of bits (x % 2 ^ bits))
-    → get_or table (get_or (chunk (byte + 2 * step * v) 16 array) (i * step / 8) 0 / 2 ^ (low + i * step % 8) % 16) 0
-    ≡ taken_of bits (code_at array bits (8 * byte + low + (16 * v + i) * step))
-code-in-vectors array table bits byte low step v i width few below h is =
-    let at : ℕ = byte + 2 * step * v + i * step / 8 in
-    let bit : ℕ = low + i * step % 8 in
-    let x : ℕ = get_or array at 0 / 2 ^ bit in
-    let apart : 8 * byte + low + (16 * v + i) * step ≡ 8 * byte + low + 8 * (2 * step * v) + i * step = grind arith in
-    let index : (8 * byte + low + (16 * v + i) * step) / 8 ≡ at = omega (arith, apart, below) in
-    let rest : (8 * byte + low + (16 * v + i) * step) % 8 ≡ bit = omega (arith, apart, below) in
-    ap (λ y. get_or table (y / 2 ^ bit % 16) 0) (get_or-chunk (byte + 2 * step * v) 16 array (i * step / 8) 0 (place-below step i few h))
-    ∙ is (x % 16) (omega arith)
-    ∙ ap (taken_of bits) (low_code bits x width
-    ∙ sym (ap (λ n. slice_index array n / 2 ^ ((8 * byte + low + (16 * v + i) * step) % 8) % 2 ^ bits) index ∙ ap (λ n. slice_index array at / 2 ^ n % 2 ^ bits) rest))
+-- what a table has for each lane
+pub fields-inside : (fields : List ℕ) → length fields ≡ 16 → ((i : ℕ) → i < 16 → get_or fields i 0 < 16) → SwzOk w8 16 16 0 fields
+fields-inside fields long below =
+    SwzOk-from_below w8 16 1 16 0 fields refl (omega (arith, long))
+    (Each1-from_get_or (λ x. x < 16) fields 0 (λ i h. below i (omega (arith, h, long))))
 
--- what holds of each item before a vector and of each of its lanes holds of each where it is written
-pub vector-written : (P : ℕ → ℕ → Type 0) (at : ℕ) (xs lanes : List ℕ) → length lanes ≡ 16 → at + 16 ≤ length xs
-    → ((k : ℕ) → k < at → P k (get_or xs k 0)) → ((i : ℕ) → i < 16 → P (at + i) (get_or lanes i 0))
-    → (k : ℕ) → k < at + 16 → P k (get_or (put_chunk at xs lanes) k 0)
-vector-written P at xs lanes long room before here k h =
-    elim (cases_lt k at) [
-      | inl below ↦ subst (P k) (sym (get_or-put_chunk_below at xs lanes k 0 below)) (before k below)
-      | inr past ↦
-          let i : ℕ = k - at in
-          let place : at + i ≡ k = omega (arith, past) in
-          let lane : i < 16 = omega (arith, past, h) in
-          let written : get_or (put_chunk at xs lanes) (at + i) 0 ≡ get_or lanes i 0 =
-          get_or-put_chunk_at at xs lanes i 0 (omega (arith, lane, long)) (omega (arith, room, long)) in
-          subst (λ j. P j (get_or (put_chunk at xs lanes) j 0)) place (subst (P (at + i)) (sym written) (here i lane))
-    ]
+pub looked_up : (table fields : List ℕ) (i : ℕ) → length fields ≡ 16 → i < 16 → get_or fields i 0 < 16
+    → get_or (swz_l w8 16 table 0 fields) i 0 ≡ get_or table (get_or fields i 0) 0
+looked_up table fields i long h below =
+    let place : 16 * ((0 + i) / 16) + get_or fields i 0 ≡ get_or fields i 0 = omega (arith, h) in
+    get_or-swz_l_below w8 16 table 0 fields i (omega (arith, h, long)) below ∙ ap (λ n. get_or table n 0) place
+
+-- what a table has for the bits behind the lowest
+pub behind-at : (table : List ℕ) (width i : ℕ) → i < 16
+    → get_or (swz_l w8 16 table 0 (shifted (0 ∷ 1 ∷ 2 ∷ 3 ∷ 4 ∷ 5 ∷ 6 ∷ 7 ∷ 8 ∷ 9 ∷ 10 ∷ 11 ∷ 12 ∷ 13 ∷ 14 ∷ 15 ∷ []) width)) i 0 ≡ get_or table (i / 2 ^ width) 0
+behind-at table width i h =
+    let all : List ℕ = 0 ∷ 1 ∷ 2 ∷ 3 ∷ 4 ∷ 5 ∷ 6 ∷ 7 ∷ 8 ∷ 9 ∷ 10 ∷ 11 ∷ 12 ∷ 13 ∷ 14 ∷ 15 ∷ [] in
+    let each : get_or all i 0 ≡ i = eqb-true _ _ (agree_below_at (λ n. eqb (get_or all n 0) n) (λ _. true) 16 i refl h) in
+    let lane : get_or (shifted all width) i 0 ≡ i / 2 ^ width = shifted-at all width i refl h ∙ ap (λ n. n / 2 ^ width) each in
+    looked_up table (shifted all width) i refl h (omega (arith, h, lane, shr_le i width)) ∙ ap (λ n. get_or table n 0) lane
+
+-- what a table has for the two fields of each lane, where it has the same for all whose lowest bits are the same
+module _ (table behind fields : List ℕ) (width : ℕ) (long : length fields ≡ 16) (below : (k : ℕ) → k < 16 → get_or fields k 0 < 16)
+    (behind_is : (x : ℕ) → x < 16 → get_or behind x 0 ≡ get_or table (x / 2 ^ width) 0)
+    (alike : (x : ℕ) → x < 16 → get_or table x 0 ≡ get_or table (x % 2 ^ width) 0) where
+  abbrev firsts : List ℕ
+  firsts = swz_l w8 16 table 0 fields
+
+  abbrev seconds : List ℕ
+  seconds = swz_l w8 16 behind 0 fields
+
+  abbrev field : ℕ → ℕ → ℕ
+  field k r = get_or table (get_or fields k 0 / 2 ^ (width * r) % 2 ^ width) 0
+
+  same : (k r : ℕ) → k < 16 → get_or table (get_or fields k 0 / 2 ^ (width * r)) 0 ≡ field k r
+  same k r h =
+      let x : ℕ = get_or fields k 0 in
+      alike (x / 2 ^ (width * r)) (omega (arith, below k h, shr_le x (width * r)))
+
+  firsts-at : (k : ℕ) → k < 16 → get_or firsts k 0 ≡ field k 0
+  firsts-at k h =
+      looked_up table fields k long h (below k h)
+      ∙ ap (λ x. get_or table x 0) (sym (from-start (get_or fields k 0) width)) ∙ same k 0 h
+
+  seconds-at : (k : ℕ) → k < 16 → get_or seconds k 0 ≡ field k 1
+  seconds-at k h =
+      let one : width ≡ width * 1 = grind arith in
+      looked_up behind fields k long h (below k h)
+      ∙ behind_is (get_or fields k 0) (below k h)
+      ∙ ap (λ n. get_or table (get_or fields k 0 / 2 ^ n) 0) one ∙ same k 1 h
+
+  firsts-long : length firsts ≡ 16
+  firsts-long = length-swz_l w8 16 table 0 fields ∙ long
+
+  pub put-pairs : (codes : List ℕ) → length codes ≡ 32 → (i : ℕ) → i < 32
+      → get_or (put_chunk 16 (put_chunk 0 codes (pick_l 0 (firsts ++ seconds) first_turn)) (pick_l 0 (firsts ++ seconds) second_turn)) i 0
+      ≡ get_or table (field_at fields 2 width i) 0
+  put-pairs codes all i h =
+      let first : List ℕ = pick_l 0 (firsts ++ seconds) first_turn in
+      let second : List ℕ = pick_l 0 (firsts ++ seconds) second_turn in
+      let room : length (put_chunk 0 codes first) ≡ 32 = length-put_chunk 0 codes first ∙ all in
+      elim (cases_lt i 16) [
+        | inl front ↦
+            let here : i ≡ 0 + i = omega arith in
+            get_or-put_chunk_below 16 (put_chunk 0 codes first) second i 0 front
+            ∙ ap (λ n. get_or (put_chunk 0 codes first) n 0) here
+            ∙ get_or-put_chunk_at 0 codes first i 0 front (omega (arith, all))
+            ∙ first-turns firsts seconds field firsts-long firsts-at seconds-at i front
+        | inr past ↦
+            let k : ℕ = i - 16 in
+            let place : 16 + k ≡ i = omega (arith, past) in
+            let lane : k < 16 = omega (arith, past, h) in
+            ap (λ n. get_or (put_chunk 16 (put_chunk 0 codes first) second) n 0) (sym place)
+            ∙ get_or-put_chunk_at 16 (put_chunk 0 codes first) second k 0 lane (omega (arith, room))
+            ∙ second-turns firsts seconds field firsts-long firsts-at seconds-at k lane
+            ∙ ap (λ n. get_or table (field_at fields 2 width n) 0) place
+      ]
+
+-- the four bits of a lane from a bit on
+pub four-at : (lanes : List ℕ) (low i : ℕ) → length lanes ≡ 16 → i < 16
+    → get_or (zip2 bit_and (shifted lanes low) (replicate 16 15)) i 0 ≡ get_or lanes i 0 / 2 ^ low % 2 ^ 4
+four-at lanes low i long h =
+    masked (shifted lanes low) 15 4 i refl (shifted-long lanes low long) h ∙ ap (λ x. x % 2 ^ 4) (shifted-at lanes low i long h)
+
+-- what a table has for each field of the lanes of two vectors, one behind the other
+pub put-both : (table fields front behind : List ℕ) (per width n : ℕ) → length front ≡ n
+    → ((i : ℕ) → i < n → get_or front i 0 ≡ get_or table (field_at fields per width i) 0)
+    → ((i : ℕ) → i < n → get_or behind i 0 ≡ get_or table (field_at fields per width (n + i)) 0)
+    → (i : ℕ) → i < n + n → get_or (front ++ behind) i 0 ≡ get_or table (field_at fields per width i) 0
+put-both table fields front behind per width n long first second i h =
+    each-joined (λ m code. code ≡ get_or table (field_at fields per width m) 0) front behind n
+    (λ k below. first k (omega (arith, below, long)))
+    (λ k below. subst (λ m. get_or behind k 0 ≡ get_or table (field_at fields per width (m + k)) 0) (sym long) (second k below))
+    i (omega (arith, h, long))
+
+-- and of each field of their fields
+pub put-halves : (table fields first second front behind : List ℕ) (per width : ℕ) → 0 < per → length front ≡ per * 16
+    → ((k : ℕ) → k < 16 → get_or first k 0 ≡ field_at fields 2 (per * width) k)
+    → ((k : ℕ) → k < 16 → get_or second k 0 ≡ field_at fields 2 (per * width) (16 + k))
+    → ((i : ℕ) → i < per * 16 → get_or front i 0 ≡ get_or table (field_at first per width i) 0)
+    → ((i : ℕ) → i < per * 16 → get_or behind i 0 ≡ get_or table (field_at second per width i) 0)
+    → (i : ℕ) → i < per * 16 + per * 16 → get_or (front ++ behind) i 0 ≡ get_or table (field_at fields (2 * per) width i) 0
+put-halves table fields first second front behind per width some long first_is second_is front_is behind_is =
+    put-both table fields front behind (2 * per) width (per * 16) long
+    (λ i h.
+    let place : per * 0 + i ≡ i = grind arith in
+    front_is i h
+    ∙ ap (λ x. get_or table x 0)
+    (field-of-half fields first per width 0 i some (λ k below. first_is k below ∙ ap (field_at fields 2 (per * width)) (omega arith)) h
+    ∙ ap (field_at fields (2 * per) width) place))
+    (λ i h. behind_is i h ∙ ap (λ x. get_or table x 0) (field-of-half fields second per width 16 i some second_is h))

@@ -1,35 +1,41 @@
-use Rattle.std.proofs.Common.{◌≡◌, ℕ, ◌+◌, ◌-◌, ◌*◌, ◌%◌, ◌<◌, ◌≤◌, length, slice_index, sym, subst, ap, ◌∙◌, arith}
-use Rattle.std.proofs.lemmas.Nat.{mod_below}
+use Rattle.std.proofs.Common.{◌≡◌, ℕ, ◌+◌, ◌-◌, ◌*◌, ◌/◌, ◌%◌, ◌<◌, ◌≤◌, length, slice_index, sym, subst, ap, ◌∙◌, arith}
+use Rattle.std.proofs.Math.Nat.{mul-div-le}
 use Rattle.sample_unpack.specs.Level.{code_at}
 use Rattle.value_codes.specs.Taken.{taken_of}
-use Rattle.value_codes.proofs.ByteLemmas.{some-step, behind-head, behind-bytes, each-of-three}
-use Rattle.value_codes.proofs.VectorLemmas.{bits-inside, levels-of-vectors, vectors-inside}
+use Rattle.value_codes.proofs.ByteLemmas.{behind-head, behind-bytes, each-of-three, per-is, vectors-inside}
 use Rattle.value_codes.proofs.take.take_whole.Goals as goal
 
-pub take_vectors-requires-clause-low : goal.take_vectors-requires-clause-low
-take_vectors-requires-clause-low c i =
+pub take_vectors-requires-clause-whole : goal.take_vectors-requires-clause-whole
+take_vectors-requires-clause-whole c =
     let a = c.args in
-    let below : a.shift % a.step < a.step = mod_below a.shift a.step (some-step a.per a.step c.requires.step) in
-    bits-inside (a.shift % a.step) a.step a.per i c.requires.step below
+    let count : ℕ = (length a.codes.now - c.min-head.result) / (16 * a.per) in
+    c.split_at_mut-middle.ensures.front_len ∙ ap (λ n. 16 * n * count) (per-is a.per a.step c.requires.step)
 
-pub overflow_add-byte : goal.overflow_add-byte
-overflow_add-byte c = omega (arith, c.requires.inside 0 c.requires.some)
+pub take_vectors-requires-clause-inside : goal.take_vectors-requires-clause-inside
+take_vectors-requires-clause-inside c =
+    let a = c.args in
+    vectors-inside a.byte a.shift a.bits a.step a.per (length a.codes.now) c.min-head.result (length a.array.now) c.requires.step c.requires.shift
+    (omega (arith, c.requires.width)) c.requires.some c.min-head.ensures c.requires.inside
 
 pub overflow_add-byte-2 : goal.overflow_add-byte-2
 overflow_add-byte-2 c = omega (arith, c.requires.inside 0 c.requires.some)
 
 pub overflow_add-byte-3 : goal.overflow_add-byte-3
 overflow_add-byte-3 c =
-    omega (arith, c.requires.inside 0 c.requires.some, c.saturating_sub-room.ensures, vectors-inside c.args.step _ _ c.min-count.result c.min-count.ensures)
+    let a = c.args in
+    let within : a.byte + 1 + 16 * ((length a.codes.now - c.min-head.result) / (16 * a.per)) ≤ length a.array.now =
+    vectors-inside a.byte a.shift a.bits a.step a.per (length a.codes.now) c.min-head.result (length a.array.now) c.requires.step c.requires.shift
+    (omega (arith, c.requires.width)) c.requires.some c.min-head.ensures c.requires.inside in
+    omega (arith, within)
 
 pub take_each-requires-2-clause-inside : goal.take_each-requires-2-clause-inside
 take_each-requires-2-clause-inside c i h =
     let a = c.args in
     let n : ℕ = length a.codes.now in
     let head : ℕ = c.min-head.result in
-    let count : ℕ = c.min-count.result in
-    let bytes : ℕ = 2 * a.step * count in
-    let vectors : a.per * bytes ≡ 16 * count = levels-of-vectors a.step a.per count c.requires.step in
+    let count : ℕ = (n - head) / (16 * a.per) in
+    let bytes : ℕ = 16 * count in
+    let vectors : a.per * bytes ≡ 16 * a.per * count = grind arith in
     let behind : a.per * bytes + i < n - head =
     omega (arith, h, vectors, c.split_at_mut-front.ensures.back_len, c.split_at_mut-middle.ensures.back_len) in
     let place : 8 * a.byte + a.shift + (head + (a.per * bytes + i)) * a.step ≡ 8 * (a.byte + 1 + bytes) + a.shift % a.step + i * a.step =
@@ -41,15 +47,15 @@ returns c i h =
     let a = c.args in
     let n : ℕ = length a.codes.now in
     let head : ℕ = c.min-head.result in
-    let count : ℕ = c.min-count.result in
-    let bytes : ℕ = 2 * a.step * count in
-    let vectors : a.per * bytes ≡ 16 * count = levels-of-vectors a.step a.per count c.requires.step in
-    let levels : 16 * count ≤ n - head = omega (arith, c.min-count.ensures) in
+    let count : ℕ = (n - head) / (16 * a.per) in
+    let bytes : ℕ = 16 * count in
+    let vectors : a.per * bytes ≡ 16 * a.per * count = grind arith in
+    let levels : 16 * a.per * count ≤ n - head = mul-div-le (n - head) (16 * a.per) in
     let P : ℕ → ℕ → Type 0 = λ m code. code ≡ taken_of a.bits (code_at a.array.now a.bits (8 * a.byte + a.shift + m * a.step)) in
     let place : ℕ → ℕ = λ m. 8 * a.byte + a.shift + m * a.step in
     let front : length c.take_each.new.codes ≡ head = c.take_each.auto.codes ∙ c.split_at_mut-front.ensures.front_len in
-    let middle : length c.take_vectors.new.codes ≡ 16 * count = c.take_vectors.auto.codes ∙ c.split_at_mut-middle.ensures.front_len in
-    let rest : length c.take_each-2.new.codes ≡ n - head - 16 * count =
+    let middle : length c.take_vectors.new.codes ≡ 16 * a.per * count = c.take_vectors.auto.codes ∙ c.split_at_mut-middle.ensures.front_len in
+    let rest : length c.take_each-2.new.codes ≡ n - head - 16 * a.per * count =
     omega (arith, c.take_each-2.auto.codes, c.split_at_mut-front.ensures.back_len, c.split_at_mut-middle.ensures.back_len) in
     let second : (k : ℕ) → k < length c.take_vectors.new.codes → P (length c.take_each.new.codes + k) (slice_index c.take_vectors.new.codes k) =
     λ k within.

@@ -1,9 +1,0 @@
--- The places so far.
-use Rattle.std.proofs.Common.{◌≡◌, ◌*◌, ◌/◌, ◌<◌, ℕ, length, slice_index}
-use Rattle.value_codes.proofs.take.places.Given as goal
-
-abbrev pub invariant-loop-i : goal.invariant-loop-i
-invariant-loop-i l = record {
-  long : length l.lanes ≡ 16;
-  done : (i : ℕ) → i < l.i → slice_index l.lanes i ≡ i * l.step / 8;
-}

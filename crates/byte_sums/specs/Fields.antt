@@ -36,6 +36,3 @@ triple_product a b lag from k = pair_product a b lag from k + pair_product a b l
 pub record IsLevel (x : ℕ) : Type 0 where
   pub even : x % 2 ≡ 0
   pub small : x ≤ 6
-
-abbrev pub AreLevels : List ℕ → Type 0
-AreLevels xs = (k : ℕ) → IsLevel (slice_index xs k)

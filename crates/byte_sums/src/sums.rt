@@ -3,7 +3,7 @@ ghost use Rattle.std.specs.Prelude.{◌≡◌, ◌<◌, ◌≤◌, ◌+◌, ◌*
 ghost use Rattle.byte_sums.specs.Sums.{AreAtMost, lag_sum};
 
 use crate::dots::{four_dot_sums, one_sum};
-use crate::levels::{have_levels, level_sums};
+use crate::levels::level_sums;
 use crate::shorts::four_short_sums;
 
 // The greatest byte for lanes of 16 bits.
@@ -60,9 +60,7 @@ pub fn lag_sums(greatest: u8, a: &[u8], b: &[u8], out: &mut [u32])
     ensures len { length out.new ≡ length out.old }
     ensures sums { (i : ℕ) → i < length out.old → slice_index out.new i ≡ lag_sum a.now b.now i (length a.now) }
 {
-    if greatest <= SHORT && have_levels(a, b, out.len()) {
-        level_sums(a, b, out);
-    } else {
+    if greatest > SHORT || !level_sums(a, b, out) {
         each_lag_sums(greatest, a, b, out);
     }
 }

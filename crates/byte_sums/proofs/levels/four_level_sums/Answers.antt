@@ -1,33 +1,26 @@
-use Rattle.std.proofs.Common.{◌≤◌, ℕ, ◌+◌, ◌-◌, ◌*◌, ◌/◌, ◌%◌, length, get_or, ap, sym, ◌∙◌, arith, add_assoc}
-use Rattle.byte_sums.proofs.Halves.{half-small, level-sum, lower-within, upper-within}
+use Rattle.std.proofs.Common.{◌≤◌, ◌+◌, ◌-◌, ◌*◌, ◌/◌, ◌%◌, length, get_or, ap, sym, ◌∙◌, arith, add_assoc}
+use Rattle.byte_sums.proofs.Halves.{halves-sum, lower-within, upper-within}
 use Rattle.byte_sums.proofs.levels.four_level_sums.Goals as goal
-
-pub field_sums-sums-requires-clause-a : goal.field_sums-sums-requires-clause-a
-field_sums-sums-requires-clause-a c = λ k. omega (arith, c.requires.mine k, half-small (get_or c.args.a.now k 0) (c.requires.a k))
 
 pub overflow_mul-result : goal.overflow_mul-result
 overflow_mul-result c =
     let n = 96 * ((length c.args.a.now + 96 - 1) / 96) in
-    let small : (k : ℕ) → get_or c.args.mine.now k 0 ≤ 3 = λ k. omega (arith, c.requires.mine k, half-small (get_or c.args.a.now k 0) (c.requires.a k)) in
-    record { fits = omega (arith, c.requires.size, c.field_sums-sums.ensures.first.0, lower-within c.args.mine.now c.args.theirs.now c.args.lag n small c.requires.fields) }
+    record { fits = omega (arith, c.requires.size, c.field_sums-sums.ensures.first.0, lower-within c.args.mine.now c.args.theirs.now c.args.lag n c.requires.small c.requires.fields) }
 
 pub overflow_mul-result-2 : goal.overflow_mul-result-2
 overflow_mul-result-2 c =
     let n = 96 * ((length c.args.a.now + 96 - 1) / 96) in
-    let small : (k : ℕ) → get_or c.args.mine.now k 0 ≤ 3 = λ k. omega (arith, c.requires.mine k, half-small (get_or c.args.a.now k 0) (c.requires.a k)) in
-    record { fits = omega (arith, c.requires.size, c.field_sums-sums.ensures.first.1, lower-within c.args.mine.now c.args.theirs.now (c.args.lag + 1) n small c.requires.fields) }
+    record { fits = omega (arith, c.requires.size, c.field_sums-sums.ensures.first.1, lower-within c.args.mine.now c.args.theirs.now (c.args.lag + 1) n c.requires.small c.requires.fields) }
 
 pub overflow_mul-result-3 : goal.overflow_mul-result-3
 overflow_mul-result-3 c =
     let n = 96 * ((length c.args.a.now + 96 - 1) / 96) in
-    let small : (k : ℕ) → get_or c.args.mine.now k 0 ≤ 3 = λ k. omega (arith, c.requires.mine k, half-small (get_or c.args.a.now k 0) (c.requires.a k)) in
-    record { fits = omega (arith, c.requires.size, c.field_sums-sums.ensures.second.0, upper-within c.args.mine.now c.args.theirs.now c.args.lag n small c.requires.fields) }
+    record { fits = omega (arith, c.requires.size, c.field_sums-sums.ensures.second.0, upper-within c.args.mine.now c.args.theirs.now c.args.lag n c.requires.small c.requires.fields) }
 
 pub overflow_mul-result-4 : goal.overflow_mul-result-4
 overflow_mul-result-4 c =
     let n = 96 * ((length c.args.a.now + 96 - 1) / 96) in
-    let small : (k : ℕ) → get_or c.args.mine.now k 0 ≤ 3 = λ k. omega (arith, c.requires.mine k, half-small (get_or c.args.a.now k 0) (c.requires.a k)) in
-    record { fits = omega (arith, c.requires.size, c.field_sums-sums.ensures.second.1, upper-within c.args.mine.now c.args.theirs.now (c.args.lag + 1) n small c.requires.fields) }
+    record { fits = omega (arith, c.requires.size, c.field_sums-sums.ensures.second.1, upper-within c.args.mine.now c.args.theirs.now (c.args.lag + 1) n c.requires.small c.requires.fields) }
 
 pub returns-clause-first : goal.returns-clause-first
 returns-clause-first c =
@@ -38,10 +31,10 @@ returns-clause-first c =
     let n = 96 * ((length a + 96 - 1) / 96) in
     let all : length a ≤ n = omega arith in (
       ap (λ s. 4 * s) c.field_sums-sums.ensures.first.0
-          ∙ level-sum a b c.args.mine.now (λ k. get_or theirs (lag + k) 0 % 64) lag n c.requires.a c.requires.b c.requires.mine all
+          ∙ halves-sum a b c.args.mine.now (λ k. get_or theirs (lag + k) 0 % 64) lag n c.requires.mine c.requires.small all
           (λ k lt. c.requires.near (lag + k) (omega (arith, lt, c.requires.lag))),
       ap (λ s. 4 * s) c.field_sums-sums.ensures.first.1
-          ∙ level-sum a b c.args.mine.now (λ k. get_or theirs (lag + 1 + k) 0 % 64) (lag + 1) n c.requires.a c.requires.b c.requires.mine all
+          ∙ halves-sum a b c.args.mine.now (λ k. get_or theirs (lag + 1 + k) 0 % 64) (lag + 1) n c.requires.mine c.requires.small all
           (λ k lt. c.requires.near (lag + 1 + k) (omega (arith, lt, c.requires.lag))),
     )
 
@@ -55,9 +48,9 @@ returns-clause-second c =
     let n = 96 * ((length a + 96 - 1) / 96) in
     let all : length a ≤ n = omega arith in (
       ap (λ s. 4 * s) c.field_sums-sums.ensures.second.0
-          ∙ level-sum a b c.args.mine.now (λ k. get_or theirs (lag + k) 0 / 64) (far + lag) n c.requires.a c.requires.b c.requires.mine all
-          (λ k lt. c.requires.upper (lag + k) (omega (arith, lt, c.requires.lag)) ∙ ap (λ p. get_or b p 0 / 2) (sym (add_assoc far lag k))),
+          ∙ halves-sum a b c.args.mine.now (λ k. get_or theirs (lag + k) 0 / 64) (far + lag) n c.requires.mine c.requires.small all
+          (λ k lt. c.requires.upper (lag + k) (omega (arith, lt, c.requires.lag)) ∙ ap (λ p. get_or b p 0) (sym (add_assoc far lag k))),
       ap (λ s. 4 * s) c.field_sums-sums.ensures.second.1
-          ∙ level-sum a b c.args.mine.now (λ k. get_or theirs (lag + 1 + k) 0 / 64) (far + (lag + 1)) n c.requires.a c.requires.b c.requires.mine all
-          (λ k lt. c.requires.upper (lag + 1 + k) (omega (arith, lt, c.requires.lag)) ∙ ap (λ p. get_or b p 0 / 2) (sym (add_assoc far (lag + 1) k))),
+          ∙ halves-sum a b c.args.mine.now (λ k. get_or theirs (lag + 1 + k) 0 / 64) (far + (lag + 1)) n c.requires.mine c.requires.small all
+          (λ k lt. c.requires.upper (lag + 1 + k) (omega (arith, lt, c.requires.lag)) ∙ ap (λ p. get_or b p 0) (sym (add_assoc far (lag + 1) k))),
     )

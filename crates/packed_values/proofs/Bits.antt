@@ -1,8 +1,10 @@
 -- Codes by the bits in which they differ from one.
-use Rattle.std.proofs.Common.{◌≡◌, ℕ, ◌+◌, ◌*◌, ◌/◌, ◌%◌, ◌<◌, ◌⊎◌, Bool, not, ◌||◌, ◌&&◌, eqb, List, length, get_or, Option, Some, None, IfSome, refl, sym, subst, ap, ◌∙◌, arith, inl, inr, bit_and, bit_or, bit_xor}
+use Rattle.std.proofs.Common.{◌≡◌, ℕ, zero, suc, ◌+◌, ◌-◌, ◌*◌, ◌/◌, ◌%◌, ◌<◌, ◌≤◌, ◌⊎◌, Bool, not, ◌||◌, ◌&&◌, eqb, List, [], ◌∷◌, length, replicate, get_or, Option, Some, None, IfSome, refl, sym, subst, ap, ◌∙◌, arith, inl, inr, bit_and, bit_or, bit_xor}
+use Rattle.std.specs.Simd.Lanes.{zip2, chunk, fold_l}
 use Rattle.std.proofs.lemmas.Bool.{and_from, and_parts, cases_lt, eqb-true, eq-eqb}
 use Rattle.std.proofs.lemmas.Nat.{and_assoc, and_comm, and_le_r, and_mask, and_or_apart, and_or_self, and_xor_apart, or_comm, xor_mod}
 use Rattle.std.proofs.lemmas.List.{get_or_past}
+use Rattle.std.proofs.lemmas.Simd.{get_or-chunk, get_or-replicate, get_or-zip2, length-chunk, length-replicate, length-zip2}
 use Rattle.packed_values.specs.Tables.{there_of, IsNarrow, IsBiasOf, IsAlong}
 use Rattle.packed_values.proofs.Tables.{all_below, implied}
 
@@ -20,6 +22,51 @@ neither a b m e = (none_of_both b a m (ap (λ x. bit_and x m) (or_comm b a) ∙ 
 
 pub none_of_either : (a b m : ℕ) → bit_and a m ≡ 0 → bit_and b m ≡ 0 → bit_and (bit_or a b) m ≡ 0
 none_of_either a b m e f = and_or_apart m a b f ∙ e
+
+each_lane : (m x : ℕ) (xs : List ℕ) → bit_and x m ≡ 0 → ((j : ℕ) → j < length xs → bit_and (get_or xs j 0) m ≡ 0)
+    → (j : ℕ) → j < length (x ∷ xs) → bit_and (get_or (x ∷ xs) j 0) m ≡ 0
+each_lane m x xs first rest zero lt = first
+each_lane m x xs first rest (suc j) lt = rest j (omega (arith, lt))
+
+-- the bits of all lanes
+pub none_of_lanes : (xs : List ℕ) (a m : ℕ) → bit_and (fold_l bit_or a xs) m ≡ 0
+    → (bit_and a m ≡ 0) × ((j : ℕ) → j < length xs → bit_and (get_or xs j 0) m ≡ 0)
+none_of_lanes [] a m e = (e, λ j lt. absurd (omega (arith, lt)))
+none_of_lanes (x ∷ xs) a m e =
+    let rest = none_of_lanes xs (bit_or a x) m e in
+    let both = neither a x m rest.0 in
+    (both.0, each_lane m x xs both.1 rest.1)
+
+-- a vector of codes more, whose bits go to the lanes
+pub none_gathered : (codes lanes : List ℕ) (at one m : ℕ) → at + 32 ≤ length codes → length lanes ≡ 32
+    → (((j : ℕ) → j < 32 → bit_and (get_or lanes j 0) m ≡ 0) → (k : ℕ) → k < at → bit_and (bit_xor (get_or codes k 0) one) m ≡ 0)
+    → ((j : ℕ) → j < 32 → bit_and (get_or (zip2 bit_or lanes (zip2 bit_xor (chunk at 32 codes) (replicate 32 one))) j 0) m ≡ 0)
+    → (k : ℕ) → k < at + 32 → bit_and (bit_xor (get_or codes k 0) one) m ≡ 0
+none_gathered codes lanes at one m room long before none k lt =
+    let ones = replicate 32 one in
+    let part : length (chunk at 32 codes) ≡ 32 = length-chunk at 32 codes room in
+    let differ_long : length (zip2 bit_xor (chunk at 32 codes) ones) ≡ 32 = length-zip2 bit_xor (chunk at 32 codes) ones (part ∙ sym (length-replicate 32 one)) ∙ part in
+    let lane = λ (j : ℕ) (l : j < 32).
+    let differ : get_or (zip2 bit_xor (chunk at 32 codes) ones) j 0 ≡ bit_xor (get_or codes (at + j) 0) one =
+    get_or-zip2 bit_xor (chunk at 32 codes) ones j 0 0 0 (omega (arith, l, part)) (omega (arith, l, length-replicate 32 one))
+    ∙ ap (λ x. bit_xor x (get_or ones j 0)) (get_or-chunk at 32 codes j 0 l)
+    ∙ ap (bit_xor (get_or codes (at + j) 0)) (get_or-replicate 32 j one 0 l) in
+    let both : bit_or (get_or lanes j 0) (bit_xor (get_or codes (at + j) 0) one) ≡ get_or (zip2 bit_or lanes (zip2 bit_xor (chunk at 32 codes) ones)) j 0 =
+    sym (get_or-zip2 bit_or lanes (zip2 bit_xor (chunk at 32 codes) ones) j 0 0 0 (omega (arith, l, long)) (omega (arith, l, differ_long)) ∙ ap (bit_or (get_or lanes j 0)) differ) in
+    neither (get_or lanes j 0) (bit_xor (get_or codes (at + j) 0) one) m (ap (λ x. bit_and x m) both ∙ none j l) in
+    elim (cases_lt k at) [
+      | inl l ↦ before (λ j lane_lt. (lane j lane_lt).0) k l
+      | inr past ↦
+          let place : at + (k - at) ≡ k = omega arith in
+          subst (λ i. bit_and (bit_xor (get_or codes i 0) one) m ≡ 0) place (lane (k - at) (omega (arith, lt))).1
+    ]
+
+pub length-gathered : (codes lanes : List ℕ) (at one : ℕ) → at + 32 ≤ length codes → length lanes ≡ 32
+    → length (zip2 bit_or lanes (zip2 bit_xor (chunk at 32 codes) (replicate 32 one))) ≡ 32
+length-gathered codes lanes at one room long =
+    let part : length (chunk at 32 codes) ≡ 32 = length-chunk at 32 codes room in
+    let differ_long = length-zip2 bit_xor (chunk at 32 codes) (replicate 32 one) (part ∙ sym (length-replicate 32 one)) ∙ part in
+    length-zip2 bit_or lanes (zip2 bit_xor (chunk at 32 codes) (replicate 32 one)) (long ∙ sym differ_long) ∙ long
 
 bits-from_narrow : (c : ℕ) → c < 256 → IsNarrow c → bit_and c 48 ≡ 0
 bits-from_narrow c lt narrow =

@@ -1,6 +1,6 @@
 -- The components of all codes, by computing.
 use Rattle.std.specs.Prelude.{if◌then◌else◌}
-use Rattle.std.proofs.Common.{◌≡◌, T, ℕ, ◌+◌, ◌*◌, ◌/◌, ◌%◌, ◌<◌, ◌≤◌, ◌⊎◌, Bool, true, false, not, ◌||◌, ◌&&◌, eqb, leb, ltb, List, [], length, get_or, ℤ, pos, ◌+ℤ◌, ◌-ℤ◌, ◌*ℤ◌, Some, None, refl, sym, subst, ap, ◌∙◌, arith, inl, inr, bit_xor}
+use Rattle.std.proofs.Common.{◌≡◌, T, ℕ, ◌+◌, ◌*◌, ◌/◌, ◌%◌, ◌<◌, ◌≤◌, ◌⊎◌, Bool, true, false, not, ◌||◌, ◌&&◌, eqb, ltb, List, [], length, get_or, ℤ, pos, ◌+ℤ◌, ◌-ℤ◌, ◌*ℤ◌, Some, None, refl, sym, subst, ap, ◌∙◌, arith, inl, inr, bit_xor}
 use Rattle.std.specs.Ordering.{int_eq}
 use Rattle.std.specs.Cmp.{signed_Decides}
 use Rattle.std.proofs.lemmas.Bool.{agree_below, agree_below_at, and_from, and_parts, cases_lt, eqb-true, eq-eqb, ltb-true, ne_eqb, or_cases}
@@ -11,15 +11,11 @@ use Rattle.corr_model.specs.Cell.{Value}
 use Rattle.value_codes.specs.Codes.{value_of}
 use Rattle.byte_streams.specs.Values.{re_of, im_of, component, byte_value}
 use Rattle.packed_values.specs.Tables.{biased_of, there_of, is_sign, are_signs, IsNarrow, IsBiasOf, IsAlong, weights_along}
-use Rattle.packed_values.proofs.Lanes.{place_of}
+use Rattle.packed_values.proofs.Lanes.{is_lane, place_of}
 use Rattle.packed_values.specs.declared.codes.TheConstants.{LEVELS, REAL, IMAGINARY, ALONG}
 
 pub all_below : (f : ℕ → Bool) → agree_below f (λ _. true) 256 ≡ true → (c : ℕ) → c < 256 → f c ≡ true
 all_below f all c lt = agree_below_at f (λ _. true) 256 c all lt
-
--- a place in the levels, or a lane that a look-up makes 0
-abbrev is_lane : ℕ → Bool
-is_lane j = leb 128 j || ltb j 16
 
 lane-turned : (half sign : ℕ) → half < 16 → is_sign sign ≡ true → is_lane (bit_xor half sign) ≡ true
 lane-turned half sign lt is =

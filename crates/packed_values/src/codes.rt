@@ -1,5 +1,5 @@
 //! The row of value codes, by look-ups in tables of sixteen.
-ghost use Rattle.std.specs.Prelude.{◌≡◌, ◌<◌, ◌≤◌, ◌+◌, ◌*◌, ◌^◌, ℕ, pos, ◌+ℤ◌, ◌-ℤ◌, Some, IfSome, true, length, map, slice_index, unsigned_abs, IsTrue};
+ghost use Rattle.std.specs.Prelude.{◌≡◌, ◌<◌, ◌≤◌, ◌+◌, ◌*◌, ◌^◌, ◌++◌, ℕ, pos, ◌+ℤ◌, ◌-ℤ◌, Some, IfSome, true, [], length, map, slice_index, slice_index_or, unsigned_abs, bit_and, bit_xor, IsTrue};
 ghost use Rattle.byte_lags.specs.Streams.{IsUnit};
 ghost use Rattle.byte_streams.specs.Rows.{bias_in, level_value, row_len, row_value};
 ghost use Rattle.byte_streams.specs.Streams.{value_in};
@@ -9,11 +9,14 @@ ghost use Rattle.packed_values.specs.Kinds.{is_still};
 ghost use Rattle.packed_values.specs.Tables.{are_signs, biased_of, IsAlong, IsBiasOf, IsNarrow, there_of, weights_along};
 ghost use Rattle.packed_values.specs.Words.{word_at};
 
-use crate::kinds::{LANES, kind_of};
+use crate::kinds::{guess_of, is_kind, kind_of};
 use crate::places::places;
 use byte_lags::{Stream, Weights};
 use byte_streams::{Levels, Row, Streams};
 use std::simd::prelude::*;
+
+// The codes of a vector. Each half of it looks up in its own half of a table.
+const LANES: usize = 32;
 
 // By a code's higher half byte: the level.
 const LEVELS: [u8; 16] = [
@@ -46,25 +49,36 @@ const ALONG: [[u8; 16]; 4] = [
     ],
 ];
 
-// The components of sixteen codes, with the bias.
+// A table of sixteen in both halves of a vector.
 #[inline(always)]
-fn components(codes: u8x16, signs: u8x16, bias: u8) -> u8x16
-    requires codes { length codes ≡ 16 }
-    requires signs { IsTrue (are_signs signs) }
-    ensures { result ≡ map (biased_of LEVELS signs bias) codes }
+fn twice(table: &[u8; 16]) -> u8x32
+    ensures { result ≡ table.now ++ table.now }
 {
-    let turn = signs.swizzle_dyn(codes & u8x16::splat(15));
-    let level = u8x16::from_array(LEVELS).swizzle_dyn((codes >> 4) ^ turn);
-    level + u8x16::splat(bias)
+    u8x16::from_array(*table).swizzle([
+        0, 1, 2, 3, 4, 5, 6, 7, 8, 9, 10, 11, 12, 13, 14, 15, 0, 1, 2, 3, 4, 5, 6, 7, 8, 9, 10, 11,
+        12, 13, 14, 15,
+    ])
 }
 
-// 1 where there is a value, of sixteen codes.
+// The components of a vector of codes, with the bias.
 #[inline(always)]
-fn theres(codes: u8x16) -> u8x16
-    requires { length codes ≡ 16 }
+fn components(codes: u8x32, signs: &[u8; 16], bias: u8) -> u8x32
+    requires codes { length codes ≡ LANES }
+    requires signs { IsTrue (are_signs signs.now) }
+    ensures { result ≡ map (biased_of LEVELS signs.now bias) codes }
+{
+    let turn = twice(signs).swizzle_dyn_within::<16>(codes & u8x32::splat(15));
+    let level = twice(&LEVELS).swizzle_dyn_within::<16>((codes >> 4) ^ turn);
+    level + u8x32::splat(bias)
+}
+
+// 1 where there is a value, of a vector of codes.
+#[inline(always)]
+fn theres(codes: u8x32) -> u8x32
+    requires { length codes ≡ LANES }
     ensures { result ≡ map there_of codes }
 {
-    (codes >> 3) & u8x16::splat(1)
+    (codes >> 3) & u8x32::splat(1)
 }
 
 // The streams of the first `count` vectors of codes.
@@ -87,13 +101,11 @@ fn fill_vectors(
     ensures im { (k : ℕ) → k < LANES * count → slice_index im.new k ≡ biased_of LEVELS IMAGINARY bias (slice_index codes.now k) }
     ensures there { (k : ℕ) → k < LANES * count → slice_index there.new k ≡ there_of (slice_index codes.now k) }
 {
-    let real = u8x16::from_array(REAL);
-    let imaginary = u8x16::from_array(IMAGINARY);
     for i in 0..count {
         let at = LANES * i;
-        let vector = u8x16::from_slice(&codes[at..]);
-        components(vector, real, bias).copy_to_slice(&mut re[at..]);
-        components(vector, imaginary, bias).copy_to_slice(&mut im[at..]);
+        let vector = u8x32::from_slice(&codes[at..]);
+        components(vector, &REAL, bias).copy_to_slice(&mut re[at..]);
+        components(vector, &IMAGINARY, bias).copy_to_slice(&mut im[at..]);
         theres(vector).copy_to_slice(&mut there[at..]);
     }
 }
@@ -210,23 +222,28 @@ fn streams_of<'r>(
     }
 }
 
-// The levels of codes along a direction.
-fn fill_levels(codes: &[u8], signs: &[u8; 16], bias: u8, out: &mut [u8])
+// The levels of codes along a direction, and the bits in which any of the codes differs from one.
+fn fill_levels(codes: &[u8], one: u8, signs: &[u8; 16], bias: u8, out: &mut [u8]) -> u8
     requires signs { IsTrue (are_signs signs.now) }
     requires out { length out.old ≡ length codes.now }
     ensures len { length out.new ≡ length codes.now }
     ensures each { (k : ℕ) → k < length codes.now → slice_index out.new k ≡ biased_of LEVELS signs.now bias (slice_index codes.now k) }
+    ensures bits { (m : ℕ) → bit_and result m ≡ 0 → (k : ℕ) → k < length codes.now → bit_and (bit_xor (slice_index codes.now k) one) m ≡ 0 }
 {
     let count = codes.len() / LANES;
-    let table = u8x16::from_array(*signs);
+    let mut gathered = u8x32::splat(0);
     for i in 0..count {
         let at = LANES * i;
-        let vector = u8x16::from_slice(&codes[at..]);
-        components(vector, table, bias).copy_to_slice(&mut out[at..]);
+        let vector = u8x32::from_slice(&codes[at..]);
+        components(vector, signs, bias).copy_to_slice(&mut out[at..]);
+        gathered |= vector ^ u8x32::splat(one);
     }
+    let mut bits = gathered.reduce_or();
     for k in LANES * count..codes.len() {
         out[k] = component(codes[k], signs, bias);
+        bits |= codes[k] ^ one;
     }
+    bits
 }
 
 // How many times a level along a direction counts in the real part and in the imaginary one.
@@ -243,6 +260,23 @@ fn weights_of(direction: usize) -> Weights
     }
 }
 
+// Bytes that are the levels of codes along a direction, which all have or its opposite.
+fn as_levels<'r>(_codes: &[u8], bias: u8, direction: usize, bytes: &'r mut [u8]) -> Levels<'r>
+    requires bias { IsBiasOf bias _codes.now }
+    requires direction { direction < 4 }
+    requires along { (k : ℕ) → k < length _codes.now → IsAlong direction (slice_index _codes.now k) }
+    requires len { length bytes.old ≡ length _codes.now }
+    requires each { (k : ℕ) → k < length _codes.now → slice_index bytes.old k ≡ biased_of LEVELS (slice_index_or ALONG direction []) bias (slice_index _codes.now k) }
+    ensures len { length result.level.bytes.now ≡ length _codes.now }
+    ensures bias { result.level.bias ≡ bias }
+    ensures values { (k : ℕ) → k < length _codes.now → level_value result k ≡ value_of (slice_index _codes.now k) }
+{
+    Levels {
+        level: Stream { bytes, bias },
+        direction: weights_of(direction),
+    }
+}
+
 // The levels of codes that have one direction or its opposite.
 fn levels_of<'r>(codes: &[u8], bias: u8, direction: usize, out: &'r mut [u8]) -> Levels<'r>
     requires bias { IsBiasOf bias codes.now }
@@ -253,10 +287,31 @@ fn levels_of<'r>(codes: &[u8], bias: u8, direction: usize, out: &'r mut [u8]) ->
     ensures bias { result.level.bias ≡ bias }
     ensures values { (k : ℕ) → k < length codes.now → level_value result k ≡ value_of (slice_index codes.now k) }
 {
-    fill_levels(codes, &ALONG[direction], bias, out);
-    Levels {
-        level: Stream { bytes: out, bias },
-        direction: weights_of(direction),
+    fill_levels(codes, 0, &ALONG[direction], bias, out);
+    as_levels(codes, bias, direction, out)
+}
+
+// The bias and the direction of as many codes as there is room for, whose levels are then there. None where three of the codes do not
+// show them.
+fn alike_levels(codes: &[u8], out: &mut [u8]) -> Option<(u8, usize)>
+    ensures len { length out.new ≡ length out.old }
+    ensures whole { IfSome result (λ _. length out.old ≡ length codes.now) }
+    ensures bias { IfSome result (λ r. IsBiasOf r.0 codes.now) }
+    ensures direction { IfSome result (λ r. r.1 < 4) }
+    ensures along { IfSome result (λ r. (k : ℕ) → k < length codes.now → IsAlong r.1 (slice_index codes.now k)) }
+    ensures each { IfSome result (λ r. (k : ℕ) → k < length codes.now → slice_index out.new k ≡ biased_of LEVELS (slice_index_or ALONG r.1 []) r.0 (slice_index codes.now k)) }
+    ensures narrow { ((k : ℕ) → k < length codes.now → IsNarrow (slice_index codes.now k)) → IfSome result (λ r. r.0 ≡ 3) }
+{
+    if codes.is_empty() || codes.len() != out.len() {
+        return None;
+    }
+    let (bias, direction) = guess_of(codes);
+    let direction = direction?;
+    let bits = fill_levels(codes, codes[0], &ALONG[direction], bias, out);
+    if is_kind(codes[0], bits, bias, direction) {
+        Some((bias, direction))
+    } else {
+        None
     }
 }
 
@@ -302,6 +357,9 @@ pub(crate) fn row_of<'r>(
     ensures narrow { ((k : ℕ) → k < length there.old → IsNarrow (word_at codes.now 0 (start +ℤ pos k))) → bias_in result ≡ 3 }
 {
     let (first, inside) = part_of(codes, start, there.len());
+    if let Some((bias, direction)) = alike_levels(inside, re) {
+        return Row::Still(as_levels(inside, bias, direction, re));
+    }
     let (bias, direction) = kind_of(inside);
     match whole(direction, inside.len(), there.len()) {
         Some(direction) => Row::Still(levels_of(inside, bias, direction, re)),

@@ -1,14 +1,11 @@
 //! What codes have in common: their bias, and the direction that all have.
-ghost use Rattle.std.specs.Prelude.{◌≡◌, ◌⊎◌, ◌<◌, ◌≤◌, ◌%◌, ◌^◌, ℕ, Some, length, slice_index, unsigned_abs, bit_and, bit_or, bit_xor, IfSome};
+ghost use Rattle.std.specs.Prelude.{◌≡◌, ◌⊎◌, ◌<◌, ◌≤◌, ◌%◌, ◌^◌, ℕ, Some, true, length, slice_index, unsigned_abs, bit_and, bit_or, bit_xor, IfSome};
 ghost use Rattle.packed_values.specs.Tables.{IsAlong, IsBiasOf, IsNarrow, there_of};
 
 use crate::places::places;
 
-// The codes of a vector.
-pub(crate) const LANES: usize = 16;
-
-// The codes of a piece that is looked through at once.
-const PIECE: usize = 256;
+// How far apart codes are looked at for a change: a prime, since directions may come again behind a power of two.
+const STRIDE: usize = 127;
 
 // The bits of a code that say whether there is a value, and which direction it has up to the opposite one.
 const KIND: u8 = 11;
@@ -77,25 +74,69 @@ pub(crate) fn kind_of(codes: &[u8]) -> (u8, Option<usize>)
     (bias_of(one, bits), direction_of(one, bits))
 }
 
-// How many codes, from the first one on, are of one kind with a code.
+// The same, of the first, the middle and the last of codes, of which there is one.
+pub(crate) fn guess_of(codes: &[u8]) -> (u8, Option<usize>)
+    requires some { 0 < length codes.now }
+    ensures direction { IfSome result.1 (λ d. d < 4) }
+    ensures narrow { ((k : ℕ) → k < length codes.now → IsNarrow (slice_index codes.now k)) → result.0 ≡ NARROW }
+{
+    kind_of(&[codes[0], codes[codes.len() / 2], codes[codes.len() - 1]])
+}
+
+// Whether these are the bias and the direction of codes, by one of them and the bits in which any differs from it.
+pub(crate) fn is_kind(one: u8, bits: u8, bias: u8, direction: usize) -> bool
+    ensures bias { result ≡ true → (bias ≡ WIDE) ⊎ ((bias ≡ NARROW) × (bit_and (bit_or bits one) FINE ≡ 0)) }
+    ensures direction { result ≡ true → (direction ≡ one % 4) × (there_of one ≡ 1) × (bit_and bits KIND ≡ 0) }
+{
+    bias_of(one, bits) == bias && direction_of(one, bits) == Some(direction)
+}
+
+// Whether a code is of one kind with another one.
+#[inline(always)]
+fn is_alike(code: u8, one: u8) -> bool {
+    (code ^ one) & KIND == 0
+}
+
+// The first place behind `low` whose code is of another kind, where that of `high` is and all change at once: it is looked for by halves.
+fn change_behind(codes: &[u8], one: u8, low: usize, high: usize) -> usize
+    requires order { low ≤ high }
+    requires inside { high < length codes.now }
+    ensures { result ≤ high }
+{
+    let (mut before, mut behind) = (low, high);
+    while behind - before > 1 {
+        let middle = before + (behind - before) / 2;
+        if is_alike(codes[middle], one) {
+            before = middle;
+        } else {
+            behind = middle;
+        }
+    }
+    behind
+}
+
+// How many codes, from the first one on, are of one kind with a code, as far as those tell that are looked at, and the last one.
 fn alike(codes: &[u8], one: u8) -> usize
     ensures { result ≤ length codes.now }
 {
+    if codes.is_empty() {
+        return 0;
+    }
+    let last = codes.len() - 1;
     let mut at = 0;
-    while codes.len() - at >= PIECE && differing(&codes[at..at + PIECE], one) & KIND == 0 {
-        at += PIECE;
+    while last - at > STRIDE && is_alike(codes[at + STRIDE], one) {
+        at += STRIDE;
     }
-    while codes.len() - at >= LANES && differing(&codes[at..at + LANES], one) & KIND == 0 {
-        at += LANES;
+    let next = at + STRIDE.min(last - at);
+    if is_alike(codes[next], one) {
+        return codes.len();
     }
-    while at < codes.len() && (codes[at] ^ one) & KIND == 0 {
-        at += 1;
-    }
-    at
+    change_behind(codes, one, at, next)
 }
 
 /// How many samples from place `start` on, of at most `most`, are of one kind: all there and of one direction or its opposite, or all
-/// without a value. Before the first place and past the last one they are without a value.
+/// without a value. Before the first place and past the last one they are without a value. Not every code is looked at: a change that
+/// lasts for fewer samples than lie between two looks may be passed over.
 pub(crate) fn alike_from(codes: &[u8], start: i64, most: usize) -> usize
     requires start { unsigned_abs start ≤ 2 ^ 41 }
     requires size { length codes.now ≤ 2 ^ 41 }

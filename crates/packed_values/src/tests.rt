@@ -167,35 +167,71 @@ fn a_row_that_turns_or_stops_is_both_components(rt: HostRuntime) {
     assert_eq!(rt; empty.len(), 0);
 }
 
-// How many samples from place `start` on are alike, where the code at a place is another one.
-fn alike_with(codes: &mut [u8], code: u8, place: usize, start: i64, most: usize) -> usize
-    requires size { length codes.old ≤ 600 }
-    requires place { place < length codes.old }
-    requires start { unsigned_abs start ≤ 600 }
-    ensures { length codes.new ≡ length codes.old }
+// Whether a row of 70 codes of the value (1, 0), but for one of (0, 1) or of none, is both components.
+fn turns_with(codes: &mut [u8; 70], code: u8, place: usize) -> bool
+    requires place { place < 70 }
 {
     let old = codes[place];
     codes[place] = code;
-    let count = Packed::Codes(codes).alike_from(start, most);
+    let mut re = [9; 70];
+    let mut im = [9; 70];
+    let mut there = [9; 70];
+    let row = Packed::Codes(codes).row_from(0, &mut re, &mut im, &mut there);
+    let one = code / 8 % 2;
+    let mut reals = [4; 70];
+    let mut imaginaries = [3; 70];
+    let mut ones = [1; 70];
+    reals[place] = 3;
+    imaginaries[place] = 3 + one;
+    ones[place] = one;
+    let turns = is_turning(&row, &reals, &imaginaries, &ones, 3);
     codes[place] = old;
-    count
+    turns
 }
 
-// Of 600 codes, one has another direction, or no value.
+// Of 70 codes of the value (1, 0), the one at each place in turn becomes (0, 1), none, or (15, 0).
 #[test]
-fn codes_are_alike_up_to_one_that_differs(rt: HostRuntime) {
+fn one_code_that_differs_is_seen_at_each_place(rt: HostRuntime) {
+    let mut codes = [136; 70];
+    for place in 0..70 {
+        assert!(rt; turns_with(&mut codes, 138, place));
+        assert!(rt; turns_with(&mut codes, 130, place));
+        codes[place] = 248;
+        let mut levels = [16; 70];
+        levels[place] = 30;
+        let mut re = [9; 70];
+        let mut im = [9; 70];
+        let mut there = [9; 70];
+        let row = Packed::Codes(&codes).row_from(0, &mut re, &mut im, &mut there);
+        assert!(rt; is_still(&row, &levels, 15, 1, 0));
+        codes[place] = 136;
+    }
+}
+
+// How many of 600 samples from place `start` on are alike, where the codes from a place on are other ones.
+fn alike_with(code: u8, place: usize, start: i64, most: usize) -> usize
+    requires place { place ≤ 600 }
+    requires start { unsigned_abs start ≤ 600 }
+{
     let mut codes = [142; 600];
     codes[0] = 74;
+    codes[place..].fill(code);
+    Packed::Codes(&codes).alike_from(start, most)
+}
+
+// From a place on codes have another direction, or no value.
+#[test]
+fn codes_are_alike_up_to_one_that_differs(rt: HostRuntime) {
     for place in 1..600 {
-        assert_eq!(rt; alike_with(&mut codes, 139, place, 0, 600), place);
-        assert_eq!(rt; alike_with(&mut codes, 6, place, 0, 600), place);
-        assert_eq!(rt; alike_with(&mut codes, 139, place, 0, place - 1), place - 1);
+        assert_eq!(rt; alike_with(139, place, 0, 600), place);
+        assert_eq!(rt; alike_with(6, place, 0, 600), place);
+        assert_eq!(rt; alike_with(139, place, 0, place - 1), place - 1);
     }
-    assert_eq!(rt; alike_with(&mut codes, 78, 9, -7, 600), 7);
-    assert_eq!(rt; alike_with(&mut codes, 78, 9, -7, 5), 5);
-    assert_eq!(rt; alike_with(&mut codes, 78, 9, 1, 900), 599);
-    assert_eq!(rt; alike_with(&mut codes, 78, 9, 600, 900), 900);
-    assert_eq!(rt; alike_with(&mut codes, 78, 9, 599, 0), 0);
+    assert_eq!(rt; alike_with(78, 9, -7, 600), 7);
+    assert_eq!(rt; alike_with(78, 9, -7, 5), 5);
+    assert_eq!(rt; alike_with(78, 9, 1, 900), 599);
+    assert_eq!(rt; alike_with(78, 9, 600, 900), 900);
+    assert_eq!(rt; alike_with(78, 9, 599, 0), 0);
 }
 
 // The values (15, -15), none and (-1, 2) are cut two places before the first and one past the last.

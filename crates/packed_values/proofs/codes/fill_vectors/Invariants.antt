@@ -9,7 +9,7 @@ invariant-loop-i l = record {
   re_len : length l.re ≡ length l.codes;
   im_len : length l.im ≡ length l.codes;
   there_len : length l.there ≡ length l.codes;
-  re : (k : ℕ) → k < 16 * l.i → slice_index l.re k ≡ biased_of LEVELS REAL l.bias (slice_index l.codes k);
-  im : (k : ℕ) → k < 16 * l.i → slice_index l.im k ≡ biased_of LEVELS IMAGINARY l.bias (slice_index l.codes k);
-  there : (k : ℕ) → k < 16 * l.i → slice_index l.there k ≡ there_of (slice_index l.codes k);
+  re : (k : ℕ) → k < 32 * l.i → slice_index l.re k ≡ biased_of LEVELS REAL l.bias (slice_index l.codes k);
+  im : (k : ℕ) → k < 32 * l.i → slice_index l.im k ≡ biased_of LEVELS IMAGINARY l.bias (slice_index l.codes k);
+  there : (k : ℕ) → k < 32 * l.i → slice_index l.there k ≡ there_of (slice_index l.codes k);
 }

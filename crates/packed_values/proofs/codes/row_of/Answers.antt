@@ -19,7 +19,28 @@ returns-in-Some-clause-values c = λ k lt.
     let inside = c.part_of-first.result.1.now in
     let n = length c.args.there.now in
     let same = passed inside codes first n c.args.start c.ranges.start c.part_of-first.ensures.codes in
-    let whole : length inside ≡ n = c.in-Some.ensures.whole.1 in
+    let whole : length inside ≡ n = omega (arith, c.in-Some.ensures.whole, c.requires.re) in
+    c.as_levels.ensures.values k (omega (arith, lt, whole))
+    ∙ whole-value inside codes first n c.args.start same c.part_of-first.ensures.room whole k lt
+
+pub returns-in-Some-clause-narrow : goal.returns-in-Some-clause-narrow
+returns-in-Some-clause-narrow c = λ narrow.
+    let codes = c.args.codes.now in
+    let first = c.part_of-first.result.0 in
+    let inside = c.part_of-first.result.1.now in
+    let n = length c.args.there.now in
+    let same = passed inside codes first n c.args.start c.ranges.start c.part_of-first.ensures.codes in
+    c.as_levels.ensures.bias
+    ∙ c.in-Some.ensures.narrow (inside-all inside codes first n c.args.start same c.part_of-first.ensures.room IsNarrow narrow)
+
+pub returns-in-Some-whole-clause-values : goal.returns-in-Some-whole-clause-values
+returns-in-Some-whole-clause-values c = λ k lt.
+    let codes = c.args.codes.now in
+    let first = c.part_of-first.result.0 in
+    let inside = c.part_of-first.result.1.now in
+    let n = length c.args.there.now in
+    let same = passed inside codes first n c.args.start c.ranges.start c.part_of-first.ensures.codes in
+    let whole : length inside ≡ n = c.in-Some-whole.ensures.whole.1 in
     c.levels_of.ensures.values k (omega (arith, lt, whole))
     ∙ whole-value inside codes first n c.args.start same c.part_of-first.ensures.room whole k lt
 
@@ -32,8 +53,8 @@ returns-in-None-clause-values c = λ k lt.
     let same = passed inside codes first n c.args.start c.ranges.start c.part_of-first.ensures.codes in
     c.streams_of.ensures.values k lt ∙ cut-value inside codes first n c.args.start same k lt
 
-pub returns-in-Some-clause-narrow : goal.returns-in-Some-clause-narrow
-returns-in-Some-clause-narrow c = λ narrow.
+pub returns-in-Some-whole-clause-narrow : goal.returns-in-Some-whole-clause-narrow
+returns-in-Some-whole-clause-narrow c = λ narrow.
     let codes = c.args.codes.now in
     let first = c.part_of-first.result.0 in
     let inside = c.part_of-first.result.1.now in

@@ -2,4 +2,4 @@ use Rattle.packed_values.proofs.Lanes.{theres-are}
 use Rattle.packed_values.proofs.codes.theres.Goals as goal
 
 pub returns : goal.returns
-returns c = theres-are c.args.codes c.args.codes c.requires
+returns c = theres-are c.args.codes c.requires

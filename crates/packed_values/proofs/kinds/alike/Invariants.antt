@@ -1,20 +1,8 @@
-use Rattle.std.proofs.Common.{◌≤◌, ◌-◌, length}
+use Rattle.std.proofs.Common.{◌≤◌, ◌-◌}
 use Rattle.packed_values.proofs.kinds.alike.Given as goal
 
 abbrev pub invariant-loop-at : goal.invariant-loop-at
-invariant-loop-at l = l.at ≤ length l.codes
+invariant-loop-at l = l.at ≤ l.last
 
 abbrev pub decreases-loop-at : goal.decreases-loop-at
-decreases-loop-at l = length l.codes - l.at
-
-abbrev pub invariant-loop-at-2 : goal.invariant-loop-at-2
-invariant-loop-at-2 l = l.at ≤ length l.codes
-
-abbrev pub decreases-loop-at-2 : goal.decreases-loop-at-2
-decreases-loop-at-2 l = length l.codes - l.at
-
-abbrev pub invariant-loop-at-3 : goal.invariant-loop-at-3
-invariant-loop-at-3 l = l.at ≤ length l.codes
-
-abbrev pub decreases-loop-at-3 : goal.decreases-loop-at-3
-decreases-loop-at-3 l = length l.codes - l.at
+decreases-loop-at l = l.last - l.at

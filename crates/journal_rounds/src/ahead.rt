@@ -7,10 +7,10 @@ ghost use Rattle.piece_plan.specs.Epochs.{IsEpoch};
 ghost use Rattle.piece_plan.specs.Limited.{IsPart};
 ghost use Rattle.plan_places.specs.Places.{place_at, IsPlace};
 ghost use Rattle.journal_rounds.specs.Epochs.{IsNext, behind};
-ghost use Rattle.journal_rounds.specs.Ahead.{AreSumsOf, IsFramed, IsHeld, epoch_read, epoch_summed};
+ghost use Rattle.journal_rounds.specs.Ahead.{AreSumsOf, IsHeld, epoch_read, epoch_summed};
 
 use crate::sums::{Summed, sum_held};
-use crate::values::{Framed, Held, make_from, read_from};
+use crate::values::{Held, held_from};
 use dev_traits::{Gate, Shelf};
 use piece_plan::JobPlan;
 use plan_places::{Place, after};
@@ -29,8 +29,8 @@ pub(crate) struct Ahead {
     pub(crate) next: Option<Place>,
 }
 
-/// Sums the epoch that is read, where one is, and reads the frames of the one behind it at the same time, where the job has such, in
-/// room of `spare`; then the workers make its values. A read fault is answered before want of memory for the sums.
+/// Sums the epoch that is read, where one is, and at the same time reads the frames of the one behind it, where the job has such, and
+/// makes its values, in room of `spare`. A read fault is answered before want of memory for the sums.
 pub(crate) fn advance<R: Threads + Sync, F: Shelf + Send, G: Gate + Sync>(
     rt: &R,
     alloc: Global,
@@ -63,33 +63,30 @@ pub(crate) fn advance<R: Threads + Sync, F: Shelf + Send, G: Gate + Sync>(
     ensures counts { CountsReads (F.faults shelf.old) (F.faults shelf.new) result }
 {
     are_held(shelf, ready, &ahead.held);
-    let (read, summed) = join_mut(
+    let (made, summed) = join_mut(
         rt,
         &mut ||
             requires part { IsPart ready.now.epochs part.now }
             requires recorded { WhereTold (F.told shelf.now) (λ files. AreRecorded files ready.now.plan.stations ready.now.recordings.items) }
             requires place { IfSome ahead.now.next (λ p. IsPlace part.now (place_at p)) }
             requires epoch { (1 ≤ epoch) × (epoch ≤ 4194304) }
-        { read_from(alloc, spare, ready, part, shelf, ahead.next, epoch) },
+            requires workers { (1 ≤ workers) × (workers ≤ 64) }
+        {
+            held_from(
+                rt, alloc, spare, ready, part, shelf, ahead.next, epoch, workers,
+            )
+        },
         &mut ||
             requires held { IfSome ahead.now.held (IsHeld None ready.now) }
             requires workers { (1 ≤ workers) × (workers ≤ 64) }
             requires piece { (64 ≤ piece) × (piece ≤ 4194304) }
         { sum_held(rt, alloc, ready, &ahead.held, workers, piece, gate) },
     );
-    let framed = read?;
+    let held = made?;
     let summed = summed?;
-    are_framed(shelf, ready, &framed);
-    let held = make_from(rt, alloc, spare, ready, framed, workers)?;
     let next = place_behind(part, &held, ahead.next);
     Ok(Ahead { summed, held, next })
 }
-
-// Frames are those of an epoch of the job also where the files are not told. The call does nothing: it brings this law.
-fn are_framed<F: Shelf>(_shelf: &F, _ready: &Ready, _framed: &Option<Framed>)
-    requires { IfSome _framed.now (IsFramed (F.told _shelf.now) _ready.now) }
-    ensures { IfSome _framed.now (IsFramed None _ready.now) }
-{}
 
 // Values are those of an epoch of the job also where the files are not told. The call does nothing: it brings this law.
 fn are_held<F: Shelf>(_shelf: &F, _ready: &Ready, _held: &Option<Held>)

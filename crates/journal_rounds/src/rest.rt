@@ -30,9 +30,9 @@ use std::thread::Threads;
 
 /// Opens the journal of a part of the job, which may be all of it, and from the place on where it ends cuts the part into epochs of
 /// `epoch` samples, 1 to 4,194,304, or those up to the end of an integration, and reads, sums and appends them in their order, with
-/// `workers` threads for the sums and for the planes, 1 to 64, and pieces of at most `piece` samples, 64 to 4,194,304. While an epoch is
-/// summed, the frames of the next one are read, and the one before it is appended; then the planes of the next one are made. What the
-/// journal kept is neither summed nor written again. Where the journal and the shelf fail at the same time, the fault is the journal's.
+/// `workers` threads for the sums and as many for the planes, 1 to 64, and pieces of at most `piece` samples, 64 to 4,194,304. While an
+/// epoch is summed, the frames of the next one are read and its planes made, and the one before it is appended. What the journal kept
+/// is neither summed nor written again. Where the journal and the shelf fail at the same time, the fault is the journal's.
 /// In memory are at most the planes of two epochs, the frames of one, and the room that epochs before them have left.
 pub fn resume<R: Threads + Sync, F: Shelf + Send, D: Disk + Send, G: Gate + Sync>(
     rt: &R,

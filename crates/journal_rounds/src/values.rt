@@ -34,8 +34,44 @@ pub(crate) struct Held {
     pub(crate) values: EpochValues,
 }
 
-/// Reads the frames of the epoch of a part of the job from a place on, where there is a place, in room of `spare`.
-pub(crate) fn read_from<F: Shelf>(
+/// Reads the frames of the epoch of a part of the job from a place on, where there is a place, and makes its values out of them, by
+/// threads, of which about `workers` are at work, in room of `spare`.
+pub(crate) fn held_from<R: Threads + Sync, F: Shelf>(
+    rt: &R,
+    alloc: Global,
+    spare: &mut Spare,
+    ready: &Ready,
+    part: &JobPlan,
+    shelf: &mut F,
+    at: Option<Place>,
+    epoch: u64,
+    workers: u32,
+) -> Result<Option<Held>, StreamFault>
+    requires recorded { WhereTold (F.told shelf.old) (λ files. AreRecorded files ready.now.plan.stations ready.now.recordings.items) }
+    requires part { IsPart ready.now.epochs part.now }
+    requires place { IfSome at (λ p. IsPlace part.now (place_at p)) }
+    requires epoch { (1 ≤ epoch) × (epoch ≤ 4194304) }
+    requires workers { (1 ≤ workers) × (workers ≤ 64) }
+    ensures same { F.told shelf.new ≡ F.told shelf.old }
+    ensures values { IfOk result (λ held. IfSome held (IsHeld (F.told shelf.old) ready.now)) }
+    ensures next { IfOk result (λ held. IsNext part.now epoch (option_map place_at at) (epoch_read held)) }
+    ensures read { IfOk result (λ held. is_some held ≡ is_some at) }
+    ensures counts { CountsReads (F.faults shelf.old) (F.faults shelf.new) result }
+{
+    let framed = read_from(alloc, spare, ready, part, shelf, at, epoch)?;
+    are_framed(shelf, ready, &framed);
+    let held = make_from(rt, alloc, spare, ready, framed, workers)?;
+    Ok(held)
+}
+
+// Frames are those of an epoch of the job also where the files are not told. The call does nothing: it brings this law.
+fn are_framed<F: Shelf>(_shelf: &F, _ready: &Ready, _framed: &Option<Framed>)
+    requires { IfSome _framed.now (IsFramed (F.told _shelf.now) _ready.now) }
+    ensures { IfSome _framed.now (IsFramed None _ready.now) }
+{}
+
+// Reads the frames of the epoch of a part of the job from a place on, where there is a place, in room of `spare`.
+fn read_from<F: Shelf>(
     alloc: Global,
     spare: &mut Spare,
     ready: &Ready,
@@ -83,9 +119,9 @@ fn read_frames<F: Shelf>(
     Ok(Framed { epoch, frames })
 }
 
-/// Makes the values of an epoch out of its frames, where there are such, by threads, of which about `workers` are at work, in room of
-/// `spare`.
-pub(crate) fn make_from<R: Threads + Sync>(
+// Makes the values of an epoch out of its frames, where there are such, by threads, of which about `workers` are at work, in room of
+// `spare`.
+fn make_from<R: Threads + Sync>(
     rt: &R,
     alloc: Global,
     spare: &mut Spare,

@@ -27,9 +27,9 @@ fn leave_all(stations: Vec<StayFrames>, spare: &mut Vec<Vec<u8>>) {
     }
 }
 
-/// Makes the values of an epoch of a scan out of its frames, by threads, of which about `workers`, 1 to 64, and two where that is 1, are
-/// at work where they can be had: each takes the levels of a stretch of samples, turns them and writes their codes. The room of the
-/// frames goes to `spare`. The only memory that is taken is that of lists of planes.
+/// Makes the values of an epoch of a scan out of its frames, by threads, of which about `workers`, 1 to 64, are at work where they can be
+/// had: each takes the levels of a stretch of samples, turns them and writes their codes. The room of the frames goes to `spare`. The
+/// only memory that is taken is that of lists of planes.
 pub fn make_epoch<R: Threads + Sync>(
     rt: &R,
     alloc: Global,
@@ -60,7 +60,7 @@ pub fn make_epoch<R: Threads + Sync>(
         from,
         to,
     };
-    fill_rows(rt, &making, workers.max(2), &mut rows);
+    fill_rows(rt, &making, workers, &mut rows);
     leave_all(stations, &mut spare.codes);
     let (count, chans) = (scan.stays.items().len(), plan.channels.items().len());
     let planes = EpochPlanes::of_rows(alloc, from, count, chans, rows)?;

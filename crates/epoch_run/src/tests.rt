@@ -6,7 +6,7 @@ ghost use Rattle.dev_traits.specs.Told.{WhereTold};
 ghost use Rattle.num_time.specs.Times.{IsSecond};
 ghost use Rattle.frame_index.specs.Recording.{IsOnShelf};
 
-use crate::{EpochPlanes, run_bins, run_epoch, sum_planes};
+use crate::{run_bins, run_epoch};
 use atomic_sums::EpochSums;
 use corr_model::{Cell, Pair};
 use delay_poly::{Poly, PolyEntry, PolyList};
@@ -206,27 +206,6 @@ fn summed<R: Threads + Sync, G: Gate + Sync>(
     )
 }
 
-// The sums of the scan from its planes.
-fn summed_planes<R: Threads + Sync>(
-    rt: &R,
-    alloc: Global,
-    planes: &EpochPlanes,
-) -> Result<EpochSums, AllocError>
-    ensures { IfOk result (λ sums. length sums.cells ≡ 4) }
-{
-    sum_planes(
-        rt,
-        alloc,
-        planes,
-        &[PAIR, PAIR],
-        128,
-        &PLAN,
-        128,
-        1,
-        &OpenGate::new(),
-    )
-}
-
 // At lag -1 there are 127 pairs of 9 each, at lag 0 there are 128.
 fn has_cells(rt: &impl Abort, sums: &EpochSums)
     requires { length sums.now.cells ≡ 4 }
@@ -311,16 +290,6 @@ fn two_pieces_by_three_workers(rt: HostRuntime) -> Result<(), Fail> {
     let sums = summed(&rt, alloc, stream, 3, &gate)?;
     has_cells(&rt, &sums);
     assert!(rt; gate.saw_second());
-    Ok(())
-}
-
-#[test]
-fn planes_are_summed_twice(rt: HostRuntime) -> Result<(), Fail> {
-    let alloc = rt.alloc();
-    let stream = whole_stream(alloc)?;
-    let planes = EpochPlanes::build(alloc, &[stream])?;
-    has_cells(&rt, &summed_planes(&rt, alloc, &planes)?);
-    has_cells(&rt, &summed_planes(&rt, alloc, &planes)?);
     Ok(())
 }
 

@@ -1,13 +1,8 @@
 //! The board and its seats.
 ghost use Rattle.std.specs.Prelude.{◌≡◌, ℕ, ◌+◌, ◌*◌, ◌/◌, ◌<◌, ◌≤◌, ◌^◌, [], true, false, None, Some, All, IfOk, IsSome, MatchOption, length, replicate, slice_index, slice_get, map, drop};
-ghost use Rattle.std.specs.List.{sum_by};
-ghost use Rattle.std.specs.Slots.{slots_len, slots_items, IsFull};
-ghost use Rattle.piece_claim.specs.State.{new_seat, piece, pieces, sums};
-ghost use Rattle.piece_claim.specs.Invariant.{IsSizes};
-ghost use Rattle.piece_claim.specs.Moves.{CanDraw, CanSplit, joined, one_less};
-ghost use Rattle.atomic_sums.specs.Views.{seen_by, times_in};
-ghost use Rattle.atomic_sums.specs.Seats.{Drew, EachOnce, LastState, finished_with, seat_of};
-ghost use Rattle.atomic_sums.specs.Sums.{totals_of};
+ghost use Rattle.std.specs.{List.{sum_by}, Slots.{slots_len, slots_items, IsFull}};
+ghost use Rattle.piece_claim.specs.{State.{new_seat, piece, pieces, sums}, Invariant.{IsSizes}, Moves.{CanDraw, CanSplit, joined, one_less}};
+ghost use Rattle.atomic_sums.specs.{Views.{seen_by, times_in}, Seats.{Drew, EachOnce, LastState, finished_with, seat_of}, Sums.{totals_of}};
 
 use crate::Sums;
 use crate::steps::{Both, Draw, Learn, OneShare, Order, Post, View};

@@ -1,6 +1,5 @@
 //! The rule of the table, and the names of its steps.
-ghost use Rattle.atomic_sums.specs.Rule.{Keeps};
-ghost use Rattle.atomic_sums.specs.Views.{Draws, Learns, Posts, first_view, joined_view, left_view, right_view, spent_view};
+ghost use Rattle.atomic_sums.specs.{Rule.{Keeps}, Views.{Draws, Learns, Posts, first_view, joined_view, left_view, right_view, spent_view}};
 
 use atomic_table::{Join, Play, Split, TableRule};
 use piece_claim::Sizes;

@@ -1,6 +1,5 @@
 ghost use Rattle.std.specs.Prelude.{◌≡◌, ℕ, ◌+◌, ◌*◌, ◌<◌, ◌≤◌, true, false, None, All, IfOk, IsSome, length, vec_len};
-ghost use Rattle.piece_claim.specs.State.{new_seat, pieces};
-ghost use Rattle.piece_claim.specs.Moves.{CanDraw};
+ghost use Rattle.piece_claim.specs.{State.{new_seat, pieces}, Moves.{CanDraw}};
 ghost use Rattle.atomic_sums.specs.Seats.{seat_of};
 
 use super::*;

@@ -1,9 +1,7 @@
 //! The head of the text of bins.
 ghost use Rattle.std.specs.Prelude.{◌≡◌};
-ghost use Rattle.sink_text.specs.Appends.{Appends};
-ghost use Rattle.sink_text.specs.Written.{Puts};
-ghost use Rattle.bin_records.specs.Fronts.{head_front};
-ghost use Rattle.bin_records.specs.Texts.{bin_head_text};
+ghost use Rattle.sink_text.specs.{Appends.{Appends}, Written.{Puts}};
+ghost use Rattle.bin_records.specs.{Fronts.{head_front}, Texts.{bin_head_text}};
 
 use dev_traits::Sink;
 use sink_text::Stretch;

@@ -1,9 +1,7 @@
 //! The records of the text of bins, and its end.
 ghost use Rattle.std.specs.Prelude.{◌≡◌};
-ghost use Rattle.sink_text.specs.Appends.{Appends};
-ghost use Rattle.sink_text.specs.Written.{Puts};
-ghost use Rattle.bin_records.specs.Fronts.{record_front};
-ghost use Rattle.bin_records.specs.Texts.{bin_record_text, bin_end_text};
+ghost use Rattle.sink_text.specs.{Appends.{Appends}, Written.{Puts}};
+ghost use Rattle.bin_records.specs.{Fronts.{record_front}, Texts.{bin_record_text, bin_end_text}};
 
 use corr_model::{Cell, RecordAt};
 use dev_traits::Sink;

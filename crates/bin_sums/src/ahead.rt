@@ -2,11 +2,9 @@
 ghost use Rattle.std.specs.Prelude.{◌≡◌, ◌≤◌, None, Option, Some, IfOk, IfSome, slice_get};
 ghost use Rattle.dev_traits.specs.Told.{WhereTold};
 ghost use Rattle.corr_model.specs.Files.{Files};
-ghost use Rattle.station_stream.specs.Faults.{CountsReads};
-ghost use Rattle.station_stream.specs.Recorded.{AreRecorded};
+ghost use Rattle.station_stream.specs.{Faults.{CountsReads}, Recorded.{AreRecorded}};
 ghost use Rattle.ready_job.specs.declared.ready.Ready.{Ready};
-ghost use Rattle.run_sums.specs.Frames.{HoldsFrames};
-ghost use Rattle.run_sums.specs.Reach.{HoldsEpoch};
+ghost use Rattle.run_sums.specs.{Frames.{HoldsFrames}, Reach.{HoldsEpoch}};
 ghost use Rattle.bin_sums.specs.Ahead.{IsAheadOf, IsHeld, IsOfJob, IsOfScan};
 
 use crate::epochs::scan_of;

@@ -4,14 +4,10 @@ ghost use Rattle.dev_traits.specs.Told.{WhereTold};
 ghost use Rattle.corr_model.specs.Files.{Files};
 ghost use Rattle.job_plan.specs.Values.{rotated};
 ghost use Rattle.job_epochs.specs.Added.{add_cells, plus_wrapped};
-ghost use Rattle.station_stream.specs.Faults.{CountsReads};
-ghost use Rattle.station_stream.specs.Recorded.{AreRecorded};
+ghost use Rattle.station_stream.specs.{Faults.{CountsReads}, Recorded.{AreRecorded}};
 ghost use Rattle.pulsar_bins.specs.Scans.{has_phase};
-ghost use Rattle.run_sums.specs.Pairs.{pairs_in};
-ghost use Rattle.run_sums.specs.Reach.{HoldsEpoch};
-ghost use Rattle.bin_sums.specs.Ahead.{IsAheadOf, IsHeld, IsOfJob, IsOfScan};
-ghost use Rattle.bin_sums.specs.Binned.{bin_width};
-ghost use Rattle.bin_sums.specs.Range.{range_bin_cells};
+ghost use Rattle.run_sums.specs.{Pairs.{pairs_in}, Reach.{HoldsEpoch}};
+ghost use Rattle.bin_sums.specs.{Ahead.{IsAheadOf, IsHeld, IsOfJob, IsOfScan}, Binned.{bin_width}, Range.{range_bin_cells}};
 
 use crate::ahead::{BinsAhead, Held, read_held, take_values};
 use crate::epochs::epoch_behind;

@@ -1,7 +1,6 @@
 //! The epochs of a job, one behind another.
 ghost use Rattle.std.specs.Prelude.{◌≡◌, ◌<◌, ◌≤◌, ◌+◌, Some, IfSome, length, min, slice_get};
-ghost use Rattle.job_plan.specs.Ranges.{IsPlan, IsScanPlan};
-ghost use Rattle.job_plan.specs.Output.{integration_start, integration_end};
+ghost use Rattle.job_plan.specs.{Ranges.{IsPlan, IsScanPlan}, Output.{integration_start, integration_end}};
 ghost use Rattle.bin_sums.specs.Ahead.{IsOfJob, IsOfScan};
 
 use job_plan::{Plan, ScanPlan};

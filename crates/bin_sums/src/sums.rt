@@ -2,13 +2,10 @@
 ghost use Rattle.std.specs.Prelude.{◌≡◌, ◌<◌, ◌≤◌, None, Some, OnOk, length, replicate, slice_get};
 ghost use Rattle.dev_traits.specs.Told.{WhereTold};
 ghost use Rattle.corr_model.specs.Cell.{no_cell};
-ghost use Rattle.job_plan.specs.Values.{rotated};
-ghost use Rattle.job_plan.specs.Output.{integrations_of};
-ghost use Rattle.station_stream.specs.Faults.{CountsReads};
-ghost use Rattle.station_stream.specs.Recorded.{AreRecorded};
+ghost use Rattle.job_plan.specs.{Values.{rotated}, Output.{integrations_of}};
+ghost use Rattle.station_stream.specs.{Faults.{CountsReads}, Recorded.{AreRecorded}};
 ghost use Rattle.pulsar_bins.specs.Scans.{no_phase};
-ghost use Rattle.bin_sums.specs.Ahead.{IsAheadOf};
-ghost use Rattle.bin_sums.specs.Binned.{bin_width, integration_bin_cells};
+ghost use Rattle.bin_sums.specs.{Ahead.{IsAheadOf}, Binned.{bin_width, integration_bin_cells}};
 
 use crate::ahead::BinsAhead;
 use crate::epoch::add_epoch;

@@ -1,11 +1,9 @@
 //! The values of a range of samples.
 ghost use Rattle.std.specs.Prelude.{◌≡◌, ◌<◌, ◌≤◌, ◌+◌, ◌^◌, ℕ, ℤ, pos, ◌+ℤ◌, ◌-ℤ◌, ◌≤ℤ◌, ◌<ℤ◌, length, map, IfOk};
 ghost use Rattle.std.specs.Int.{bit_at};
-ghost use Rattle.packed_values.specs.From.{value_from};
-ghost use Rattle.packed_values.specs.Packed.{values_of};
+ghost use Rattle.packed_values.specs.{From.{value_from}, Packed.{values_of}};
 ghost use Rattle.value_codes.specs.Codes.{value_of};
-ghost use Rattle.bit_planes.specs.Planes.{plane_value, size_of};
-ghost use Rattle.bit_planes.specs.Shown.{plane_bit};
+ghost use Rattle.bit_planes.specs.{Planes.{plane_value, size_of}, Shown.{plane_bit}};
 
 use crate::asked::ask;
 use crate::held::Held;
@@ -24,8 +22,7 @@ pub struct Planes {
 }
 
 impl Model for Planes {
-    ghost use Rattle.bit_planes.specs.Planes.{PlanesFields, ArePlanes};
-    ghost use Rattle.bit_planes.specs.Held.{AreHeld, values_in};
+    ghost use Rattle.bit_planes.specs.{Planes.{PlanesFields, ArePlanes}, Held.{AreHeld, values_in}};
 
     ghost Value = { PlanesFields };
 

@@ -1,8 +1,7 @@
 //! The planes of bits of values.
 ghost use Rattle.std.specs.Prelude.{◌≡◌, ◌<◌, ◌≤◌, ◌+◌, ◌^◌, ℕ, None, slice_index_or, if◌then◌else◌};
 ghost use Rattle.std.specs.Int.{bit_at};
-ghost use Rattle.bit_planes.specs.Held.{AreHeld, values_in};
-ghost use Rattle.bit_planes.specs.Shown.{has_part, has_sign, part_bit, plane_bit};
+ghost use Rattle.bit_planes.specs.{Held.{AreHeld, values_in}, Shown.{has_part, has_sign, part_bit, plane_bit}};
 
 use crate::held::Held;
 

@@ -4,8 +4,7 @@ ghost use Rattle.byte_sums.specs.Sums.{AreAtMost, lag_sum, nat_sum};
 ghost use Rattle.byte_lags.specs.Streams.{AreWithin, IsWithin};
 ghost use Rattle.corr_model.specs.Cell.{no_cell};
 ghost use Rattle.byte_streams.specs.Rows.{row_len, row_value};
-ghost use Rattle.block_lags.specs.Cells.{lag_cell};
-ghost use Rattle.block_lags.specs.Counts.{IsCounted};
+ghost use Rattle.block_lags.specs.{Cells.{lag_cell}, Counts.{IsCounted}};
 
 use crate::turning::BLOCK;
 use crate::uniform::are_all;

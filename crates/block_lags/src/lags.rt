@@ -1,11 +1,9 @@
 //! All lags of a block.
 ghost use Rattle.std.specs.Prelude.{◌≡◌, ◌<◌, ◌≤◌, ◌+◌, ◌^◌, ℕ, ℤ, pos, ◌+ℤ◌, true, None, length, slice_index_or};
-ghost use Rattle.corr_model.specs.declared.cell.Pair.{Pair};
-ghost use Rattle.corr_model.specs.Cell.{Samples, cell_in, no_cell};
+ghost use Rattle.corr_model.specs.{declared.cell.Pair.{Pair}, Cell.{Samples, cell_in, no_cell}};
 ghost use Rattle.byte_lags.specs.Streams.{AreWithin};
 ghost use Rattle.byte_streams.specs.Rows.{row_len, row_value};
-ghost use Rattle.block_lags.specs.Cells.{IsGrown, lag_cell};
-ghost use Rattle.block_lags.specs.Scans.{AreRows};
+ghost use Rattle.block_lags.specs.{Cells.{IsGrown, lag_cell}, Scans.{AreRows}};
 
 use crate::counts::add_counts;
 use crate::pairs::add_pairs;

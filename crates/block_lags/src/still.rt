@@ -2,8 +2,7 @@
 ghost use Rattle.std.specs.Prelude.{◌≡◌, ◌<◌, ◌≤◌, ◌+◌, ◌*◌, ◌^◌, ◌+ℤ◌, ◌-ℤ◌, ◌*ℤ◌, neg_ℤ, ℕ, length, slice_index_or};
 ghost use Rattle.byte_lags.specs.Streams.{AreWithin, IsUnit, IsWeight};
 ghost use Rattle.corr_model.specs.Cell.{no_cell};
-ghost use Rattle.byte_streams.specs.Streams.{value_in};
-ghost use Rattle.byte_streams.specs.Rows.{level_value};
+ghost use Rattle.byte_streams.specs.{Streams.{value_in}, Rows.{level_value}};
 ghost use Rattle.block_lags.specs.Cells.{HasProducts, lag_cell};
 
 use crate::turning::BLOCK;

@@ -18,8 +18,7 @@ impl<'a> Streams<'a> {
     ghost use Rattle.std.specs.Prelude.{◌≡◌, ◌≤◌, ◌*◌, ◌+◌, ◌<◌, ℕ, length};
     ghost use Rattle.byte_lags.specs.Streams.{IsBiased};
     ghost use Rattle.byte_sums.specs.Sums.{AreAtMost};
-    ghost use Rattle.byte_streams.specs.Values.{re_of, im_of};
-    ghost use Rattle.byte_streams.specs.Streams.{value_in};
+    ghost use Rattle.byte_streams.specs.{Values.{re_of, im_of}, Streams.{value_in}};
 
     /// The real components.
     pub fn reals(&self) -> Stream<'a>

@@ -1,8 +1,7 @@
 //! Sums of products of small bytes with bytes that hold two numbers, in lanes of 16 bits: one product serves two lags.
 ghost use Rattle.std.specs.Prelude.{◌≡◌, ◌<◌, ◌≤◌, ◌+◌, ◌*◌, ◌/◌, ◌%◌, ℕ, length, map, slice_index};
 ghost use Rattle.std.specs.Simd.Lanes.{Each1, sum_l};
-ghost use Rattle.byte_sums.specs.Sums.{AreAtMost};
-ghost use Rattle.byte_sums.specs.Fields.{AreFields, lower_sum, pair_product, triple_product, upper_sum};
+ghost use Rattle.byte_sums.specs.{Sums.{AreAtMost}, Fields.{AreFields, lower_sum, pair_product, triple_product, upper_sum}};
 
 use crate::pairing::pairs;
 use crate::shorts::total;

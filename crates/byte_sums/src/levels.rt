@@ -1,7 +1,6 @@
 //! The sums of levels of one and two bits: their bytes are even and at most 6, so that a byte holds the halves of two of them.
 ghost use Rattle.std.specs.Prelude.{◌≡◌, ◌<◌, ◌≤◌, ◌+◌, ◌-◌, ◌*◌, ◌/◌, ◌%◌, ℕ, true, bit_and, length, slice_index};
-ghost use Rattle.byte_sums.specs.Sums.{AreAtMost, lag_sum};
-ghost use Rattle.byte_sums.specs.Fields.{AreFields, IsLevel};
+ghost use Rattle.byte_sums.specs.{Sums.{AreAtMost, lag_sum}, Fields.{AreFields, IsLevel}};
 
 use crate::dots::one_sum;
 use crate::fields::{TRIPLE, field_sums};

@@ -1,13 +1,9 @@
 //! The append of an epoch.
 ghost use Rattle.std.specs.Prelude.{◌≡◌, ◌⊎◌, ℕ, List, ◌+◌, ◌*◌, length, option_map, OnOk, OnErr, Some, true};
 ghost use Rattle.dev_traits.specs.Fault.{HasRisen};
-ghost use Rattle.checkpoint_journal.specs.Runs.{Changes, StepTold, AddsEpoch, OneMore};
-ghost use Rattle.piece_plan.specs.Epochs.{IsEpoch, cell_count};
-ghost use Rattle.piece_plan.specs.Order.{place_of, place_after};
+ghost use Rattle.checkpoint_journal.specs.{Runs.{Changes, StepTold, AddsEpoch, OneMore}, Faults.{HasNoRoom}, Kept.{kept_epoch}, Standing.{Stands, StandsOn}};
+ghost use Rattle.piece_plan.specs.{Epochs.{IsEpoch, cell_count}, Order.{place_of, place_after}};
 ghost use Rattle.plan_places.specs.Places.{place_at};
-ghost use Rattle.checkpoint_journal.specs.Faults.{HasNoRoom};
-ghost use Rattle.checkpoint_journal.specs.Kept.{kept_epoch};
-ghost use Rattle.checkpoint_journal.specs.Standing.{Stands, StandsOn};
 
 use crate::walk::past_record;
 use crate::writer::keep_record;

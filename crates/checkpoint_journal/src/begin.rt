@@ -1,10 +1,7 @@
 //! A blank file is made the journal of a job. The head gate stays closed until the identity and the first gate stand
 //! synced behind it.
 ghost use Rattle.std.specs.Prelude.{◌≡◌, ℕ, List, [], ◌∷◌, ◌++◌, ◌+◌, ◌<◌, ◌^◌, length, OnOk, true, is_some, option_map};
-ghost use Rattle.dev_traits.specs.Fault.{Counts};
-ghost use Rattle.dev_traits.specs.Told.{WhereTold};
-ghost use Rattle.dev_traits.specs.Images.{put_at};
-ghost use Rattle.dev_traits.specs.Moments.{Runs, IsDurable};
+ghost use Rattle.dev_traits.specs.{Fault.{Counts}, Told.{WhereTold}, Images.{put_at}, Moments.{Runs, IsDurable}};
 ghost use Rattle.piece_plan.specs.Epochs.{JobSizes, IsJob};
 ghost use Rattle.checkpoint_journal.specs.Runs.{Changes, KeepsFront, KeepsBlank, IsClosedHead, KeepsEpochs};
 ghost use Rattle.journal_image.specs.Image.{is_blank, IsIdentity};

@@ -1,9 +1,7 @@
 //! Bodies, read back.
 ghost use Rattle.std.specs.Prelude.{◌≡◌, ℕ, List, [], ◌∷◌, ◌++◌, ◌+◌, ◌*◌, ◌≤◌, ◌<◌, ◌^◌, length, take, slice_index, OnOk};
-ghost use Rattle.dev_traits.specs.Fault.{Counts};
-ghost use Rattle.dev_traits.specs.Told.{WhereTold};
-ghost use Rattle.checkpoint_journal.specs.Runs.{Looks};
-ghost use Rattle.checkpoint_journal.specs.Cells.{cell_from, cells_at, body_cells};
+ghost use Rattle.dev_traits.specs.{Fault.{Counts}, Told.{WhereTold}};
+ghost use Rattle.checkpoint_journal.specs.{Runs.{Looks}, Cells.{cell_from, cells_at, body_cells}};
 
 use crate::cells::read_cell;
 use crate::reader::load;

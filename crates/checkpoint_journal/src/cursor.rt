@@ -1,14 +1,10 @@
 //! The cursor of a journal: from a gate over the next record to the gate behind it.
 ghost use Rattle.std.specs.Prelude.{◌≡◌, ◌+◌, ◌≤◌, ◌<◌, ◌^◌, min, length, IfOk, Some};
-ghost use Rattle.dev_traits.specs.Fault.{Counts};
-ghost use Rattle.dev_traits.specs.Told.{WhereTold};
-ghost use Rattle.checkpoint_journal.specs.Runs.{Looks};
+ghost use Rattle.dev_traits.specs.{Fault.{Counts}, Told.{WhereTold}};
+ghost use Rattle.checkpoint_journal.specs.{Runs.{Looks}, Kept.{HoldsAny}, Next.{TellsThing, IsEpochOf, IsFrom, IsBeside, TellsRecord, IsPast, TellsRead, before_body}, Listed.{IsPlaced, TellsListed}};
 ghost use Rattle.piece_plan.specs.Epochs.{IsJob};
 ghost use Rattle.plan_places.specs.Places.{place_at, IsPlace};
 ghost use Rattle.journal_image.specs.Finding.{HasEpoch};
-ghost use Rattle.checkpoint_journal.specs.Kept.{HoldsAny};
-ghost use Rattle.checkpoint_journal.specs.Next.{TellsThing, IsEpochOf, IsFrom, IsBeside, TellsRecord, IsPast, TellsRead, before_body};
-ghost use Rattle.checkpoint_journal.specs.Listed.{IsPlaced, TellsListed};
 
 use crate::body::read_front;
 use crate::finding::Found;

@@ -1,7 +1,6 @@
 //! Why a journal is not opened, written or read.
 ghost use Rattle.std.specs.Prelude.{◌≡◌};
-ghost use Rattle.checkpoint_journal.specs.declared.fault.OpenFault.TheVariants.{Memory};
-ghost use Rattle.checkpoint_journal.specs.declared.fault.ListFault.TheVariants.{Disk as DiskOfList, Memory as MemoryOfList};
+ghost use Rattle.checkpoint_journal.specs.{declared.fault.OpenFault.TheVariants.{Memory}, declared.fault.ListFault.TheVariants.{Disk as DiskOfList, Memory as MemoryOfList}};
 
 use dev_traits::Failed;
 use journal_image::Differs;

@@ -1,11 +1,8 @@
 //! The identity in a file's front, compared with that of a job.
 ghost use Rattle.std.specs.Prelude.{◌≡◌, ◌≢◌, ◌+◌, ◌-◌, ◌≤◌, ◌<◌, ◌^◌, ℕ, length, slice_index, IfOk, true, false};
-ghost use Rattle.dev_traits.specs.Fault.{Counts};
-ghost use Rattle.dev_traits.specs.Told.{WhereTold};
-ghost use Rattle.checkpoint_journal.specs.Runs.{Looks};
-ghost use Rattle.journal_image.specs.Image.{IsIdentity};
-ghost use Rattle.journal_image.specs.Difference.{IsOfFront};
-ghost use Rattle.checkpoint_journal.specs.Front.{IsOursByte, OursUpTo, FindsFirst, IsInside, Compares};
+ghost use Rattle.dev_traits.specs.{Fault.{Counts}, Told.{WhereTold}};
+ghost use Rattle.checkpoint_journal.specs.{Runs.{Looks}, Front.{IsOursByte, OursUpTo, FindsFirst, IsInside, Compares}};
+ghost use Rattle.journal_image.specs.{Image.{IsIdentity}, Difference.{IsOfFront}};
 
 use crate::reader::{byte_at, load};
 use dev_traits::{Disk, Failed};

@@ -1,13 +1,9 @@
 //! The epochs that a journal keeps, listed, and their cells by place.
 ghost use Rattle.std.specs.Prelude.{◌≡◌, [], ◌∷◌, ◌++◌, ◌+◌, ◌*◌, ◌≤◌, ◌<◌, ◌^◌, length, IfOk, OnOk};
 ghost use Rattle.std.specs.List.{All};
-ghost use Rattle.dev_traits.specs.Fault.{Counts};
-ghost use Rattle.dev_traits.specs.Told.{WhereTold};
+ghost use Rattle.dev_traits.specs.{Fault.{Counts}, Told.{WhereTold}};
 ghost use Rattle.piece_plan.specs.Epochs.{IsOfPlan, cell_count};
-ghost use Rattle.checkpoint_journal.specs.Runs.{Looks};
-ghost use Rattle.checkpoint_journal.specs.Cells.{cells_at};
-ghost use Rattle.checkpoint_journal.specs.Finding.{HasPlace, IsFound};
-ghost use Rattle.checkpoint_journal.specs.Listed.{Lists, IsPlaced, CountsList};
+ghost use Rattle.checkpoint_journal.specs.{Runs.{Looks}, Cells.{cells_at}, Finding.{HasPlace, IsFound}, Listed.{Lists, IsPlaced, CountsList}};
 
 use crate::body::read_body;
 use crate::cursor::{pass_record, up_to};

@@ -1,10 +1,7 @@
 //! The epochs of a journal, read back one after another.
 ghost use Rattle.std.specs.Prelude.{◌≡◌, ℕ, List, IfOk, OnErr};
-ghost use Rattle.dev_traits.specs.Fault.{Counts};
-ghost use Rattle.dev_traits.specs.Told.{WhereTold};
-ghost use Rattle.checkpoint_journal.specs.Runs.{Looks};
-ghost use Rattle.checkpoint_journal.specs.Kept.{HoldsAny, ReadsNext};
-ghost use Rattle.checkpoint_journal.specs.Standing.{Stands, StandsOn, IsNext};
+ghost use Rattle.dev_traits.specs.{Fault.{Counts}, Told.{WhereTold}};
+ghost use Rattle.checkpoint_journal.specs.{Runs.{Looks}, Kept.{HoldsAny, ReadsNext}, Standing.{Stands, StandsOn, IsNext}};
 
 use crate::cursor::read_record;
 use crate::{Journal, ReadFault};

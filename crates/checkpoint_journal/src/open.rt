@@ -1,17 +1,11 @@
 //! The opening of a journal.
 ghost use Rattle.std.specs.Prelude.{◌≡◌, ◌≢◌, ℕ, List, ◌+◌, ◌≤◌, ◌<◌, ◌^◌, length, IfOk, IfErr, IfSome, OnOk, None, true, false};
-ghost use Rattle.dev_traits.specs.Fault.{Counts};
-ghost use Rattle.dev_traits.specs.Moments.{IsDurable};
-ghost use Rattle.dev_traits.specs.Told.{WhereTold};
-ghost use Rattle.checkpoint_journal.specs.Runs.{Looks, Changes, KeepsEpochs, Spares};
+ghost use Rattle.dev_traits.specs.{Fault.{Counts}, Moments.{IsDurable}, Told.{WhereTold}};
+ghost use Rattle.checkpoint_journal.specs.{Runs.{Looks, Changes, KeepsEpochs, Spares}, Faults.{CountsFault, CountsLook, IsRefused, IsUnread}, Finding.{IsFound, HasPlace}, Kept.{Sees}};
+ghost use Rattle.checkpoint_journal.specs.{Opening.{Opens, OpensReady, IsOpened, AnswersOpening, AnswersLook}, Standing.{Stands}};
 ghost use Rattle.piece_plan.specs.Epochs.{JobSizes, IsJob};
 ghost use Rattle.plan_places.specs.Places.{place_at, IsPlace};
 ghost use Rattle.journal_image.specs.Image.{IsIdentity};
-ghost use Rattle.checkpoint_journal.specs.Faults.{CountsFault, CountsLook, IsRefused, IsUnread};
-ghost use Rattle.checkpoint_journal.specs.Finding.{IsFound, HasPlace};
-ghost use Rattle.checkpoint_journal.specs.Kept.{Sees};
-ghost use Rattle.checkpoint_journal.specs.Opening.{Opens, OpensReady, IsOpened, AnswersOpening, AnswersLook};
-ghost use Rattle.checkpoint_journal.specs.Standing.{Stands};
 
 use crate::begin::begin;
 use crate::finding::{Finding, Found};

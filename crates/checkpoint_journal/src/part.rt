@@ -1,9 +1,7 @@
 //! Which part of a job a file is the journal of, read from its front.
 ghost use Rattle.std.specs.Prelude.{◌≡◌, ◌<◌, ◌≤◌, length, take, slice_index, ◌∷◌, IfOk};
-ghost use Rattle.dev_traits.specs.Fault.{Counts};
-ghost use Rattle.dev_traits.specs.Told.{WhereTold};
-ghost use Rattle.checkpoint_journal.specs.Runs.{Looks};
-ghost use Rattle.checkpoint_journal.specs.Part.{FindsPart, AreNumbers};
+ghost use Rattle.dev_traits.specs.{Fault.{Counts}, Told.{WhereTold}};
+ghost use Rattle.checkpoint_journal.specs.{Runs.{Looks}, Part.{FindsPart, AreNumbers}};
 
 use crate::front::{difference, first_difference};
 use crate::reader::{byte_at, load};

@@ -1,12 +1,9 @@
 //! What a file is, read from its front. Nothing is written.
 ghost use Rattle.std.specs.Prelude.{◌≡◌, ◌+◌, ◌≤◌, ◌<◌, ◌^◌, ℕ, length, take, slice_index, EachIndex, IfOk, OnOk};
-ghost use Rattle.dev_traits.specs.Fault.{Counts};
-ghost use Rattle.dev_traits.specs.Told.{WhereTold};
-ghost use Rattle.checkpoint_journal.specs.Runs.{Looks};
+ghost use Rattle.dev_traits.specs.{Fault.{Counts}, Told.{WhereTold}};
+ghost use Rattle.checkpoint_journal.specs.{Runs.{Looks}, Front.{OursUpTo}, Finding.{Finds, FindsPlace, FindsBehind, IsOther}};
 ghost use Rattle.piece_plan.specs.Epochs.{IsJob};
 ghost use Rattle.journal_image.specs.Image.{IsIdentity};
-ghost use Rattle.checkpoint_journal.specs.Front.{OursUpTo};
-ghost use Rattle.checkpoint_journal.specs.Finding.{Finds, FindsPlace, FindsBehind, IsOther};
 
 use crate::finding::Finding;
 use crate::front::{difference, first_difference};

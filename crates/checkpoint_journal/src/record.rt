@@ -1,12 +1,9 @@
 //! The bytes of a record, written in parts through a buffer.
 ghost use Rattle.std.specs.Prelude.{◌≡◌, ℕ, ◌++◌, ◌+◌, ◌*◌, ◌≤◌, ◌<◌, ◌^◌, length, take, drop, OnOk, is_some, option_map};
-ghost use Rattle.dev_traits.specs.Fault.{Counts};
-ghost use Rattle.dev_traits.specs.Told.{WhereTold};
-ghost use Rattle.dev_traits.specs.Moments.{Runs};
+ghost use Rattle.dev_traits.specs.{Fault.{Counts}, Told.{WhereTold}, Moments.{Runs}};
 ghost use Rattle.corr_model.specs.Records.{cell_text};
 ghost use Rattle.piece_plan.specs.Epochs.{IsOfPlan, cell_count};
-ghost use Rattle.checkpoint_journal.specs.Cells.{body_text};
-ghost use Rattle.checkpoint_journal.specs.Runs.{KeepsFront, put_over};
+ghost use Rattle.checkpoint_journal.specs.{Cells.{body_text}, Runs.{KeepsFront, put_over}};
 ghost use Rattle.journal_image.specs.Image.{range_text};
 
 use atomic_sums::EpochSums;

@@ -1,14 +1,10 @@
 //! The walk along the gates of a journal.
 ghost use Rattle.std.specs.Prelude.{◌≡◌, ◌+◌, ◌≤◌, ◌<◌, ◌^◌, ℕ, length, take, drop, option_map, IfOk, IfSome, true};
-ghost use Rattle.dev_traits.specs.Fault.{Counts};
-ghost use Rattle.dev_traits.specs.Told.{WhereTold};
-ghost use Rattle.checkpoint_journal.specs.Runs.{Looks};
-ghost use Rattle.piece_plan.specs.Epochs.{IsJob, IsEpoch, IsOfPlan};
-ghost use Rattle.piece_plan.specs.Order.{place_after};
+ghost use Rattle.dev_traits.specs.{Fault.{Counts}, Told.{WhereTold}};
+ghost use Rattle.checkpoint_journal.specs.{Runs.{Looks}, Finding.{Finds, FindsPlace, FindsBehind, HasPlace, due_of, record_size}};
+ghost use Rattle.piece_plan.specs.{Epochs.{IsJob, IsEpoch, IsOfPlan}, Order.{place_after}};
 ghost use Rattle.plan_places.specs.Places.{place_at, IsPlace};
-ghost use Rattle.journal_image.specs.Image.{IsIdentity, MayBeOld, begin, start};
-ghost use Rattle.journal_image.specs.Finding.{IsBehind, HasEpoch};
-ghost use Rattle.checkpoint_journal.specs.Finding.{Finds, FindsPlace, FindsBehind, HasPlace, due_of, record_size};
+ghost use Rattle.journal_image.specs.{Image.{IsIdentity, MayBeOld, begin, start}, Finding.{IsBehind, HasEpoch}};
 
 use crate::finding::{Finding, Found};
 use crate::reader::{byte_at, load};

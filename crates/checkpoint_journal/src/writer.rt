@@ -1,15 +1,10 @@
 //! What is written. A gate stands closed and synced before anything behind it is written, and it is opened in a write
 //! of its own.
 ghost use Rattle.std.specs.Prelude.{◌≡◌, ℕ, List, [], ◌∷◌, ◌++◌, ◌+◌, ◌*◌, ◌≤◌, ◌<◌, ◌^◌, length, take, OnOk, is_some, option_map};
-ghost use Rattle.dev_traits.specs.Fault.{Counts};
-ghost use Rattle.dev_traits.specs.Told.{WhereTold};
-ghost use Rattle.dev_traits.specs.Images.{put_at, Torn, Shorn};
-ghost use Rattle.dev_traits.specs.Moments.{Goes, Runs, IsDurable};
+ghost use Rattle.dev_traits.specs.{Fault.{Counts}, Told.{WhereTold}, Images.{put_at, Torn, Shorn}, Moments.{Goes, Runs, IsDurable}};
 ghost use Rattle.piece_plan.specs.Epochs.{JobSizes, IsJob, IsOfPlan, cell_count};
-ghost use Rattle.checkpoint_journal.specs.Cells.{body_text};
-ghost use Rattle.checkpoint_journal.specs.Runs.{Changes, KeepsFront, put_over, IsDue, Adds};
+ghost use Rattle.checkpoint_journal.specs.{Cells.{body_text}, Runs.{Changes, KeepsFront, put_over, IsDue, Adds}, Staged.{IsStaged}};
 ghost use Rattle.journal_image.specs.Image.{IsIdentity, Reading, Reads, Thing, Kept, Turn, mark_text, range_text, more};
-ghost use Rattle.checkpoint_journal.specs.Staged.{IsStaged};
 
 use crate::record::write_record;
 use atomic_sums::EpochSums;

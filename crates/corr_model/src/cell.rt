@@ -1,8 +1,7 @@
 //! Cells and pairs.
 ghost use Rattle.std.specs.Prelude.{◌≡◌, ◌≤◌, ◌<◌, ◌^◌, ℕ, ℤ, FitsSigned};
 ghost use Rattle.std.specs.Int.{w64};
-ghost use Rattle.corr_model.specs.Cell.{cell_in, cell_plus, Samples};
-ghost use Rattle.corr_model.specs.declared.cell.Pair.{Pair};
+ghost use Rattle.corr_model.specs.{Cell.{cell_in, cell_plus, Samples}, declared.cell.Pair.{Pair}};
 
 use crate::Values;
 

@@ -26,8 +26,7 @@ pub struct Line {
 impl Line {
     ghost use Rattle.std.specs.Prelude.{◌≡◌, ◌^◌, ◌≤◌, ◌<◌, unsigned_abs};
     ghost use Rattle.corr_model.specs.Delay.{between, nearest};
-    ghost use Rattle.delay_line.specs.Interval.{IsIn};
-    ghost use Rattle.delay_line.specs.Stretch.{IsExit, IsStretch};
+    ghost use Rattle.delay_line.specs.{Interval.{IsIn}, Stretch.{IsExit, IsStretch}};
 
     /// The delay `past` samples behind the first knot.
     pub fn delay(&self, past: u32) -> i64

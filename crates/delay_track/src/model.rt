@@ -27,10 +27,7 @@ impl<'a> StationModel<'a> {
     ghost use Rattle.std.specs.Prelude.{◌≡◌, ℕ, ◌+◌, ◌*◌, ◌^◌, ◌≤◌, ◌<◌, ◌↔◌, ◌≤ℤ◌, ◌<ℤ◌, pos, ◌-ℤ◌, ◌*ℤ◌, unsigned_abs, true, Some, IsSome, IfSome};
     ghost use Rattle.num_time.specs.Times.{IsSecond};
     ghost use Rattle.corr_model.specs.Delay.{second_at, poly_at, samples_since, knot_before, past_knot, clock_of, clock_samples, clock_at_knot, knot_delay, delay_by, delay_at, is_modelled, has_model, has_clock};
-    ghost use Rattle.delay_track.specs.Model.{IsKnot};
-    ghost use Rattle.delay_track.specs.StationModel.{delay_model_of};
-    ghost use Rattle.delay_track.specs.Track.{model_of};
-    ghost use Rattle.delay_track.specs.Piece.{IsPiece};
+    ghost use Rattle.delay_track.specs.{Model.{IsKnot}, StationModel.{delay_model_of}, Track.{model_of}, Piece.{IsPiece}};
 
     // The second in which sample `n` lies.
     fn second_at(&self, n: u64) -> i64

@@ -1,8 +1,6 @@
 //! Runs of one whole delay.
 ghost use Rattle.std.specs.Prelude.{◌≡◌, ◌≤◌, ◌<◌, ◌-◌};
-ghost use Rattle.delay_track.specs.Track.{model_of};
-ghost use Rattle.delay_track.specs.Piece.{IsPiece};
-ghost use Rattle.delay_track.specs.Runs.{IsNextRun};
+ghost use Rattle.delay_track.specs.{Track.{model_of}, Piece.{IsPiece}, Runs.{IsNextRun}};
 
 use crate::Track;
 use crate::piece::Piece;
@@ -30,8 +28,7 @@ pub struct Runs<'a> {
 }
 
 impl<'a> Model for Runs<'a> {
-    ghost use Rattle.delay_track.specs.Track.{model_of};
-    ghost use Rattle.delay_track.specs.Runs.{RunsFields};
+    ghost use Rattle.delay_track.specs.{Track.{model_of}, Runs.{RunsFields}};
 
     ghost Value = { RunsFields };
 

@@ -26,10 +26,7 @@ pub struct Track<'a> {
 impl<'a> Track<'a> {
     ghost use Rattle.std.specs.Prelude.{◌≡◌, ℕ, ◌^◌, ◌≤◌, ◌<◌, unsigned_abs};
     ghost use Rattle.corr_model.specs.Delay.{delay_at, whole_at};
-    ghost use Rattle.delay_track.specs.StationModel.{delay_model_of};
-    ghost use Rattle.delay_track.specs.Track.{model_of};
-    ghost use Rattle.delay_track.specs.Piece.{IsPiece};
-    ghost use Rattle.delay_track.specs.Runs.{IsRun};
+    ghost use Rattle.delay_track.specs.{StationModel.{delay_model_of}, Track.{model_of}, Piece.{IsPiece}, Runs.{IsRun}};
 
     // What the track's delays depend on.
     fn model(&self) -> StationModel<'a>

@@ -1,10 +1,6 @@
 // One file that is read and written by place, and what a crash may leave of it.
 ghost use Rattle.std.specs.Prelude.{◌≡◌, ◌+◌, ◌<◌, ◌≤◌, ◌^◌, List, ℕ, Option, Some, length, take, option_map, is_some, true, IfOk, OnOk};
-ghost use Rattle.dev_traits.specs.Fault.{Counts};
-ghost use Rattle.dev_traits.specs.Told.{WhereTold};
-ghost use Rattle.dev_traits.specs.Files.{ReadsAt};
-ghost use Rattle.dev_traits.specs.Images.{put_at, Same, Torn, Shorn};
-ghost use Rattle.dev_traits.specs.Moments.{Goes, IsDurable, GoesOn};
+ghost use Rattle.dev_traits.specs.{Fault.{Counts}, Told.{WhereTold}, Files.{ReadsAt}, Images.{put_at, Same, Torn, Shorn}, Moments.{Goes, IsDurable, GoesOn}};
 
 use crate::Failed;
 

@@ -1,8 +1,6 @@
 // Files that are read by name and place.
 ghost use Rattle.std.specs.Prelude.{◌≡◌, ◌≤◌, ◌<◌, ◌^◌, List, ℕ, Option, length, IfOk, IfSome};
-ghost use Rattle.dev_traits.specs.Fault.{Counts};
-ghost use Rattle.dev_traits.specs.Told.{WhereTold};
-ghost use Rattle.dev_traits.specs.Files.{size_of, ReadsAt};
+ghost use Rattle.dev_traits.specs.{Fault.{Counts}, Told.{WhereTold}, Files.{size_of, ReadsAt}};
 
 use crate::Failed;
 

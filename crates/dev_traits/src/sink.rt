@@ -1,7 +1,6 @@
 // A place that bytes are appended to.
 ghost use Rattle.std.specs.Prelude.{◌≡◌, ◌≤◌, ◌<◌, List, [], ℕ, Option, length, take, IfOk, IsOk, OnOk, OnErr};
-ghost use Rattle.dev_traits.specs.Fault.{Counts};
-ghost use Rattle.dev_traits.specs.Told.{more, PrefixMore};
+ghost use Rattle.dev_traits.specs.{Fault.{Counts}, Told.{more, PrefixMore}};
 
 use crate::Failed;
 

@@ -1,7 +1,6 @@
 ghost use Rattle.std.specs.Prelude.{◌≡◌, ◌≢◌, ◌++◌, ◌∷◌, [], ◌↔◌, ℤ, IfOk, OnErr, IsTrue, if◌then◌else◌};
 ghost use Rattle.std.specs.List.{All};
-ghost use Rattle.entry_list.specs.Latest.{DifferInSecond, IsInForce, IsNext, in_force};
-ghost use Rattle.entry_list.specs.Index.{IsGreatestUpTo, IsLeastAfter};
+ghost use Rattle.entry_list.specs.{Latest.{DifferInSecond, IsInForce, IsNext, in_force}, Index.{IsGreatestUpTo, IsLeastAfter}};
 
 use std::alloc::{AllocError, Global};
 use std::collections::BTreeMap;
@@ -28,8 +27,7 @@ pub struct EntryList<E: HasSecond> {
 
 impl<E: HasSecond> Model for EntryList<E> {
     ghost use Rattle.std.specs.Prelude.{List};
-    ghost use Rattle.entry_list.specs.Latest.{DifferInSecond};
-    ghost use Rattle.entry_list.specs.Index.{IsIndex};
+    ghost use Rattle.entry_list.specs.{Latest.{DifferInSecond}, Index.{IsIndex}};
 
     ghost Value = { List E };
 

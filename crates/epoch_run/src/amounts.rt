@@ -1,8 +1,7 @@
 //! The amounts of cells.
 ghost use Rattle.std.specs.Prelude.{◌≡◌, ◌+◌, ◌*◌, ◌≤◌, ◌≤ℤ◌, ◌+ℤ◌, ◌++◌, pos, neg_ℤ, unsigned_abs, length, take, flat_map};
 ghost use Rattle.std.specs.List.{All};
-ghost use Rattle.epoch_run.specs.Amounts.{amounts_in, bias_of};
-ghost use Rattle.epoch_run.specs.Levelled.{IsWithin};
+ghost use Rattle.epoch_run.specs.{Amounts.{amounts_in, bias_of}, Levelled.{IsWithin}};
 
 use corr_model::Cell;
 

@@ -1,9 +1,7 @@
 //! Planes of rows of codes.
 ghost use Rattle.std.specs.Prelude.{◌≡◌, ◌≢◌, ◌<◌, ◌≤◌, ◌+◌, ◌*◌, ℕ, ℤ, IfOk, length, map, slice_index_or, Vec};
-ghost use Rattle.std.specs.Global.{Global};
-ghost use Rattle.std.specs.List.{All};
-ghost use Rattle.epoch_run.specs.Planes.{chans_value, items_of};
-ghost use Rattle.epoch_run.specs.Rows.{HoldRows, IsRowOf, row_value};
+ghost use Rattle.std.specs.{Global.{Global}, List.{All}};
+ghost use Rattle.epoch_run.specs.{Planes.{chans_value, items_of}, Rows.{HoldRows, IsRowOf, row_value}};
 
 use bit_planes::Planes;
 use std::alloc::{AllocError, Global};

@@ -1,13 +1,11 @@
 //! The cells of a range of samples by the bins of a pulse.
 ghost use Rattle.std.specs.Prelude.{◌≡◌, ◌≢◌, ◌+◌, ◌-◌, ◌*◌, ◌%◌, ◌<◌, ◌≤◌, ◌^◌, ℕ, length, slice_index_or};
 ghost use Rattle.std.specs.List.{All};
-ghost use Rattle.corr_model.specs.declared.cell.Cell.{Cell};
-ghost use Rattle.corr_model.specs.Cell.{cell_plus, no_cell};
+ghost use Rattle.corr_model.specs.{declared.cell.Cell.{Cell}, Cell.{cell_plus, no_cell}};
 ghost use Rattle.delay_track.specs.Track.{model_of};
 ghost use Rattle.lag_kernel.specs.Planes.{plane_pair, plane_samples};
 ghost use Rattle.pulsar_bins.specs.Bin.{bin_at};
-ghost use Rattle.epoch_run.specs.Binned.{bin_cells};
-ghost use Rattle.epoch_run.specs.Levelled.{AllLevelled, IsWithin};
+ghost use Rattle.epoch_run.specs.{Binned.{bin_cells}, Levelled.{AllLevelled, IsWithin}};
 
 use bit_planes::Planes;
 use corr_model::Cell;

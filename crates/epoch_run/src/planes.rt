@@ -2,10 +2,7 @@
 ghost use Rattle.std.specs.Prelude.{◌≡◌, ◌*◌, ℤ, None, IfOk, length};
 ghost use Rattle.std.specs.List.{All};
 ghost use Rattle.bit_planes.specs.Planes.{plane_value};
-ghost use Rattle.epoch_run.specs.Streamed.{streamed};
-ghost use Rattle.epoch_run.specs.Levelled.{AllLevelled};
-ghost use Rattle.epoch_run.specs.Planes.{HoldStreams, planed};
-ghost use Rattle.epoch_run.specs.Rows.{HoldRows, IsRowOf};
+ghost use Rattle.epoch_run.specs.{Streamed.{streamed}, Levelled.{AllLevelled}, Planes.{HoldStreams, planed}, Rows.{HoldRows, IsRowOf}};
 
 use crate::coded::stations_of_rows;
 use crate::copied::stations_of_streams;
@@ -25,8 +22,7 @@ pub struct EpochPlanes {
 impl Model for EpochPlanes {
     ghost use Rattle.std.specs.Prelude.{List, map};
     ghost use Rattle.bit_planes.specs.Planes.{PlanesFields};
-    ghost use Rattle.epoch_run.specs.Levelled.{AllLevelled};
-    ghost use Rattle.epoch_run.specs.Planes.{planed};
+    ghost use Rattle.epoch_run.specs.{Levelled.{AllLevelled}, Planes.{planed}};
 
     ghost Value = { List (List PlanesFields) };
 

@@ -4,11 +4,7 @@ ghost use Rattle.std.specs.List.{All};
 ghost use Rattle.station_stream.specs.Stream.{StreamFields};
 ghost use Rattle.delay_track.specs.Track.{model_of};
 ghost use Rattle.pulsar_bins.specs.Bin.{bin_at};
-ghost use Rattle.epoch_run.specs.Amounts.{work_cells};
-ghost use Rattle.epoch_run.specs.Binned.{bin_cells_in_epoch};
-ghost use Rattle.epoch_run.specs.Planes.{HoldStreams, IsNumbered, planed};
-ghost use Rattle.epoch_run.specs.Streamed.{streamed};
-ghost use Rattle.epoch_run.specs.Sums.{IsSummed, cells_in_epoch, pieces_in_epoch};
+ghost use Rattle.epoch_run.specs.{Amounts.{work_cells}, Binned.{bin_cells_in_epoch}, Planes.{HoldStreams, IsNumbered, planed}, Streamed.{streamed}, Sums.{IsSummed, cells_in_epoch, pieces_in_epoch}};
 
 use crate::planes::EpochPlanes;
 use crate::team::{join_team, make_team, run_team};

@@ -1,12 +1,9 @@
 //! The team of an epoch: its workers, each with a seat of the board and room of its own.
 ghost use Rattle.std.specs.Prelude.{◌≡◌, ◌+◌, ◌*◌, ◌<◌, ◌≤◌, None, true, IfOk, length, vec_len};
-ghost use Rattle.std.specs.List.{All};
-ghost use Rattle.std.specs.Thread.{IsSync};
+ghost use Rattle.std.specs.{List.{All}, Thread.{IsSync}};
 ghost use Rattle.piece_claim.specs.State.{new_seat};
 ghost use Rattle.atomic_sums.specs.Seats.{seat_of};
-ghost use Rattle.epoch_run.specs.Binned.{stretch_of};
-ghost use Rattle.epoch_run.specs.Amounts.{IsBoardOf, HaveAmounts, cells_of};
-ghost use Rattle.epoch_run.specs.Team.{IsReady, IsOver};
+ghost use Rattle.epoch_run.specs.{Binned.{stretch_of}, Amounts.{IsBoardOf, HaveAmounts, cells_of}, Team.{IsReady, IsOver}};
 
 use crate::work::{Work, work_pieces};
 use atomic_sums::{BoardSeat, SumBoard};

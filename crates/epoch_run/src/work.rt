@@ -1,17 +1,13 @@
 //! What the workers of an epoch read, and what a worker does.
 ghost use Rattle.std.specs.Prelude.{◌≡◌, ◌<◌, ◌≤◌, ◌+◌, ◌-◌, ◌*◌, [], true, Some, None, length, slice_get, IfOk};
 ghost use Rattle.std.specs.List.{All};
-ghost use Rattle.piece_claim.specs.State.{new_seat};
-ghost use Rattle.piece_claim.specs.Moves.{CanDraw};
+ghost use Rattle.piece_claim.specs.{State.{new_seat}, Moves.{CanDraw}};
 ghost use Rattle.atomic_sums.specs.Seats.{seat_of};
 ghost use Rattle.lag_kernel.specs.Planes.{plane_pair, plane_samples};
 ghost use Rattle.piece_plan.specs.Pieces.{per_group, pieces_of};
 ghost use Rattle.delay_track.specs.Track.{model_of};
-ghost use Rattle.epoch_run.specs.Sums.{IsSummed, pieces_in_epoch};
-ghost use Rattle.epoch_run.specs.Binned.{bin_by, bin_cells, bins_of, stretch_of};
-ghost use Rattle.epoch_run.specs.Amounts.{IsBoardOf, HaveAmounts, amounts_of, cells_of, cells_over, cut_of, work_cells};
-ghost use Rattle.epoch_run.specs.Levelled.{AllLevelled, IsWithin};
-ghost use Rattle.epoch_run.specs.Part.{IsPart};
+ghost use Rattle.epoch_run.specs.{Sums.{IsSummed, pieces_in_epoch}, Binned.{bin_by, bin_cells, bins_of, stretch_of}};
+ghost use Rattle.epoch_run.specs.{Amounts.{IsBoardOf, HaveAmounts, amounts_of, cells_of, cells_over, cut_of, work_cells}, Levelled.{AllLevelled, IsWithin}, Part.{IsPart}};
 
 use crate::amounts::write_amounts;
 use crate::phase::{Phase, bin_lags};
@@ -39,9 +35,7 @@ pub struct Work<'a> {
 }
 
 impl<'a> Model for Work<'a> {
-    ghost use Rattle.epoch_run.specs.Amounts.{WorkFields};
-    ghost use Rattle.epoch_run.specs.Binned.{phase_of};
-    ghost use Rattle.epoch_run.specs.Levelled.{IsWork};
+    ghost use Rattle.epoch_run.specs.{Amounts.{WorkFields}, Binned.{phase_of}, Levelled.{IsWork}};
 
     ghost Value = { WorkFields };
 

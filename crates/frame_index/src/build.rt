@@ -2,11 +2,7 @@
 ghost use Rattle.std.specs.Prelude.{◌≡◌, ◌≤◌, ◌<◌, ◌+◌, ◌^◌, ◌↔◌, None, List, ℕ, map, length, IfOk, IfErr, OnOk};
 ghost use Rattle.dev_traits.specs.Told.{WhereTold};
 ghost use Rattle.corr_model.specs.Slots.{Slot, placed_from, slots_of};
-ghost use Rattle.frame_index.specs.Faults.{CountsReads, IsReadOrMemory, IsFieldOf};
-ghost use Rattle.frame_index.specs.Foreign.{foreign_field};
-ghost use Rattle.frame_index.specs.Indexed.{IsIndexOf};
-ghost use Rattle.frame_index.specs.Layouts.{IsLayoutOf};
-ghost use Rattle.frame_index.specs.Building.{Extends};
+ghost use Rattle.frame_index.specs.{Faults.{CountsReads, IsReadOrMemory, IsFieldOf}, Foreign.{foreign_field}, Indexed.{IsIndexOf}, Layouts.{IsLayoutOf}, Building.{Extends}};
 ghost use Rattle.frame_index.specs.Recording.{AreOnShelf, slots_on, bytes_on, slot_total};
 
 use crate::builder::Builder;

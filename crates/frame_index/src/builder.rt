@@ -1,7 +1,6 @@
 //! An index on its way.
 ghost use Rattle.std.specs.Prelude.{◌≡◌, ◌<◌, ◌+◌, ◌^◌, ◌==◌, if◌then◌else◌, [], ◌∷◌, List, ℕ, None, Some, IfOk, OnOk, MatchResult, length, min};
-ghost use Rattle.vdif_frame.specs.Header.{HeaderFields, fields_of, AreInRange};
-ghost use Rattle.vdif_frame.specs.Agreement.{first_field};
+ghost use Rattle.vdif_frame.specs.{Header.{HeaderFields, fields_of, AreInRange}, Agreement.{first_field}};
 ghost use Rattle.frame_index.specs.Orderly.{IsOrderly};
 
 use crate::counts::Counts;

@@ -1,7 +1,6 @@
 //! The first slot of each frame.
 ghost use Rattle.std.specs.Prelude.{◌≡◌};
-ghost use Rattle.std.specs.List.Sorted.{IsStrictlySortedBy};
-ghost use Rattle.std.specs.Map.{keys_of};
+ghost use Rattle.std.specs.{List.Sorted.{IsStrictlySortedBy}, Map.{keys_of}};
 ghost use Rattle.std.proofs.Props.{props};
 ghost use Rattle.frame_index.specs.FrameOrder.{frame_cmp, place_under};
 

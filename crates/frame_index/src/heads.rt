@@ -1,13 +1,9 @@
 //! The headers of a file's slots, read in pieces.
 ghost use Rattle.std.specs.Prelude.{◌≡◌, ◌≤◌, ◌<◌, ◌+◌, ◌-◌, ◌*◌, ◌/◌, ◌^◌, ◌∷◌, [], List, ℕ, length, take, drop, IfOk, OnOk, IfErr, min};
 ghost use Rattle.std.specs.Str.{IsUtf8};
-ghost use Rattle.dev_traits.specs.Files.{bytes_of};
-ghost use Rattle.dev_traits.specs.Told.{WhereTold};
+ghost use Rattle.dev_traits.specs.{Files.{bytes_of}, Told.{WhereTold}};
 ghost use Rattle.corr_model.specs.Slots.{slot_at, placed_slot, placed_in};
-ghost use Rattle.frame_index.specs.Layouts.{IsLayoutOf};
-ghost use Rattle.frame_index.specs.Faults.{CountsReads, IsReadOrMemory};
-ghost use Rattle.frame_index.specs.Building.{Extends};
-ghost use Rattle.frame_index.specs.Pieces.{placed_run, IsPieceOf};
+ghost use Rattle.frame_index.specs.{Layouts.{IsLayoutOf}, Faults.{CountsReads, IsReadOrMemory}, Building.{Extends}, Pieces.{placed_run, IsPieceOf}};
 
 use crate::builder::Builder;
 use crate::fault::IndexFault;

@@ -2,11 +2,7 @@
 ghost use Rattle.std.specs.Prelude.{◌≡◌, List, map, IfOk, IfErr, None};
 ghost use Rattle.vdif_frame.specs.Shape.{ShapeFields};
 ghost use Rattle.corr_model.specs.Slots.{Slot};
-ghost use Rattle.frame_index.specs.Foreign.{foreign_field};
-ghost use Rattle.frame_index.specs.Indexed.{IsIndexOf, place_in};
-ghost use Rattle.frame_index.specs.Building.{Holds};
-ghost use Rattle.frame_index.specs.SlotOrder.{FollowOn};
-ghost use Rattle.frame_index.specs.Faults.{IsFieldFault};
+ghost use Rattle.frame_index.specs.{Foreign.{foreign_field}, Indexed.{IsIndexOf, place_in}, Building.{Holds}, SlotOrder.{FollowOn}, Faults.{IsFieldFault}};
 
 use crate::builder::Builder;
 use crate::counts::Counts;

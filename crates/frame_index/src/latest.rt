@@ -1,8 +1,6 @@
 //! The latest frame of each thread.
 ghost use Rattle.std.specs.Prelude.{◌≡◌, ◌<◌, ◌^◌, ◌==◌, ◌&&◌, ◌||◌, false, IfOk, length};
-ghost use Rattle.frame_index.specs.declared.frame.Frame.{Frame};
-ghost use Rattle.frame_index.specs.FrameOrder.{is_earlier};
-ghost use Rattle.frame_index.specs.Passed.{is_passed};
+ghost use Rattle.frame_index.specs.{declared.frame.Frame.{Frame}, FrameOrder.{is_earlier}, Passed.{is_passed}};
 
 use crate::frame::Frame;
 use std::alloc::{AllocError, Global};

@@ -1,8 +1,7 @@
 //! The files of a station, and how they are cut.
 ghost use Rattle.std.specs.Prelude.{◌≡◌, ◌≤◌, ◌<◌, ◌+◌, ◌-◌, ◌*◌, ◌/◌, ◌^◌, MatchOption, length};
 ghost use Rattle.vdif_frame.specs.Shape.{IsShape};
-ghost use Rattle.frame_index.specs.Layouts.{IsLayoutOf};
-ghost use Rattle.frame_index.specs.Recording.{slots_by_size};
+ghost use Rattle.frame_index.specs.{Layouts.{IsLayoutOf}, Recording.{slots_by_size}};
 
 use num_time::Name;
 use vdif_frame::Shape;

@@ -1,7 +1,6 @@
 //! The header of a slot.
 ghost use Rattle.std.specs.Prelude.{◌≡◌, None, Some, IfOk, IfErr, length, min};
-ghost use Rattle.vdif_frame.specs.Header.{fields_of, AreInRange};
-ghost use Rattle.vdif_frame.specs.Agreement.{first_field};
+ghost use Rattle.vdif_frame.specs.{Header.{fields_of, AreInRange}, Agreement.{first_field}};
 
 use vdif_frame::{Field, Header, Shape, agrees};
 

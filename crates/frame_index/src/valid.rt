@@ -1,7 +1,6 @@
 //! The frames of valid slots.
 ghost use Rattle.std.specs.Prelude.{◌≡◌, ◌+◌, [], ◌∷◌, ◌++◌, List, IfOk, OnOk, if◌then◌else◌, length};
-ghost use Rattle.frame_index.specs.FrameOrder.{place_under, AreInFileOrder, frames_in};
-ghost use Rattle.frame_index.specs.declared.frame.Frame.{Frame};
+ghost use Rattle.frame_index.specs.{FrameOrder.{place_under, AreInFileOrder, frames_in}, declared.frame.Frame.{Frame}};
 
 use crate::frame::{Frame, SlotAt};
 use crate::frames::FramePlaces;

@@ -1,9 +1,6 @@
 //! The check of a certificate.
 ghost use Rattle.std.specs.Prelude.{◌≡◌, ◌+◌, ◌≤◌, ◌∷◌, ◌↔◌, List, IsOk, IfOk, IfErr, length};
-ghost use Rattle.fringe_search.specs.Layout.{IsSeriesAt};
-ghost use Rattle.fringe_search.specs.Peaks.{AreSmall};
-ghost use Rattle.fringe_search.specs.Certificates.{AtPeak, IsRight};
-ghost use Rattle.fringe_search.specs.Fronts.{IsRead, IsStopped, IsWrongAt};
+ghost use Rattle.fringe_search.specs.{Layout.{IsSeriesAt}, Peaks.{AreSmall}, Certificates.{AtPeak, IsRight}, Fronts.{IsRead, IsStopped, IsWrongAt}};
 
 use crate::grid::Grid;
 use crate::places::{SeriesAt, after, first};

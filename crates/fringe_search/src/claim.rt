@@ -1,9 +1,6 @@
 //! Why a lag has no better point than the peak.
 ghost use Rattle.std.specs.Prelude.{◌<◌, ◌↔◌, IsTrue};
-ghost use Rattle.fringe_search.specs.Layout.{IsLagOf};
-ghost use Rattle.fringe_search.specs.Peaks.{IsAhead, IsSmall};
-ghost use Rattle.fringe_search.specs.Best.{IsPoint};
-ghost use Rattle.fringe_search.specs.Certificates.{IsTrueMark};
+ghost use Rattle.fringe_search.specs.{Layout.{IsLagOf}, Peaks.{IsAhead, IsSmall}, Best.{IsPoint}, Certificates.{IsTrueMark}};
 
 use crate::grid::Grid;
 use crate::peak::{Point, point_from, rate_at, room};

@@ -1,8 +1,7 @@
 //! What follows from the definitions for every record file. The functions do nothing: a call brings its law.
 ghost use Rattle.std.specs.Prelude.{ℕ, List};
 ghost use Rattle.vis_records.specs.Content.{Content};
-ghost use Rattle.fringe_search.specs.Certificates.{IsRight};
-ghost use Rattle.fringe_search.specs.Laws.{HasItsCells, HasItsPeaks};
+ghost use Rattle.fringe_search.specs.{Certificates.{IsRight}, Laws.{HasItsCells, HasItsPeaks}};
 
 /// The cells of a series in an integration are those of the record of that scan, integration, product and baseline.
 pub fn cells_of_records()

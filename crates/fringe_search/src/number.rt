@@ -1,8 +1,6 @@
 //! Numbers at the front of a text.
 ghost use Rattle.std.specs.Prelude.{◌≡◌, ◌≤◌, ◌<◌, ◌^◌, ◌==◌, ℕ, ℤ, List, length, decimal, MatchOption, FitsSigned};
-ghost use Rattle.std.specs.List.{position_or_len, before_first};
-ghost use Rattle.std.specs.Fmt.{signed_decimal};
-ghost use Rattle.std.specs.Int.{w32};
+ghost use Rattle.std.specs.{List.{position_or_len, before_first}, Fmt.{signed_decimal}, Int.{w32}};
 ghost use Rattle.fringe_search.specs.Numbers.{IsNumberThen, IsSignedThen, HasNoNumber, HasNoSigned};
 
 use crate::strip::{strip_number, strip_signed};

@@ -1,9 +1,7 @@
 //! The search for the peak.
 ghost use Rattle.std.specs.Prelude.{◌≡◌, ◌+◌, ◌*◌, ◌<◌, ◌≤◌, ◌-ℤ◌, pos, length};
 ghost use Rattle.corr_model.specs.Lags.{lag_of};
-ghost use Rattle.fringe_search.specs.Layout.{IsSeriesAt, IsLagOf, series_of};
-ghost use Rattle.fringe_search.specs.Peaks.{IsRate, IsPeak, IsSmall, AreSmall};
-ghost use Rattle.fringe_search.specs.Best.{IsPoint, IsBest};
+ghost use Rattle.fringe_search.specs.{Layout.{IsSeriesAt, IsLagOf, series_of}, Peaks.{IsRate, IsPeak, IsSmall, AreSmall}, Best.{IsPoint, IsBest}};
 
 use crate::grid::{Grid, Peak};
 use crate::places::SeriesAt;

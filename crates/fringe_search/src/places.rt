@@ -2,8 +2,7 @@
 ghost use Rattle.std.specs.Prelude.{◌≡◌, ◌+◌, ◌≤◌, ◌<◌, ◌∷◌, length, MatchOption};
 ghost use Rattle.corr_model.specs.Records.{IsHead};
 ghost use Rattle.vis_records.specs.Heads.{scan_of};
-ghost use Rattle.fringe_search.specs.Layout.{IsSeriesAt, scan_at, series_in};
-ghost use Rattle.fringe_search.specs.InOrder.{scans_from, series_from, series_next};
+ghost use Rattle.fringe_search.specs.{Layout.{IsSeriesAt, scan_at, series_in}, InOrder.{scans_from, series_from, series_next}};
 
 use vis_records::{VisHead, VisScan};
 

@@ -1,9 +1,7 @@
 //! The lines of a certificate at the front of a text.
 ghost use Rattle.std.specs.Prelude.{◌≡◌, ◌≢◌, ◌++◌, ◌≤◌, ◌<◌, ℕ, MatchOption};
 ghost use Rattle.corr_model.specs.Lags.{lag_of};
-ghost use Rattle.fringe_search.specs.Peaks.{IsRate, IsSmall};
-ghost use Rattle.fringe_search.specs.Best.{IsPoint};
-ghost use Rattle.fringe_search.specs.Certificates.{GridLine, LagLine, line_text, sums_text};
+ghost use Rattle.fringe_search.specs.{Peaks.{IsRate, IsSmall}, Best.{IsPoint}, Certificates.{GridLine, LagLine, line_text, sums_text}};
 ghost use Rattle.fringe_search.specs.Taken.{IsGridOf, IsPointAt, HasPeakLine, HasNoPeakLine, HasLagLine, HasNoMark, HasNoLagLine, Lacks};
 
 use crate::claim::{Mark, is_true_mark};

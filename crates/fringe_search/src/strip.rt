@@ -1,8 +1,7 @@
 //! Words at the front of a text.
 ghost use Rattle.std.specs.Prelude.{◌≡◌, ◌++◌, decimal, MatchOption};
 ghost use Rattle.std.specs.Fmt.{signed_decimal};
-ghost use Rattle.fringe_search.specs.Certificates.{mark_text, place_text};
-ghost use Rattle.fringe_search.specs.Taken.{Lacks};
+ghost use Rattle.fringe_search.specs.{Certificates.{mark_text, place_text}, Taken.{Lacks}};
 
 use crate::claim::Mark;
 use crate::places::SeriesAt;

@@ -1,7 +1,6 @@
 //! Sums of a lag's cells.
 ghost use Rattle.std.specs.Prelude.{◌≡◌, ◌<◌, ◌≤◌, ◌^◌, ◌*◌, ◌+◌, ◌+ℤ◌, ◌-ℤ◌, ◌*ℤ◌, unsigned_abs};
-ghost use Rattle.fringe_search.specs.Sums.{cosine_of, sine_of, turned_re, turned_im, size, re_at, im_at, amplitude_at, power_of, bound_at};
-ghost use Rattle.fringe_search.specs.Peaks.{IsRate};
+ghost use Rattle.fringe_search.specs.{Sums.{cosine_of, sine_of, turned_re, turned_im, size, re_at, im_at, amplitude_at, power_of, bound_at}, Peaks.{IsRate}};
 
 use crate::grid::Grid;
 use crate::phase::{Phase, next, step_of};

@@ -1,9 +1,7 @@
 //! The certificate on its way to a sink.
 ghost use Rattle.std.specs.Prelude.{◌≡◌, ◌<◌};
 ghost use Rattle.sink_text.specs.Written.{Puts};
-ghost use Rattle.fringe_search.specs.Layout.{IsSeriesAt};
-ghost use Rattle.fringe_search.specs.Peaks.{AreSmall, IsSmall};
-ghost use Rattle.fringe_search.specs.Certificates.{GridLine, PeakLine, LagLine, line_text, lines_text, peak_text, place_text};
+ghost use Rattle.fringe_search.specs.{Layout.{IsSeriesAt}, Peaks.{AreSmall, IsSmall}, Certificates.{GridLine, PeakLine, LagLine, line_text, lines_text, peak_text, place_text}};
 ghost use Rattle.fringe_search.specs.Written.{due_mark, lag_lines, shown, PutsSeries, PutsCertificate, AppendsCertificate};
 
 use crate::claim::Mark;

@@ -1,7 +1,6 @@
 //! Turns of one direction.
 ghost use Rattle.std.specs.Prelude.{◌≡◌, ◌≤◌, ◌<◌, ◌-◌, ◌^◌};
-ghost use Rattle.delay_track.specs.Track.{model_of};
-ghost use Rattle.delay_track.specs.Piece.{IsPiece};
+ghost use Rattle.delay_track.specs.{Track.{model_of}, Piece.{IsPiece}};
 ghost use Rattle.fringe_turns.specs.Turns.{IsNextTurn};
 
 use crate::fringe::Fringe;
@@ -34,8 +33,7 @@ pub struct Turns<'a> {
 
 impl<'a> Model for Turns<'a> {
     ghost use Rattle.delay_track.specs.Track.{model_of};
-    ghost use Rattle.fringe_turns.specs.Eighths.{band_of};
-    ghost use Rattle.fringe_turns.specs.Turns.{TurnsFields};
+    ghost use Rattle.fringe_turns.specs.{Eighths.{band_of}, Turns.{TurnsFields}};
 
     ghost Value = { TurnsFields };
 

@@ -1,8 +1,7 @@
 //! The summary of a record file.
 ghost use Rattle.std.specs.Prelude.{◌≡◌, length};
 ghost use Rattle.corr_model.specs.Records.{places_of};
-ghost use Rattle.sink_text.specs.Appends.{Appends};
-ghost use Rattle.sink_text.specs.Written.{Puts};
+ghost use Rattle.sink_text.specs.{Appends.{Appends}, Written.{Puts}};
 ghost use Rattle.gen_summary.specs.Totals.{line, totals_text};
 
 use crate::totals::totals_of;

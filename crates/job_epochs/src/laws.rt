@@ -1,16 +1,9 @@
 //! What follows from the definitions. The functions do nothing: a call brings its law.
 ghost use Rattle.std.specs.Prelude.{◌≡◌, ◌<◌, ◌≤◌, ℕ, length, slice_get, Some};
 ghost use Rattle.corr_model.specs.Files.{Files};
-ghost use Rattle.piece_plan.specs.declared.epoch.EpochPlan.{EpochPlan};
-ghost use Rattle.piece_plan.specs.Epochs.{epochs_of, cell_count};
-ghost use Rattle.job_plan.specs.declared.plan.ScanPlan.{ScanPlan};
-ghost use Rattle.job_plan.specs.declared.plan.Plan.{Plan};
-ghost use Rattle.job_plan.specs.Ranges.{IsPlan};
-ghost use Rattle.job_plan.specs.Values.{rotated};
-ghost use Rattle.job_plan.specs.Output.{integrations_of, integration_cells};
-ghost use Rattle.job_epochs.specs.Sizes.{sizes_of};
-ghost use Rattle.job_epochs.specs.Sums.{epoch_sums, sums_of};
-ghost use Rattle.job_epochs.specs.Added.{added_cells, width_of};
+ghost use Rattle.piece_plan.specs.{declared.epoch.EpochPlan.{EpochPlan}, Epochs.{epochs_of, cell_count}};
+ghost use Rattle.job_plan.specs.{declared.plan.ScanPlan.{ScanPlan}, declared.plan.Plan.{Plan}, Ranges.{IsPlan}, Values.{rotated}, Output.{integrations_of, integration_cells}};
+ghost use Rattle.job_epochs.specs.{Sizes.{sizes_of}, Sums.{epoch_sums, sums_of}, Added.{added_cells, width_of}};
 
 /// The sums of the epochs of an integration, added with wrap, are the integration's cells: no sum wraps.
 pub fn epochs_add_up()

@@ -2,9 +2,7 @@
 ghost use Rattle.std.specs.Prelude.{◌≡◌, ◌∷◌, [], ℕ, List, slice_get, flat_map, option_copied, IfOk, OnOk};
 ghost use Rattle.std.specs.List.{list_any, position};
 ghost use Rattle.named_list.specs.Named.{names, put};
-ghost use Rattle.job_join.specs.declared.places.Place.{Place};
-ghost use Rattle.job_join.specs.declared.stands.Here.{Here};
-ghost use Rattle.job_join.specs.Channels.{first_uses, chan_with, same_side, is_same_band, differ, are_different};
+ghost use Rattle.job_join.specs.{declared.places.Place.{Place}, declared.stands.Here.{Here}, Channels.{first_uses, chan_with, same_side, is_same_band, differ, are_different}};
 ghost use Rattle.job_join.specs.Places.{stands_of, visit_of, chans_under, has_other_band, has_unlike_product};
 
 use crate::places::Place;

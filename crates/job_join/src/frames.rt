@@ -2,8 +2,7 @@
 ghost use Rattle.std.specs.Prelude.{◌≡◌, ◌<◌, ◌%◌, ◌==◌, not};
 ghost use Rattle.std.specs.List.{position};
 ghost use Rattle.vdif_frame.specs.Shape.{samples_per_frame};
-ghost use Rattle.job_text.specs.Job.{StationFields};
-ghost use Rattle.job_text.specs.Ranges.{shape_of};
+ghost use Rattle.job_text.specs.{Job.{StationFields}, Ranges.{shape_of}};
 
 use job_text::Station;
 use vdif_frame::Shape;

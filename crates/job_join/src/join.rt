@@ -1,8 +1,7 @@
 //! A job and a schedule, joined.
 ghost use Rattle.std.specs.Prelude.{◌≡◌, ◌≤◌, ℕ, None, IfOk, IfSome, unwrap_or};
 ghost use Rattle.scan_list.specs.Sound.{AreScans};
-ghost use Rattle.job_join.specs.Joined.{refusal_of, plan_of, joined, Gives};
-ghost use Rattle.job_join.specs.Joining.{scans_of, IsJoining};
+ghost use Rattle.job_join.specs.{Joined.{refusal_of, plan_of, joined, Gives}, Joining.{scans_of, IsJoining}};
 
 use crate::fault::JoinFault;
 use crate::joining::Joining;

@@ -1,9 +1,7 @@
 //! A job and a schedule, and why they do not go together.
 ghost use Rattle.std.specs.Prelude.{◌≡◌, ◌∷◌, [], option_map, IfOk};
 ghost use Rattle.scan_list.specs.Sound.{AreScans};
-ghost use Rattle.job_join.specs.Joined.{first_there};
-ghost use Rattle.job_join.specs.Standing.{unknown_scan, unknown_station};
-ghost use Rattle.job_join.specs.Differing.{rate_differs, channel_differs, product_differs, frame_rate};
+ghost use Rattle.job_join.specs.{Joined.{first_there}, Standing.{unknown_scan, unknown_station}, Differing.{rate_differs, channel_differs, product_differs, frame_rate}};
 
 use crate::channels::{channel_differs, channels_of, product_differs};
 use crate::fault::JoinFault;

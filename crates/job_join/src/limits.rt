@@ -1,12 +1,7 @@
 //! The greatest sizes of a job.
 ghost use Rattle.std.specs.Prelude.{◌≡◌, ◌∷◌, [], ◌≤◌, ◌<◌, ◌+◌, ◌*◌, ◌^◌, ℕ, length, map, fold, None, option_map};
-ghost use Rattle.std.specs.Int.{div_ceil};
-ghost use Rattle.std.specs.List.{All};
-ghost use Rattle.job_join.specs.Standing.{taken};
-ghost use Rattle.job_join.specs.Channels.{channels_of};
-ghost use Rattle.job_join.specs.Spans.{samples_of};
-ghost use Rattle.job_join.specs.Limits.{baselines_in, scan_epochs, measure, past, limit};
-ghost use Rattle.job_join.specs.Joining.{scans_of, IsJoining};
+ghost use Rattle.std.specs.{Int.{div_ceil}, List.{All}};
+ghost use Rattle.job_join.specs.{Standing.{taken}, Channels.{channels_of}, Spans.{samples_of}, Limits.{baselines_in, scan_epochs, measure, past, limit}, Joining.{scans_of, IsJoining}};
 ghost use Rattle.job_join.specs.Measured.{first_past, job_measures, length_measures, size_measures};
 
 use crate::fault::Quantity;

@@ -3,12 +3,8 @@ ghost use Rattle.std.specs.Prelude.{◌≡◌, ◌<◌, ◌/◌, ◌^◌, ◌++�
 ghost use Rattle.std.specs.List.{All, position};
 ghost use Rattle.named_list.specs.Named.{named, names};
 ghost use Rattle.vdif_frame.specs.Shape.{samples_per_frame};
-ghost use Rattle.job_text.specs.Job.{StationFields};
-ghost use Rattle.job_text.specs.Ranges.{shape_of};
-ghost use Rattle.job_join.specs.Joined.{station_plan, stay_plan, product_plan};
-ghost use Rattle.job_join.specs.declared.stands.Here.{Here};
-ghost use Rattle.job_join.specs.Places.{stand_of};
-ghost use Rattle.job_join.specs.Planned.{IsShort, pair_of, is_pair, pairs_with, pairs_in};
+ghost use Rattle.job_text.specs.{Job.{StationFields}, Ranges.{shape_of}};
+ghost use Rattle.job_join.specs.{Joined.{station_plan, stay_plan, product_plan}, declared.stands.Here.{Here}, Places.{stand_of}, Planned.{IsShort, pair_of, is_pair, pairs_with, pairs_in}};
 
 use crate::joining::Joining;
 use crate::parts::{products, stations};

@@ -1,14 +1,8 @@
 //! The quantities of the scans that are taken.
 ghost use Rattle.std.specs.Prelude.{◌≡◌, ◌≤◌, ◌<◌, ◌+◌, ◌^◌, nat_lt, true, length, map, find, filter, fold, None, Some, if◌then◌else◌};
 ghost use Rattle.std.specs.List.{All};
-ghost use Rattle.job_join.specs.declared.stands.Here.{Here};
-ghost use Rattle.job_join.specs.declared.places.Place.{Place};
-ghost use Rattle.job_join.specs.Standing.{taken};
-ghost use Rattle.job_join.specs.Spans.{samples_of};
-ghost use Rattle.job_join.specs.Limits.{epochs_in};
-ghost use Rattle.job_join.specs.Joining.{scans_of, IsJoining, held_samples};
-ghost use Rattle.job_join.specs.Planned.{is_pair, pairs_in};
-ghost use Rattle.job_join.specs.Measured.{held_seconds, held_cells, held_epochs};
+ghost use Rattle.job_join.specs.{declared.stands.Here.{Here}, declared.places.Place.{Place}, Standing.{taken}, Spans.{samples_of}, Limits.{epochs_in}, Joining.{scans_of, IsJoining, held_samples}};
+ghost use Rattle.job_join.specs.{Planned.{is_pair, pairs_in}, Measured.{held_seconds, held_cells, held_epochs}};
 
 use crate::joining::Joining;
 use crate::parts::{auto, integration, lags, products};

@@ -2,11 +2,7 @@
 ghost use Rattle.std.specs.Prelude.{◌≡◌, ◌<◌, ◌^◌, not, map, All};
 ghost use Rattle.num_time.specs.Times.{IsSecond};
 ghost use Rattle.scan_list.specs.Sound.{AreScans};
-ghost use Rattle.job_join.specs.declared.places.Place.{Place};
-ghost use Rattle.job_join.specs.Joining.{scans_of, IsJoining};
-ghost use Rattle.job_join.specs.Modelled.{model_in, no_model, no_clock};
-ghost use Rattle.job_join.specs.Needs.{are_met, lacking_in, lacking_among};
-ghost use Rattle.job_join.specs.Places.{visit_of};
+ghost use Rattle.job_join.specs.{declared.places.Place.{Place}, Joining.{scans_of, IsJoining}, Modelled.{model_in, no_model, no_clock}, Needs.{are_met, lacking_in, lacking_among}, Places.{visit_of}};
 
 use crate::joining::Joining;
 use crate::places::Place;

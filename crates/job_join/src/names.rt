@@ -2,8 +2,7 @@
 ghost use Rattle.std.specs.Prelude.{◌≡◌, ◌||◌, ℕ, List, bytes_eq, is_some, OnOk, IfOk};
 ghost use Rattle.std.specs.List.{list_any};
 ghost use Rattle.named_list.specs.Named.{named};
-ghost use Rattle.scan_list.specs.declared.scan.Scan.{Scan};
-ghost use Rattle.scan_list.specs.declared.scan.Pass.{Pass};
+ghost use Rattle.scan_list.specs.{declared.scan.Scan.{Scan}, declared.scan.Pass.{Pass}};
 
 use named_list::Named;
 use scan_list::{Pass, Scan};

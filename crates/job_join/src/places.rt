@@ -4,8 +4,7 @@ ghost use Rattle.std.specs.List.{list_any, position};
 ghost use Rattle.named_list.specs.Named.{named};
 ghost use Rattle.scan_list.specs.Sound.{IsScan, AreScans};
 ghost use Rattle.job_text.specs.Job.{StationFields};
-ghost use Rattle.job_join.specs.declared.places.Place.{Place};
-ghost use Rattle.job_join.specs.Places.{visit_in, visit_of, has_key};
+ghost use Rattle.job_join.specs.{declared.places.Place.{Place}, Places.{visit_in, visit_of, has_key}};
 
 use crate::names::keep_keys;
 use crate::parts::{stations, takes};

@@ -4,10 +4,7 @@ ghost use Rattle.std.specs.List.{position};
 ghost use Rattle.named_list.specs.Named.{named, names};
 ghost use Rattle.vdif_frame.specs.Shape.{samples_per_frame};
 ghost use Rattle.job_text.specs.Ranges.{shape_of};
-ghost use Rattle.job_join.specs.Spans.{first_sample, end_sample};
-ghost use Rattle.job_join.specs.Channels.{chan_with};
-ghost use Rattle.job_join.specs.Joined.{recorded_of, station_plan, band_of, stay_plan};
-ghost use Rattle.job_join.specs.Places.{stand_of};
+ghost use Rattle.job_join.specs.{Spans.{first_sample, end_sample}, Channels.{chan_with}, Joined.{recorded_of, station_plan, band_of, stay_plan}, Places.{stand_of}};
 
 use crate::channels::chan_with;
 use crate::frames::{samples_per_frame, shape_of};

@@ -1,9 +1,7 @@
 //! The sample rate of a job, and its scans with another one.
 ghost use Rattle.std.specs.Prelude.{◌≡◌, ◌==◌, not, map};
 ghost use Rattle.std.specs.List.{list_any, position};
-ghost use Rattle.job_join.specs.declared.places.Place.{Place};
-ghost use Rattle.job_join.specs.declared.stands.Here.{Here};
-ghost use Rattle.job_join.specs.Places.{visit_of, first_rate, rate_among, has_other_rate};
+ghost use Rattle.job_join.specs.{declared.places.Place.{Place}, declared.stands.Here.{Here}, Places.{visit_of, first_rate, rate_among, has_other_rate}};
 
 use crate::places::Place;
 use crate::stands::Here;

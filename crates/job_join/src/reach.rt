@@ -32,9 +32,7 @@ pub(crate) struct Reach<'a> {
 impl Reach<'_> {
     ghost use Rattle.std.specs.Prelude.{ℕ, ◌/◌, ◌≤◌, ◌≤ℤ◌, ◌+ℤ◌, ◌-ℤ◌, min, true, option_map};
     ghost use Rattle.corr_model.specs.Delay.{poly_second, poly_at, second_at, is_modelled, is_clocked};
-    ghost use Rattle.job_join.specs.declared.reach.Need.{Need};
-    ghost use Rattle.job_join.specs.Reach.{reach_model};
-    ghost use Rattle.job_join.specs.Needs.{is_met, are_met};
+    ghost use Rattle.job_join.specs.{declared.reach.Need.{Need}, Reach.{reach_model}, Needs.{is_met, are_met}};
 
     // The second in which sample `n` lies, at most 2^40 seconds behind the scan's start: there all entries have begun.
     fn second_near(&self, n: u128) -> i64

@@ -1,8 +1,7 @@
 //! Why a job and a schedule do not go together.
 ghost use Rattle.std.specs.Prelude.{◌≡◌, ◌<◌, None, Some, IfErr, OnOk};
 ghost use Rattle.scan_list.specs.Sound.{AreScans};
-ghost use Rattle.job_join.specs.Joined.{refusal_of};
-ghost use Rattle.job_join.specs.Joining.{scans_of, IsJoining, late_of};
+ghost use Rattle.job_join.specs.{Joined.{refusal_of}, Joining.{scans_of, IsJoining, late_of}};
 
 use crate::fault::JoinFault;
 use crate::joining::Joining;

@@ -3,10 +3,7 @@ ghost use Rattle.std.specs.Prelude.{◌≡◌, ◌++◌, [], true, map, filter, 
 ghost use Rattle.std.specs.List.{All};
 ghost use Rattle.num_time.specs.Times.{IsSecond};
 ghost use Rattle.named_list.specs.Named.{names};
-ghost use Rattle.job_join.specs.Standing.{taken};
-ghost use Rattle.job_join.specs.Joined.{scan_plan};
-ghost use Rattle.job_join.specs.Joining.{scans_of, IsJoining};
-ghost use Rattle.job_join.specs.Planned.{has_baseline, kept, IsReady};
+ghost use Rattle.job_join.specs.{Standing.{taken}, Joined.{scan_plan}, Joining.{scans_of, IsJoining}, Planned.{has_baseline, kept, IsReady}};
 
 use crate::joining::Joining;
 use crate::lists::{pairs_in, stay_plans};

@@ -1,7 +1,6 @@
 //! Samples of a scan.
 ghost use Rattle.std.specs.Prelude.{◌≡◌, ◌<◌, ◌^◌, max, fold};
-ghost use Rattle.job_join.specs.declared.stands.Here.{Here};
-ghost use Rattle.job_join.specs.Spans.{samples_in, first_sample, end_sample};
+ghost use Rattle.job_join.specs.{declared.stands.Here.{Here}, Spans.{samples_in, first_sample, end_sample}};
 
 use crate::stands::Here;
 use scan_list::Pass;

@@ -1,12 +1,10 @@
 //! The stations of a job in the scans of a schedule.
 ghost use Rattle.std.specs.Prelude.{◌≡◌, ◌++◌, ℕ, List, None, Some, option_to_list, bytes_eq, option_map, filter_map, if◌then◌else◌, IfOk, OnOk};
-ghost use Rattle.std.specs.List.{position};
-ghost use Rattle.std.specs.Option.{option_or};
+ghost use Rattle.std.specs.{List.{position}, Option.{option_or}};
 ghost use Rattle.named_list.specs.Named.{named};
 ghost use Rattle.scan_list.specs.Sound.{IsScan};
 ghost use Rattle.job_text.specs.Job.{StationFields};
-ghost use Rattle.job_join.specs.Standing.{stands_in};
-ghost use Rattle.job_join.specs.Places.{stand_of, stands_of, found_at};
+ghost use Rattle.job_join.specs.{Standing.{stands_in}, Places.{stand_of, stands_of, found_at}};
 
 use crate::parts::stations;
 use job_text::{Job, Station};

@@ -93,8 +93,7 @@ pub struct Plan0 {
 }
 
 impl Model for Plan0 {
-    ghost use Rattle.job_plan.specs.declared.plan.Plan.{Plan};
-    ghost use Rattle.job_plan.specs.Ranges.{IsPlan};
+    ghost use Rattle.job_plan.specs.{declared.plan.Plan.{Plan}, Ranges.{IsPlan}};
 
     ghost Value = { Plan };
 

@@ -1,17 +1,10 @@
 //! What the lines of a job so far say.
 ghost use Rattle.std.specs.Prelude.{◌≡◌, ◌&&◌, true, ◌++◌, [], map, is_some, IfSome, OnOk, option_map, option_to_list};
-ghost use Rattle.std.specs.Str.{IsUtf8};
+ghost use Rattle.std.specs.{Str.{IsUtf8}, List.{All}};
 ghost use Rattle.named_list.specs.Named.{named};
 ghost use Rattle.job_lines.specs.declared.word.Word.TheVariants.{Lags, Integration, Epoch, Knot, Auto, Station, File, Chan, Clock, Poly, Product, Take, Rate, Scan, Band as BandWord};
-ghost use Rattle.std.specs.List.{All};
-ghost use Rattle.job_text.specs.Ranges.{IsName, IsSpan, IsStationOf, IsJob, AreDistinct};
-ghost use Rattle.job_text.specs.Values.{field, scan_in};
-ghost use Rattle.job_text.specs.Said.{said_by};
-ghost use Rattle.job_text.specs.Faults.{double_or_range, has_channel, row_fault};
-ghost use Rattle.job_text.specs.Growing.{Takes, grown, under};
-ghost use Rattle.job_text.specs.Sound.{IsSaid, IsSoundRow};
-ghost use Rattle.job_text.specs.Answer.{is_whole, job_by};
-ghost use Rattle.job_text.specs.Numbers.{job_from};
+ghost use Rattle.job_text.specs.{Ranges.{IsName, IsSpan, IsStationOf, IsJob, AreDistinct}, Values.{field, scan_in}, Said.{said_by}, Faults.{double_or_range, has_channel, row_fault}};
+ghost use Rattle.job_text.specs.{Growing.{Takes, grown, under}, Sound.{IsSaid, IsSoundRow}, Answer.{is_whole, job_by}, Numbers.{job_from}};
 
 use crate::fault::JobKind;
 use crate::job::Job;

@@ -2,9 +2,7 @@
 ghost use Rattle.std.specs.Prelude.{◌≡◌, ◌≤◌, map, option_map, IfSome};
 ghost use Rattle.sample_unpack.specs.Level.{IsWidth};
 ghost use Rattle.vdif_frame.specs.Shape.{IsShape};
-ghost use Rattle.job_text.specs.Ranges.{IsName, shape_of};
-ghost use Rattle.job_text.specs.Values.{field, station_in};
-ghost use Rattle.job_text.specs.Frame.{bare};
+ghost use Rattle.job_text.specs.{Ranges.{IsName, shape_of}, Values.{field, station_in}, Frame.{bare}};
 
 use crate::values::{field, frame_bytes_in, log2_of, name_fits, number_within, width_in};
 

@@ -27,8 +27,7 @@ pub struct Job {
 
 impl Model for Job {
     ghost use Rattle.named_list.specs.Named.{names};
-    ghost use Rattle.job_text.specs.Job.{JobFields};
-    ghost use Rattle.job_text.specs.Ranges.{IsJob};
+    ghost use Rattle.job_text.specs.{Job.{JobFields}, Ranges.{IsJob}};
 
     ghost Value = { JobFields };
 

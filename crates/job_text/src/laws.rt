@@ -1,7 +1,6 @@
 //! What follows for every text of a job. The functions do nothing: a call brings its law.
 ghost use Rattle.std.specs.Prelude.{◌≡◌, ◌<◌, ◌≤◌, ℕ, Bool, true, List, Ok, IsSome, length};
-ghost use Rattle.job_text.specs.Job.{JobFields};
-ghost use Rattle.job_text.specs.Answer.{job_in};
+ghost use Rattle.job_text.specs.{Job.{JobFields}, Answer.{job_in}};
 
 /// A job that states its scans itself has a rate and a scan.
 pub fn own_scans()

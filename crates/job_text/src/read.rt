@@ -1,11 +1,7 @@
 //! The job of a text.
 ghost use Rattle.std.specs.Prelude.{◌≡◌, ◌<◌, ◌^◌, [], length, IfOk, OnOk, MatchResult};
 ghost use Rattle.std.specs.Str.Lines.{lines};
-ghost use Rattle.job_text.specs.Said.{said_by};
-ghost use Rattle.job_text.specs.Answer.{Gives, Reads, job_in};
-ghost use Rattle.job_text.specs.Sound.{IsSaid};
-ghost use Rattle.job_text.specs.Ranges.{IsJob};
-ghost use Rattle.job_text.specs.Numbers.{job_from};
+ghost use Rattle.job_text.specs.{Said.{said_by}, Answer.{Gives, Reads, job_in}, Sound.{IsSaid}, Ranges.{IsJob}, Numbers.{job_from}};
 
 use crate::draft::Draft;
 use crate::fault::{JobFault, JobKind};

@@ -1,13 +1,8 @@
 //! The lines of a job, each taken behind the others.
 ghost use Rattle.std.specs.Prelude.{◌≡◌, ◌&&◌, not, map, OnOk};
-ghost use Rattle.std.specs.List.{All};
-ghost use Rattle.std.specs.Str.{IsUtf8};
-ghost use Rattle.job_lines.specs.Words.{is_inline};
-ghost use Rattle.job_lines.specs.Rows.{row_from, row_of};
-ghost use Rattle.job_text.specs.Values.{field};
-ghost use Rattle.job_text.specs.Faults.{word_fault, fields_fault, line_fault};
-ghost use Rattle.job_text.specs.Growing.{Takes, TakesAt, grown, grown_by, fault_in};
-ghost use Rattle.job_text.specs.Sound.{IsSaid};
+ghost use Rattle.std.specs.{List.{All}, Str.{IsUtf8}};
+ghost use Rattle.job_lines.specs.{Words.{is_inline}, Rows.{row_from, row_of}};
+ghost use Rattle.job_text.specs.{Values.{field}, Faults.{word_fault, fields_fault, line_fault}, Growing.{Takes, TakesAt, grown, grown_by, fault_in}, Sound.{IsSaid}};
 
 use crate::draft::Draft;
 use crate::fault::{JobFault, JobKind};

@@ -1,14 +1,11 @@
 //! A station of a job.
 ghost use Rattle.std.specs.Prelude.{◌≡◌, ◌^◌, ◌≤◌, ◌++◌, ◌∷◌, [], OnOk, IfOk, IfSome, None, Some, false, map};
-ghost use Rattle.job_text.specs.Values.{field, station_in};
-ghost use Rattle.job_text.specs.Faults.{is_taken, chan_fault, clock_fault, poly_fault};
-ghost use Rattle.job_text.specs.Growing.{Takes, with_file, with_chan, with_clock, with_poly};
+ghost use Rattle.job_text.specs.{Values.{field, station_in}, Faults.{is_taken, chan_fault, clock_fault, poly_fault}, Growing.{Takes, with_file, with_chan, with_clock, with_poly}};
+ghost use Rattle.job_text.specs.{Ranges.{IsStationOf, IsChanOf}, declared.places.ChanPlace.{ChanPlace}};
 ghost use Rattle.named_list.specs.Named.{named};
 ghost use Rattle.num_time.specs.Times.{IsSecond};
 ghost use Rattle.std.specs.Str.{IsUtf8};
 ghost use Rattle.corr_model.specs.Delay.{IsClock};
-ghost use Rattle.job_text.specs.Ranges.{IsStationOf, IsChanOf};
-ghost use Rattle.job_text.specs.declared.places.ChanPlace.{ChanPlace};
 
 use crate::entries::{add_entry, is_taken};
 use crate::fault::JobKind;
@@ -40,8 +37,7 @@ pub struct Station {
 }
 
 impl Model for Station {
-    ghost use Rattle.job_text.specs.Job.{StationFields};
-    ghost use Rattle.job_text.specs.Ranges.{IsStationOf};
+    ghost use Rattle.job_text.specs.{Job.{StationFields}, Ranges.{IsStationOf}};
 
     ghost Value = { StationFields };
 

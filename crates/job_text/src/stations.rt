@@ -1,10 +1,7 @@
 //! The stations of a job.
 ghost use Rattle.std.specs.Prelude.{◌≡◌, ◌≢◌, ◌<◌, ◌++◌, ◌∷◌, [], length, map, slice_get, None, IfSome, IfNone, IfOk, AllPairs, is_some, option_to_list, true};
-ghost use Rattle.std.specs.List.{All};
-ghost use Rattle.std.specs.Str.{IsUtf8};
-ghost use Rattle.job_text.specs.Ranges.{IsName, IsStationOf};
-ghost use Rattle.job_text.specs.Values.{field, station_in};
-ghost use Rattle.job_text.specs.Faults.{station_with, has_channel, station_fault, double_or_range, chan_fault, clock_fault, poly_fault};
+ghost use Rattle.std.specs.{List.{All}, Str.{IsUtf8}};
+ghost use Rattle.job_text.specs.{Ranges.{IsName, IsStationOf}, Values.{field, station_in}, Faults.{station_with, has_channel, station_fault, double_or_range, chan_fault, clock_fault, poly_fault}};
 ghost use Rattle.job_text.specs.Growing.{Grows, changed, with_file, with_chan, with_clock, with_poly};
 
 use crate::fault::JobKind;
@@ -24,8 +21,7 @@ pub struct Stations {
 
 impl Model for Stations {
     ghost use Rattle.std.specs.Prelude.{List};
-    ghost use Rattle.job_text.specs.Job.{StationFields};
-    ghost use Rattle.job_text.specs.Places.{AreIndexed};
+    ghost use Rattle.job_text.specs.{Job.{StationFields}, Places.{AreIndexed}};
 
     ghost Value = { List StationFields };
 

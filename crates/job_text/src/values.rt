@@ -2,10 +2,10 @@
 ghost use Rattle.std.specs.Prelude.{◌≡◌, ◌≤◌, ◌<◌, ◌-◌, ◌*◌, ◌%◌, ◌^◌, ◌+◌, ◌++◌, map, length, drop, IfSome, IfOk, option_map, Some, true};
 ghost use Rattle.corr_model.specs.Delay.{IsClock};
 ghost use Rattle.job_text.specs.Ranges.{IsName, IsSpan};
+ghost use Rattle.job_text.specs.Values.{field, whole_of, second_of, bounded, number_within, name_fits, chan_in, lags_in, integration_in, epoch_in, knot_in, rate_in, log2_of, width_of, width_in, frame_bytes_in, clock_in, wholes_of, poly_in, scan_in, band_in};
 ghost use Rattle.num_time.specs.Times.{IsSecond};
 ghost use Rattle.sample_unpack.specs.Level.{IsWidth};
 ghost use Rattle.vdif_frame.specs.Shape.{head_bytes};
-ghost use Rattle.job_text.specs.Values.{field, whole_of, second_of, bounded, number_within, name_fits, chan_in, lags_in, integration_in, epoch_in, knot_in, rate_in, log2_of, width_of, width_in, frame_bytes_in, clock_in, wholes_of, poly_in, scan_in, band_in};
 
 use crate::places::{Band, ChanPlace, ScanSpan};
 use delay_poly::{Poly, PolyEntry};

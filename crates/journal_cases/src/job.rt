@@ -1,7 +1,6 @@
 //! A job, and its journal on a disk in memory.
 ghost use Rattle.std.specs.Prelude.{◌≡◌, ◌<◌, ◌^◌, length, IfOk, IfSome, OnOk, Some};
-ghost use Rattle.journal_cases.specs.Few.{AreFew};
-ghost use Rattle.journal_cases.specs.Standing.{StandsIn};
+ghost use Rattle.journal_cases.specs.{Few.{AreFew}, Standing.{StandsIn}};
 
 use crate::epoch::{cells_of, epoch_sums};
 use crate::plan::plan_of;

@@ -2,10 +2,7 @@
 ghost use Rattle.std.specs.Prelude.{◌≡◌, ◌≢◌, ◌+◌, ◌*◌, ◌≤◌, ◌<◌, ◌^◌, ℕ, List, length, slice_index, if◌then◌else◌, true, false};
 ghost use Rattle.piece_plan.specs.Epochs.{IsJob};
 ghost use Rattle.plan_places.specs.Places.{place_at, IsPlace};
-ghost use Rattle.journal_image.specs.declared.finding.Behind.TheVariants.{Fault};
-ghost use Rattle.journal_image.specs.Head.{place_text};
-ghost use Rattle.journal_image.specs.Difference.{end_of};
-ghost use Rattle.journal_image.specs.Finding.{HasEpoch, IsBehind, IsFrontOf};
+ghost use Rattle.journal_image.specs.{declared.finding.Behind.TheVariants.{Fault}, Head.{place_text}, Difference.{end_of}, Finding.{HasEpoch, IsBehind, IsFrontOf}};
 
 use crate::head::head_bytes;
 use crate::range::epoch_to;

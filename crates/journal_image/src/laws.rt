@@ -1,8 +1,7 @@
 //! Laws of a journal's images, as the contract of a function that does nothing.
 ghost use Rattle.std.specs.Prelude.{ℕ, List};
 ghost use Rattle.piece_plan.specs.Epochs.{JobSizes, IsJob};
-ghost use Rattle.journal_image.specs.Image.{IsIdentity};
-ghost use Rattle.journal_image.specs.Laws.{ReadsOnce, KeepsOne, ReadsNothing, ReadsInOrder, ReadsOwn, HasNoReading, DiffersOnce, EndsAtGate, ReadsMore, KeepsMore, StaysHonest};
+ghost use Rattle.journal_image.specs.{Image.{IsIdentity}, Laws.{ReadsOnce, KeepsOne, ReadsNothing, ReadsInOrder, ReadsOwn, HasNoReading, DiffersOnce, EndsAtGate, ReadsMore, KeepsMore, StaysHonest}};
 
 /// What an image says, and what it says once more stands behind its last gate.
 pub fn reads()

@@ -1,7 +1,6 @@
 //! The epoch of a range.
 ghost use Rattle.std.specs.Prelude.{◌≡◌, IfSome, IfNone};
-ghost use Rattle.piece_plan.specs.declared.epoch.EpochPlan.{EpochPlan};
-ghost use Rattle.piece_plan.specs.Epochs.{IsOfPlan};
+ghost use Rattle.piece_plan.specs.{declared.epoch.EpochPlan.{EpochPlan}, Epochs.{IsOfPlan}};
 ghost use Rattle.plan_places.specs.Places.{place_at, IsPlace};
 ghost use Rattle.journal_image.specs.Difference.{IsRange};
 

@@ -2,18 +2,12 @@
 ghost use Rattle.std.specs.Prelude.{◌≡◌, ◌+◌, ◌≤◌, ◌<◌, ◌*◌, min, ℕ, List, Option, Some, length, replicate, slice_get, IfOk, IfSome, OnOk};
 ghost use Rattle.dev_traits.specs.Fault.{Counts};
 ghost use Rattle.corr_model.specs.Cell.{no_cell};
-ghost use Rattle.job_plan.specs.Ranges.{IsPlan, IsScanPlan};
-ghost use Rattle.job_plan.specs.Output.{integrations_of};
-ghost use Rattle.piece_plan.specs.declared.job.ScanSize.{ScanSize};
-ghost use Rattle.piece_plan.specs.Order.{Place};
-ghost use Rattle.job_epochs.specs.Sizes.{size_of};
-ghost use Rattle.job_epochs.specs.Added.{width_of};
+ghost use Rattle.job_plan.specs.{Ranges.{IsPlan, IsScanPlan}, Output.{integrations_of}};
+ghost use Rattle.piece_plan.specs.{declared.job.ScanSize.{ScanSize}, Order.{Place}};
+ghost use Rattle.job_epochs.specs.{Sizes.{size_of}, Added.{width_of}};
 ghost use Rattle.journal_image.specs.Image.{KeptEpoch};
 ghost use Rattle.checkpoint_journal.specs.Standing.{StandsOn};
-ghost use Rattle.journal_records.specs.Kept.{kept_cells};
-ghost use Rattle.journal_records.specs.Places.{IsIntegration, place_from, place_of_integration};
-ghost use Rattle.journal_records.specs.Reading.{AddsNext, IsAdded};
-ghost use Rattle.journal_records.specs.Store.{store, IsCut, IsRoom, Tells, Reaches, Rests};
+ghost use Rattle.journal_records.specs.{Kept.{kept_cells}, Places.{IsIntegration, place_from, place_of_integration}, Reading.{AddsNext, IsAdded}, Store.{store, IsCut, IsRoom, Tells, Reaches, Rests}};
 
 use checkpoint_journal::{Journal, ReadFault};
 use corr_model::Cell;

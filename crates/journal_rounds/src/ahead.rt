@@ -1,13 +1,10 @@
 //! What is summed and read ahead.
 ghost use Rattle.std.specs.Prelude.{◌≡◌, ◌≤◌, None, IfOk, IfSome, is_some, option_map};
 ghost use Rattle.dev_traits.specs.Told.{WhereTold};
-ghost use Rattle.station_stream.specs.Faults.{CountsReads};
-ghost use Rattle.station_stream.specs.Recorded.{AreRecorded};
-ghost use Rattle.piece_plan.specs.Epochs.{IsEpoch};
-ghost use Rattle.piece_plan.specs.Limited.{IsPart};
+ghost use Rattle.station_stream.specs.{Faults.{CountsReads}, Recorded.{AreRecorded}};
+ghost use Rattle.piece_plan.specs.{Epochs.{IsEpoch}, Limited.{IsPart}};
 ghost use Rattle.plan_places.specs.Places.{place_at, IsPlace};
-ghost use Rattle.journal_rounds.specs.Epochs.{IsNext, behind};
-ghost use Rattle.journal_rounds.specs.Ahead.{AreSumsOf, IsHeld, epoch_read, epoch_summed};
+ghost use Rattle.journal_rounds.specs.{Epochs.{IsNext, behind}, Ahead.{AreSumsOf, IsHeld, epoch_read, epoch_summed}};
 
 use crate::sums::{Summed, sum_held};
 use crate::values::{Held, held_from};

@@ -1,10 +1,7 @@
 //! The epochs of the rest of a job.
 ghost use Rattle.std.specs.Prelude.{◌≡◌, ◌≤◌, Some};
-ghost use Rattle.piece_plan.specs.Epochs.{IsEpoch};
-ghost use Rattle.piece_plan.specs.Limited.{IsPart};
-ghost use Rattle.plan_places.specs.Places.{place_at, IsPlace};
-ghost use Rattle.plan_places.specs.Walk.{cut_at};
-ghost use Rattle.piece_plan.specs.Order.{place_of};
+ghost use Rattle.piece_plan.specs.{Epochs.{IsEpoch}, Limited.{IsPart}, Order.{place_of}};
+ghost use Rattle.plan_places.specs.{Places.{place_at, IsPlace}, Walk.{cut_at}};
 ghost use Rattle.run_sums.specs.Found.{IsOfJob};
 
 use piece_plan::{EpochPlan, JobPlan};

@@ -2,16 +2,10 @@
 ghost use Rattle.std.specs.Prelude.{◌≡◌, ◌≤◌, ◌<◌, ◌^◌, ◌+◌, ◌-◌, IfOk, IfErr, IfSome, OnOk, None, length, option_map};
 ghost use Rattle.dev_traits.specs.Told.{WhereTold};
 ghost use Rattle.piece_plan.specs.Limited.{IsPart};
-ghost use Rattle.plan_places.specs.Places.{place_at, IsPlace};
-ghost use Rattle.plan_places.specs.Walk.{AreLeft};
+ghost use Rattle.plan_places.specs.{Places.{place_at, IsPlace}, Walk.{AreLeft}};
 ghost use Rattle.station_stream.specs.Recorded.{AreRecorded};
-ghost use Rattle.checkpoint_journal.specs.Runs.{Changes, Spares, KeepsEpochs, IsOurs};
-ghost use Rattle.checkpoint_journal.specs.Standing.{Stands};
-ghost use Rattle.journal_rounds.specs.Counted.{CountsReadsBeside, CountsJournal};
-ghost use Rattle.journal_rounds.specs.Extended.{IsSummed, Extends};
-ghost use Rattle.journal_rounds.specs.Refused.{IsRefusedFor, KeepsNamed};
-ghost use Rattle.journal_rounds.specs.Room.{HasNoPlace};
-ghost use Rattle.journal_rounds.specs.Ahead.{IsAhead, kept_with};
+ghost use Rattle.checkpoint_journal.specs.{Runs.{Changes, Spares, KeepsEpochs, IsOurs}, Standing.{Stands}};
+ghost use Rattle.journal_rounds.specs.{Counted.{CountsReadsBeside, CountsJournal}, Extended.{IsSummed, Extends}, Refused.{IsRefusedFor, KeepsNamed}, Room.{HasNoPlace}, Ahead.{IsAhead, kept_with}};
 ghost use Rattle.journal_rounds.specs.Steps.{IsOfOpening, IsLongOpened};
 
 use crate::ahead::Ahead;

@@ -2,18 +2,12 @@
 ghost use Rattle.std.specs.Prelude.{◌≡◌, ◌+◌, ◌<◌, ◌≤◌, Option, None, Some, IfOk, IfErr, IfSome, OnOk, is_some, option_map, true};
 ghost use Rattle.dev_traits.specs.Told.{WhereTold};
 ghost use Rattle.corr_model.specs.Files.{Files};
-ghost use Rattle.piece_plan.specs.Order.{place_of, place_after};
-ghost use Rattle.piece_plan.specs.Limited.{IsPart};
+ghost use Rattle.piece_plan.specs.{Order.{place_of, place_after}, Limited.{IsPart}};
 ghost use Rattle.plan_places.specs.Places.{place_at, IsPlace};
 ghost use Rattle.station_stream.specs.Recorded.{AreRecorded};
-ghost use Rattle.checkpoint_journal.specs.Runs.{Changes};
-ghost use Rattle.checkpoint_journal.specs.Standing.{Stands};
-ghost use Rattle.journal_rounds.specs.Counted.{CountsReadsBeside, CountsJournal};
-ghost use Rattle.journal_rounds.specs.Extended.{IsSummed, Extends};
-ghost use Rattle.journal_rounds.specs.Refused.{KeepsNamed};
-ghost use Rattle.journal_rounds.specs.Epochs.{behind};
-ghost use Rattle.journal_rounds.specs.Ahead.{AreSumsOf, IsCut, IsHeld, IsAhead, epoch_summed, steps_done, steps_kept, kept_with};
-ghost use Rattle.journal_rounds.specs.Steps.{IsOfAppend, IsOfEpoch, StaysFull};
+ghost use Rattle.checkpoint_journal.specs.{Runs.{Changes}, Standing.{Stands}};
+ghost use Rattle.journal_rounds.specs.{Counted.{CountsReadsBeside, CountsJournal}, Extended.{IsSummed, Extends}, Refused.{KeepsNamed}, Epochs.{behind}};
+ghost use Rattle.journal_rounds.specs.{Ahead.{AreSumsOf, IsCut, IsHeld, IsAhead, epoch_summed, steps_done, steps_kept, kept_with}, Steps.{IsOfAppend, IsOfEpoch, StaysFull}};
 
 use crate::ahead::{Ahead, advance};
 use crate::fault::ResumeFault;

@@ -2,13 +2,11 @@
 ghost use Rattle.std.specs.Prelude.{◌≡◌, ◌≤◌, None, Option, IfOk, IfSome, is_some, option_map};
 ghost use Rattle.corr_model.specs.Files.{Files};
 ghost use Rattle.dev_traits.specs.Told.{WhereTold};
-ghost use Rattle.station_stream.specs.Faults.{CountsReads};
-ghost use Rattle.station_stream.specs.Recorded.{AreRecorded};
+ghost use Rattle.station_stream.specs.{Faults.{CountsReads}, Recorded.{AreRecorded}};
 ghost use Rattle.piece_plan.specs.Limited.{IsPart};
 ghost use Rattle.plan_places.specs.Places.{place_at, IsPlace};
 ghost use Rattle.run_sums.specs.Found.{IsOfJob};
-ghost use Rattle.journal_rounds.specs.Epochs.{IsNext};
-ghost use Rattle.journal_rounds.specs.Ahead.{IsFramed, IsHeld, epoch_framed, epoch_read};
+ghost use Rattle.journal_rounds.specs.{Epochs.{IsNext}, Ahead.{IsFramed, IsHeld, epoch_framed, epoch_read}};
 
 use crate::epochs::epoch_from;
 use dev_traits::Shelf;

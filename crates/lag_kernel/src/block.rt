@@ -1,10 +1,8 @@
 //! A block of samples: its values, each asked for once, and what they add to all lags.
 ghost use Rattle.std.specs.Prelude.{◌≡◌, ℕ, ◌+◌, ◌<◌, ◌≤◌, ◌^◌, ◌+ℤ◌, ◌-ℤ◌, pos, length, take, drop, slice_index_or, IfSome};
-ghost use Rattle.corr_model.specs.Cell.{AreSmall, cell_plus};
-ghost use Rattle.corr_model.specs.declared.cell.Cell.{Cell};
+ghost use Rattle.corr_model.specs.{Cell.{AreSmall, cell_plus}, declared.cell.Cell.{Cell}};
 ghost use Rattle.corr_model.proofs.CellLemmas.{IsGrown};
-ghost use Rattle.lag_kernel.specs.Held.{AddsEach, AllSmall, HoldsValues, pairs_sum, value_inside};
-ghost use Rattle.lag_kernel.specs.Parts.{AreSmallParts, parts_sum};
+ghost use Rattle.lag_kernel.specs.{Held.{AddsEach, AllSmall, HoldsValues, pairs_sum, value_inside}, Parts.{AreSmallParts, parts_sum}};
 
 use crate::parts::{Parts, Value};
 use crate::sums::lag_sum;

@@ -1,9 +1,7 @@
 //! All lags of a range.
 ghost use Rattle.std.specs.Prelude.{◌≡◌, ℕ, ◌+◌, ◌-◌, ◌%◌, ◌<◌, ◌≤◌, ◌^◌, length, map, slice_index_or};
 ghost use Rattle.std.specs.List.{range_with_len};
-ghost use Rattle.corr_model.specs.declared.cell.Cell.{Cell};
-ghost use Rattle.corr_model.specs.Cell.{cell_in, no_cell};
-ghost use Rattle.corr_model.specs.Lags.{lag_of};
+ghost use Rattle.corr_model.specs.{declared.cell.Cell.{Cell}, Cell.{cell_in, no_cell}, Lags.{lag_of}};
 ghost use Rattle.corr_model.proofs.CellLemmas.{IsGrown};
 ghost use Rattle.lag_kernel.specs.Held.{AddsEach};
 

@@ -2,10 +2,8 @@
 ghost use Rattle.std.specs.Prelude.{◌≡◌, ℕ, ℤ, ◌-◌, ◌%◌, ◌≤◌, ◌^◌, length, map};
 ghost use Rattle.std.specs.List.{range_with_len};
 ghost use Rattle.bit_planes.specs.Planes.{plane_value};
-ghost use Rattle.corr_model.specs.Cell.{cell_in};
-ghost use Rattle.corr_model.specs.Lags.{lag_of};
-ghost use Rattle.lag_kernel.specs.Planes.{plane_samples, plane_pair};
-ghost use Rattle.lag_kernel.specs.Rows.{row_value};
+ghost use Rattle.corr_model.specs.{Cell.{cell_in}, Lags.{lag_of}};
+ghost use Rattle.lag_kernel.specs.{Planes.{plane_samples, plane_pair}, Rows.{row_value}};
 
 use crate::row::Row;
 use crate::rows::row_lags;

@@ -15,8 +15,7 @@ pub(crate) struct Row<'a> {
 
 impl<'a> Row<'a> {
     ghost use Rattle.std.specs.Prelude.{◌≡◌, ◌≤◌, ◌^◌, ℤ, pos, ◌-ℤ◌, length};
-    ghost use Rattle.packed_values.specs.From.{value_from};
-    ghost use Rattle.packed_values.specs.Packed.{values_of};
+    ghost use Rattle.packed_values.specs.{From.{value_from}, Packed.{values_of}};
     ghost use Rattle.lag_kernel.specs.Rows.{row_inside};
 
     /// The values of the row that are inside the scan, from the row's first sample on.

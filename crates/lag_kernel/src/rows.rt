@@ -2,15 +2,10 @@
 ghost use Rattle.std.specs.Prelude.{◌≡◌, ℕ, ℤ, ◌+◌, ◌-◌, ◌<◌, ◌≤◌, ◌/◌, ◌^◌, ◌+ℤ◌, ◌-ℤ◌, pos, unsigned_abs, length, map, slice_index_or};
 ghost use Rattle.std.specs.List.{range_with_len};
 ghost use Rattle.byte_streams.specs.Rows.{row_len, row_value as block_value};
-ghost use Rattle.packed_values.specs.From.{value_from};
-ghost use Rattle.packed_values.specs.Packed.{values_of};
-ghost use Rattle.corr_model.specs.declared.cell.Cell.{Cell};
-ghost use Rattle.corr_model.specs.Cell.{cell_in};
-ghost use Rattle.corr_model.specs.Lags.{lag_of};
+ghost use Rattle.packed_values.specs.{From.{value_from}, Packed.{values_of}};
+ghost use Rattle.corr_model.specs.{declared.cell.Cell.{Cell}, Cell.{cell_in}, Lags.{lag_of}};
 ghost use Rattle.corr_model.proofs.CellLemmas.{IsGrown};
-ghost use Rattle.lag_kernel.specs.Held.{AddsEach};
-ghost use Rattle.lag_kernel.specs.Planes.{plane_pair};
-ghost use Rattle.lag_kernel.specs.Rows.{row_inside, row_samples};
+ghost use Rattle.lag_kernel.specs.{Held.{AddsEach}, Planes.{plane_pair}, Rows.{row_inside, row_samples}};
 
 use crate::cut::{BLOCK, block_size};
 use crate::lags::clear;

@@ -1,11 +1,6 @@
 ghost use Rattle.std.specs.Prelude.{◌≡◌, ◌+◌, ◌<◌, ◌≤◌, ◌^◌, ◌↔◌, length, take, not, option_map, is_some, IfOk, OnOk, IsErr, IsTrue, Some, true, false};
-ghost use Rattle.dev_traits.specs.Fault.{Counts};
-ghost use Rattle.dev_traits.specs.Files.{ReadsAt};
-ghost use Rattle.dev_traits.specs.Told.{WhereTold};
-ghost use Rattle.dev_traits.specs.Images.{put_at, Same, Torn, Shorn};
-ghost use Rattle.dev_traits.specs.Moments.{Goes, IsDurable};
-ghost use Rattle.mem_devices.specs.MemDiskPlan.{fails_next, after_call};
-ghost use Rattle.mem_devices.specs.MemDiskState.{after_write, after_cut, after_sync};
+ghost use Rattle.dev_traits.specs.{Fault.{Counts}, Files.{ReadsAt}, Told.{WhereTold}, Images.{put_at, Same, Torn, Shorn}, Moments.{Goes, IsDurable}};
+ghost use Rattle.mem_devices.specs.{MemDiskPlan.{fails_next, after_call}, MemDiskState.{after_write, after_cut, after_sync}};
 
 use crate::flags::Flags;
 use dev_traits::{Disk, Failed};
@@ -39,8 +34,7 @@ impl MeetDisk {
 
 impl Disk for MeetDisk {
     ghost use Rattle.std.specs.Prelude.{⊤, refl};
-    ghost use Rattle.mem_devices.specs.MemDiskImages.{seen_is_image, image_is_short};
-    ghost use Rattle.mem_devices.specs.MemDiskWords.{state_of, moment_of, images_of, plan_of, faults_of, refused_of};
+    ghost use Rattle.mem_devices.specs.{MemDiskImages.{seen_is_image, image_is_short}, MemDiskWords.{state_of, moment_of, images_of, plan_of, faults_of, refused_of}};
 
     ghost seen = { λ disk. Some (state_of disk).seen };
 

@@ -1,6 +1,5 @@
 ghost use Rattle.std.specs.Prelude.{◌≡◌, ◌<◌, ◌≤◌, ◌^◌, ◌↔◌, length, IfOk, IfSome, OnErr, IsErr, IsTrue, Some};
-ghost use Rattle.dev_traits.specs.Fault.{Counts};
-ghost use Rattle.dev_traits.specs.Files.{size_of, ReadsAt};
+ghost use Rattle.dev_traits.specs.{Fault.{Counts}, Files.{size_of, ReadsAt}};
 ghost use Rattle.mem_devices.specs.MemShelfState.{bytes_under, fails_next, after_call};
 
 use crate::flags::Flags;

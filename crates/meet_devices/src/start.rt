@@ -1,7 +1,5 @@
 ghost use Rattle.std.specs.Prelude.{◌≡◌, [], IfOk, None, false};
-ghost use Rattle.mem_devices.specs.MemShelfState.{files_of};
-ghost use Rattle.mem_devices.specs.MemDiskState.{start};
-ghost use Rattle.mem_devices.specs.MemDiskWords.{state_of, moment_of, plan_of, faults_of, refused_of};
+ghost use Rattle.mem_devices.specs.{MemShelfState.{files_of}, MemDiskState.{start}, MemDiskWords.{state_of, moment_of, plan_of, faults_of, refused_of}};
 
 use crate::flags::Flags;
 use crate::{MeetDisk, MeetGate, MeetShelf};

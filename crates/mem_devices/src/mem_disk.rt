@@ -1,12 +1,7 @@
 // A disk in memory, which can be made to fail, stopped and torn.
 ghost use Rattle.std.specs.Prelude.{◌≡◌, ◌+◌, ◌<◌, ◌≤◌, ◌^◌, ◌↔◌, [], length, take, not, option_map, is_some, IfOk, OnOk, OnErr, IsErr, IsTrue, Some, None, true, false, if◌then◌else◌};
-ghost use Rattle.dev_traits.specs.Fault.{Counts, HasRisen};
-ghost use Rattle.dev_traits.specs.Files.{ReadsAt};
-ghost use Rattle.dev_traits.specs.Told.{WhereTold};
-ghost use Rattle.dev_traits.specs.Images.{put_at, Same, Torn, Shorn};
-ghost use Rattle.dev_traits.specs.Moments.{Goes, IsDurable};
-ghost use Rattle.mem_devices.specs.MemDiskPlan.{fails_next, after_call};
-ghost use Rattle.mem_devices.specs.MemDiskState.{start, after_write, after_cut, after_sync, filled, IsImage};
+ghost use Rattle.dev_traits.specs.{Fault.{Counts, HasRisen}, Files.{ReadsAt}, Told.{WhereTold}, Images.{put_at, Same, Torn, Shorn}, Moments.{Goes, IsDurable}};
+ghost use Rattle.mem_devices.specs.{MemDiskPlan.{fails_next, after_call}, MemDiskState.{start, after_write, after_cut, after_sync, filled, IsImage}};
 
 mod fault_plan;
 mod torn_file;
@@ -97,8 +92,7 @@ impl MemDisk {
 
 impl Disk for MemDisk {
     ghost use Rattle.std.specs.Prelude.{⊤, refl};
-    ghost use Rattle.mem_devices.specs.MemDiskImages.{seen_is_image, image_is_short};
-    ghost use Rattle.mem_devices.specs.MemDiskWords.{state_of, moment_of, images_of, plan_of, faults_of, refused_of};
+    ghost use Rattle.mem_devices.specs.{MemDiskImages.{seen_is_image, image_is_short}, MemDiskWords.{state_of, moment_of, images_of, plan_of, faults_of, refused_of}};
 
     ghost seen = { λ disk. Some (state_of disk).seen };
 

@@ -1,7 +1,6 @@
 ghost use Rattle.std.specs.Prelude.{◌≡◌, ◌<◌, ◌≤◌, ◌^◌, ◌↔◌, length, IfOk, IfSome, OnErr, IsErr, IsTrue, Some};
 ghost use Rattle.std.specs.Option.{option_copied};
-ghost use Rattle.dev_traits.specs.Fault.{Counts};
-ghost use Rattle.dev_traits.specs.Files.{size_of, ReadsAt};
+ghost use Rattle.dev_traits.specs.{Fault.{Counts}, Files.{size_of, ReadsAt}};
 ghost use Rattle.mem_devices.specs.MemShelfState.{bytes_under, files_of, fails_next, after_call};
 
 use dev_traits::{Failed, Shelf};

@@ -1,6 +1,5 @@
 ghost use Rattle.std.specs.Prelude.{◌≡◌, ◌≤◌, ◌<◌, ◌↔◌, [], length, take, min, IfOk, OnOk, OnErr, IsErr, IsTrue, Some, true, false};
-ghost use Rattle.dev_traits.specs.Fault.{Counts};
-ghost use Rattle.dev_traits.specs.Told.{more};
+ghost use Rattle.dev_traits.specs.{Fault.{Counts}, Told.{more}};
 ghost use Rattle.mem_devices.specs.MemSinkState.{fails_next, after_taking, after_failing};
 
 use dev_traits::{Failed, Sink};

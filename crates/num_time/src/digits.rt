@@ -1,7 +1,6 @@
 //! Rows of digits, and the numbers that they write.
 ghost use Rattle.std.specs.Prelude.{◌≡◌, ◌-◌, ◌^◌, min, true};
-ghost use Rattle.std.specs.List.{list_all};
-ghost use Rattle.std.specs.Str.Parse.{digits_value_after};
+ghost use Rattle.std.specs.{List.{list_all}, Str.Parse.{digits_value_after}};
 ghost use Rattle.num_time.specs.Numerals.{are_digits, is_zero};
 
 // Whether each byte is a decimal digit.

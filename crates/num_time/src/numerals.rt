@@ -1,9 +1,7 @@
 //! Decimal numbers in text.
 ghost use Rattle.std.specs.Prelude.{◌≡◌, ◌≢◌, ◌≤◌, ◌+◌, ◌-◌, ◌^◌, ◌==◌, min, length, drop, true, ℕ, Bool, List};
-ghost use Rattle.num_time.specs.Grammar.{IsNumber, IsWritten};
-ghost use Rattle.std.specs.List.{position_or_len};
-ghost use Rattle.std.specs.Str.Parse.{digits_value};
-ghost use Rattle.num_time.specs.Numerals.{are_digits, back_of, decimal_of, front_of, is_negative, is_number, is_point, moved_digits, scaled, without_sign};
+ghost use Rattle.num_time.specs.{Grammar.{IsNumber, IsWritten}, Numerals.{are_digits, back_of, decimal_of, front_of, is_negative, is_number, is_point, moved_digits, scaled, without_sign}};
+ghost use Rattle.std.specs.{List.{position_or_len}, Str.Parse.{digits_value}};
 
 use crate::digits::{are_digits, are_zeros, number_after};
 use thiserror::Error;

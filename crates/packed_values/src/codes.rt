@@ -1,13 +1,9 @@
 //! The row of value codes, by look-ups in tables of sixteen.
 ghost use Rattle.std.specs.Prelude.{◌≡◌, ◌<◌, ◌≤◌, ◌+◌, ◌*◌, ◌^◌, ◌++◌, ℕ, pos, ◌+ℤ◌, ◌-ℤ◌, Some, IfSome, true, [], length, map, slice_index, slice_index_or, unsigned_abs, bit_and, bit_xor, IsTrue};
 ghost use Rattle.byte_lags.specs.Streams.{IsUnit};
-ghost use Rattle.byte_streams.specs.Rows.{bias_in, level_value, row_len, row_value};
-ghost use Rattle.byte_streams.specs.Streams.{value_in};
+ghost use Rattle.byte_streams.specs.{Rows.{bias_in, level_value, row_len, row_value}, Streams.{value_in}};
 ghost use Rattle.value_codes.specs.Codes.{value_of};
-ghost use Rattle.packed_values.specs.From.{value_from};
-ghost use Rattle.packed_values.specs.Kinds.{is_still};
-ghost use Rattle.packed_values.specs.Tables.{are_signs, biased_of, IsAlong, IsBiasOf, IsNarrow, there_of, weights_along};
-ghost use Rattle.packed_values.specs.Words.{word_at};
+ghost use Rattle.packed_values.specs.{From.{value_from}, Kinds.{is_still}, Tables.{are_signs, biased_of, IsAlong, IsBiasOf, IsNarrow, there_of, weights_along}, Words.{word_at}};
 
 use crate::kinds::{guess_of, is_kind, kind_of};
 use crate::places::places;

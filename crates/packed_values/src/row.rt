@@ -14,10 +14,7 @@ pub enum Packed<'a> {
 impl<'a> Packed<'a> {
     ghost use Rattle.std.specs.Prelude.{◌≡◌, ◌<◌, ◌≤◌, ◌+◌, ◌^◌, ℕ, pos, ◌+ℤ◌, true, length, take, unsigned_abs};
     ghost use Rattle.byte_streams.specs.Rows.{bias_in, row_len, row_value};
-    ghost use Rattle.packed_values.specs.From.{value_from};
-    ghost use Rattle.packed_values.specs.Kinds.{AllCodes, is_still};
-    ghost use Rattle.packed_values.specs.Packed.{values_of};
-    ghost use Rattle.packed_values.specs.Tables.{IsAlong, IsNarrow};
+    ghost use Rattle.packed_values.specs.{From.{value_from}, Kinds.{AllCodes, is_still}, Packed.{values_of}, Tables.{IsAlong, IsNarrow}};
 
     /// How many samples there are.
     pub fn len(&self) -> usize

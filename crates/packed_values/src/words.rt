@@ -48,8 +48,7 @@ fn cut_field(words: &[u16], start: i64, shift: u32, out: &mut [u8])
 impl<'a> Words<'a> {
     ghost use Rattle.std.specs.Prelude.{◌≡◌, ◌<◌, ◌≤◌, ◌+◌, ◌^◌, ℕ, pos, ◌+ℤ◌, length, map, slice_index, unsigned_abs};
     ghost use Rattle.byte_streams.specs.Values.{AreStreams, byte_value};
-    ghost use Rattle.packed_values.specs.Words.{word_value};
-    ghost use Rattle.packed_values.specs.From.{value_from};
+    ghost use Rattle.packed_values.specs.{Words.{word_value}, From.{value_from}};
 
     // Fills streams with the values from place `start` on, and gives the bias of their components.
     pub(crate) fn unpack_from(

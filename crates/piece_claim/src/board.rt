@@ -1,9 +1,7 @@
 //! The machine.
 ghost use Rattle.std.specs.Prelude.{◌≡◌, ◌≢◌, ◌↔◌, ℕ, ◌+◌, ◌*◌, ◌<◌, ◌≤◌, ◌^◌, length, replicate, slice_index, slice_index_or, IsTrue, OnOk, OnErr, IfOk, IfErr};
-ghost use Rattle.piece_claim.specs.State.{opening, pieces, seat_at, sums, ended_seat, widest};
-ghost use Rattle.piece_claim.specs.Moves.{CanDraw, CanPost, CanSplit, CanJoin, after_draw, after_post, after_split, after_join};
-ghost use Rattle.piece_claim.specs.Invariant.{IsSound};
-ghost use Rattle.piece_claim.specs.Events.{IsAllowed, Refuses, Runs, StopsWith, after};
+ghost use Rattle.piece_claim.specs.{State.{opening, pieces, seat_at, sums, ended_seat, widest}, Moves.{CanDraw, CanPost, CanSplit, CanJoin, after_draw, after_post, after_split, after_join}};
+ghost use Rattle.piece_claim.specs.{Invariant.{IsSound}, Events.{IsAllowed, Refuses, Runs, StopsWith, after}};
 ghost use Rattle.piece_claim.specs.Laws.{CounterIsBounded, DistinctFitGroup, EventsKeepInvariant, SumChangesByParts, WordsAreBounded};
 
 use crate::seat::SeatRecord;

@@ -1,7 +1,6 @@
 //! A seat of the machine, with memory of its own.
 ghost use Rattle.std.specs.Prelude.{◌≡◌, ◌+◌, ◌*◌, ◌<◌, ◌≤◌, ◌^◌, ◌↔◌, [], ◌∷◌, ◌++◌, false, length, IsTrue, OnOk, OnErr};
-ghost use Rattle.piece_claim.specs.State.{piece, new_seat, ended_seat};
-ghost use Rattle.piece_claim.specs.Moves.{CanDraw, CanPost, CanSplit, CanJoin, LacksAmounts, drawn, grown, joined, one_less, posted, word_of};
+ghost use Rattle.piece_claim.specs.{State.{piece, new_seat, ended_seat}, Moves.{CanDraw, CanPost, CanSplit, CanJoin, LacksAmounts, drawn, grown, joined, one_less, posted, word_of}};
 
 use crate::Sizes;
 use std::alloc::{AllocError, Global};

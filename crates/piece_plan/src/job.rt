@@ -29,8 +29,7 @@ pub struct JobPlan {
 }
 
 impl Model for JobPlan {
-    ghost use Rattle.piece_plan.specs.Epochs.{JobSizes, IsJob, job_sizes};
-    ghost use Rattle.piece_plan.specs.Counts.{AreEnds};
+    ghost use Rattle.piece_plan.specs.{Epochs.{JobSizes, IsJob, job_sizes}, Counts.{AreEnds}};
 
     ghost Value = { JobSizes };
 
@@ -41,9 +40,7 @@ impl Model for JobPlan {
 }
 
 impl JobPlan {
-    ghost use Rattle.piece_plan.specs.Epochs.{IsJob, job_sizes, epochs_of, IsEpoch, IsOfPlan};
-    ghost use Rattle.piece_plan.specs.Order.{CoverJob};
-    ghost use Rattle.piece_plan.specs.Limited.{integrations, limited};
+    ghost use Rattle.piece_plan.specs.{Epochs.{IsJob, job_sizes, epochs_of, IsEpoch, IsOfPlan}, Order.{CoverJob}, Limited.{integrations, limited}};
 
     /// The epochs of these scans, at most 2^23, of up to 2^40 samples each: each scan is cut into
     /// integrations of so many samples, 1 to 2^36, and each of these from the scan's first one on into

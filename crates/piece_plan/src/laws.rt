@@ -1,14 +1,9 @@
 //! What follows from the definitions. The functions do nothing: a call brings its law.
 ghost use Rattle.std.specs.Prelude.{◌≡◌, ◌↔◌, ◌+◌, ◌≤◌, ◌<◌, ℕ, ℤ, List, length};
-ghost use Rattle.corr_model.specs.declared.cell.Pair.{Pair};
-ghost use Rattle.corr_model.specs.Cell.{Samples, cell_in};
-ghost use Rattle.piece_plan.specs.declared.job.ScanSize.{ScanSize};
-ghost use Rattle.piece_plan.specs.Parts.{Range, GoThrough, parts};
-ghost use Rattle.piece_plan.specs.declared.epoch.EpochPlan.{EpochPlan};
-ghost use Rattle.piece_plan.specs.Epochs.{JobSizes, IsJob, IsEpoch, integration_at, integration_count, integration_epochs, ranges_of, epochs_of};
-ghost use Rattle.piece_plan.specs.Order.{place_of, CoverJob};
-ghost use Rattle.piece_plan.specs.Limited.{integration_number, limited};
-ghost use Rattle.piece_plan.specs.Sums.{cell_over};
+ghost use Rattle.corr_model.specs.{declared.cell.Pair.{Pair}, Cell.{Samples, cell_in}};
+ghost use Rattle.piece_plan.specs.{declared.job.ScanSize.{ScanSize}, Parts.{Range, GoThrough, parts}, declared.epoch.EpochPlan.{EpochPlan}};
+ghost use Rattle.piece_plan.specs.{Epochs.{JobSizes, IsJob, IsEpoch, integration_at, integration_count, integration_epochs, ranges_of, epochs_of}, Order.{place_of, CoverJob}};
+ghost use Rattle.piece_plan.specs.{Limited.{integration_number, limited}, Sums.{cell_over}};
 
 /// The parts of a range go through it.
 pub fn parts_go_through()

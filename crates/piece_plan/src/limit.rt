@@ -1,8 +1,6 @@
 //! The integrations of a scan, and a scan with some of them alone.
 ghost use Rattle.std.specs.Prelude.{◌≡◌, ◌≤◌, ◌<◌, ◌*◌, ◌^◌, ℕ, List};
-ghost use Rattle.piece_plan.specs.declared.job.ScanSize.{ScanSize};
-ghost use Rattle.piece_plan.specs.Epochs.{integration_count, job_sizes};
-ghost use Rattle.piece_plan.specs.Limited.{limited_scan};
+ghost use Rattle.piece_plan.specs.{declared.job.ScanSize.{ScanSize}, Epochs.{integration_count, job_sizes}, Limited.{limited_scan}};
 
 use crate::ScanSize;
 

@@ -2,9 +2,7 @@
 //! its scan that is.
 ghost use Rattle.std.specs.Prelude.{◌≡◌, ◌-◌, ◌*◌, ◌^◌, ◌<◌, ◌≤◌, ℕ, List, length, slice_index};
 ghost use Rattle.std.specs.List.Sorted.{IsNonDecreasingBy};
-ghost use Rattle.piece_plan.specs.declared.job.ScanSize.{ScanSize};
-ghost use Rattle.piece_plan.specs.Epochs.{job_sizes};
-ghost use Rattle.piece_plan.specs.Counts.{count_in, epoch_at};
+ghost use Rattle.piece_plan.specs.{declared.job.ScanSize.{ScanSize}, Epochs.{job_sizes}, Counts.{count_in, epoch_at}};
 
 use crate::{EpochPlan, ScanSize};
 

@@ -35,9 +35,7 @@ impl Model for PiecePlan {
 }
 
 impl PiecePlan {
-    ghost use Rattle.piece_plan.specs.Parts.{GoThrough, parts};
-    ghost use Rattle.piece_plan.specs.Epochs.{IsOfPlan};
-    ghost use Rattle.piece_plan.specs.Pieces.{IsCut, pieces_of, group_count, per_group};
+    ghost use Rattle.piece_plan.specs.{Parts.{GoThrough, parts}, Epochs.{IsOfPlan}, Pieces.{IsCut, pieces_of, group_count, per_group}};
 
     /// The pieces of an epoch, of at most `piece` samples each.
     pub fn new(e: &EpochPlan, piece: u64) -> PiecePlan

@@ -1,8 +1,7 @@
 //! The cells of a range of samples, added to those of the records.
 ghost use Rattle.std.specs.Prelude.{◌≡◌, ◌≤◌, ◌-◌, ◌*◌, ◌^◌, length};
 ghost use Rattle.job_plan.specs.Ranges.{IsPlan, IsScanPlan};
-ghost use Rattle.job_epochs.specs.Sums.{lag_cells, baseline_cells, range_cells};
-ghost use Rattle.job_epochs.specs.Added.{add_cells, plus_wrapped, width_of};
+ghost use Rattle.job_epochs.specs.{Sums.{lag_cells, baseline_cells, range_cells}, Added.{add_cells, plus_wrapped, width_of}};
 
 use corr_model::{Cell, Pair, Values};
 use job_plan::{BaselinePlan, Plan, ProductPlan, ScanPlan};

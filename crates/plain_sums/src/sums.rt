@@ -2,13 +2,9 @@
 ghost use Rattle.std.specs.Prelude.{◌≡◌, ◌≤◌, ◌<◌, ◌-◌, ◌*◌, length, replicate, OnOk};
 ghost use Rattle.dev_traits.specs.Told.{WhereTold};
 ghost use Rattle.corr_model.specs.Cell.{no_cell};
-ghost use Rattle.job_plan.specs.Ranges.{IsPlan, IsScanPlan};
-ghost use Rattle.job_plan.specs.Values.{rotated};
-ghost use Rattle.job_plan.specs.Output.{integrations_of, integration_cells};
-ghost use Rattle.job_epochs.specs.Sums.{range_cells};
-ghost use Rattle.job_epochs.specs.Added.{add_cells, width_of};
-ghost use Rattle.station_stream.specs.Faults.{CountsReads};
-ghost use Rattle.station_stream.specs.Recorded.{AreNamed, AreRecorded};
+ghost use Rattle.job_plan.specs.{Ranges.{IsPlan, IsScanPlan}, Values.{rotated}, Output.{integrations_of, integration_cells}};
+ghost use Rattle.job_epochs.specs.{Sums.{range_cells}, Added.{add_cells, width_of}};
+ghost use Rattle.station_stream.specs.{Faults.{CountsReads}, Recorded.{AreNamed, AreRecorded}};
 
 use crate::records::add_range;
 use crate::values::ScanValues;

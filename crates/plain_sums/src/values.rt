@@ -2,11 +2,8 @@
 ghost use Rattle.std.specs.Prelude.{◌≡◌, ◌-◌, ◌≤◌, ◌≤ℤ◌, ◌<ℤ◌, ◌⊎◌, ℕ, ℤ, pos, ◌==◌, length, map, None, IfOk};
 ghost use Rattle.std.specs.List.{position};
 ghost use Rattle.dev_traits.specs.Told.{WhereTold};
-ghost use Rattle.job_plan.specs.declared.plan.StayPlan.{StayPlan};
-ghost use Rattle.job_plan.specs.Ranges.{IsPlan, IsScanPlan};
-ghost use Rattle.job_plan.specs.Values.{rotated};
-ghost use Rattle.station_stream.specs.Faults.{CountsReads};
-ghost use Rattle.station_stream.specs.Recorded.{AreNamed, AreRecorded};
+ghost use Rattle.job_plan.specs.{declared.plan.StayPlan.{StayPlan}, Ranges.{IsPlan, IsScanPlan}, Values.{rotated}};
+ghost use Rattle.station_stream.specs.{Faults.{CountsReads}, Recorded.{AreNamed, AreRecorded}};
 
 use corr_model::Values;
 use dev_traits::Shelf;

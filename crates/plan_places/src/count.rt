@@ -1,11 +1,7 @@
 //! How many epochs a walk has.
 ghost use Rattle.std.specs.Prelude.{◌≡◌, ◌^◌, ◌+◌, ◌*◌, ◌<◌, ◌≤◌, List, option_map, length, IfSome, Option};
-ghost use Rattle.piece_plan.specs.declared.epoch.EpochPlan.{EpochPlan};
-ghost use Rattle.piece_plan.specs.Epochs.{epochs_of, IsJob};
-ghost use Rattle.piece_plan.specs.Counts.{count_in};
-ghost use Rattle.plan_places.specs.Places.{place_at, IsPlace};
-ghost use Rattle.plan_places.specs.Search.{begin_at, BeginsAt};
-ghost use Rattle.plan_places.specs.Walk.{IsWalk, AreLeft, IsScanLeft};
+ghost use Rattle.piece_plan.specs.{declared.epoch.EpochPlan.{EpochPlan}, Epochs.{epochs_of, IsJob}, Counts.{count_in}};
+ghost use Rattle.plan_places.specs.{Places.{place_at, IsPlace}, Search.{begin_at, BeginsAt}, Walk.{IsWalk, AreLeft, IsScanLeft}};
 
 use crate::Place;
 use crate::search::{integration_last, scan_last};

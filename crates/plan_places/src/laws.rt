@@ -1,11 +1,8 @@
 //! What follows from the definitions. The functions do nothing: a call brings its law.
 ghost use Rattle.std.specs.Prelude.{◌≡◌, ◌↔◌, ◌≤◌, ◌<◌, ℕ, List, length, Option, IfSome, Some, None};
-ghost use Rattle.piece_plan.specs.declared.epoch.EpochPlan.{EpochPlan};
-ghost use Rattle.piece_plan.specs.Epochs.{JobSizes, IsJob, IsEpoch, epochs_of};
-ghost use Rattle.piece_plan.specs.Order.{Place, job_start, place_after, AreInOrder, CoverJob};
+ghost use Rattle.piece_plan.specs.{declared.epoch.EpochPlan.{EpochPlan}, Epochs.{JobSizes, IsJob, IsEpoch, epochs_of}, Order.{Place, job_start, place_after, AreInOrder, CoverJob}};
 ghost use Rattle.piece_plan.specs.Limited.{integration_number, limited};
-ghost use Rattle.plan_places.specs.Places.{IsPlace};
-ghost use Rattle.plan_places.specs.Walk.{cut_at, IsWalk, AreLeft, epochs_by};
+ghost use Rattle.plan_places.specs.{Places.{IsPlace}, Walk.{cut_at, IsWalk, AreLeft, epochs_by}};
 
 use piece_plan::laws::{epochs_of_limited, limited_jobs_are_shorter};
 

@@ -1,10 +1,7 @@
 //! Places, and the epochs between them.
 ghost use Rattle.std.specs.Prelude.{◌≡◌, ◌<◌, ◌≤◌, ◌↔◌, IsTrue, IfSome, option_map, slice_get, length, Some};
-ghost use Rattle.piece_plan.specs.Epochs.{epochs_of, IsEpoch, IsOfPlan};
-ghost use Rattle.piece_plan.specs.Order.{job_start, place_after, CoverJob};
-ghost use Rattle.plan_places.specs.Places.{place_at, IsPlace};
-ghost use Rattle.plan_places.specs.Search.{begin_at};
-ghost use Rattle.plan_places.specs.Walk.{cut_at};
+ghost use Rattle.piece_plan.specs.{Epochs.{epochs_of, IsEpoch, IsOfPlan}, Order.{job_start, place_after, CoverJob}};
+ghost use Rattle.plan_places.specs.{Places.{place_at, IsPlace}, Search.{begin_at}, Walk.{cut_at}};
 
 use crate::search::{epoch_with, integration_last, is_in_some};
 use piece_plan::{EpochPlan, JobPlan};

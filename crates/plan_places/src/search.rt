@@ -1,11 +1,8 @@
 //! Where a place stands among the epochs of the plan.
 ghost use Rattle.std.specs.Prelude.{◌≡◌, ◌+◌, ◌^◌, ◌<◌, ◌≤◌, slice_get, Some};
 ghost use Rattle.std.specs.Bool.{MatchBool};
-ghost use Rattle.piece_plan.specs.Epochs.{epochs_of, IsEpoch, IsJob, IsOfPlan};
-ghost use Rattle.piece_plan.specs.Order.{place_of, place_after, CoverJob};
-ghost use Rattle.plan_places.specs.Places.{place_at, IsPlace, IsUpTo, IsBefore};
-ghost use Rattle.plan_places.specs.Search.{begin_at, IsIn, IsCount, EndsIntegration, EndsScan};
-ghost use Rattle.plan_places.specs.Walk.{cut_at};
+ghost use Rattle.piece_plan.specs.{Epochs.{epochs_of, IsEpoch, IsJob, IsOfPlan}, Order.{place_of, place_after, CoverJob}};
+ghost use Rattle.plan_places.specs.{Places.{place_at, IsPlace, IsUpTo, IsBefore}, Search.{begin_at, IsIn, IsCount, EndsIntegration, EndsScan}, Walk.{cut_at}};
 
 use crate::Place;
 use piece_plan::{EpochPlan, JobPlan};

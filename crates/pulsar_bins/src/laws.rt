@@ -1,13 +1,8 @@
 //! What follows from the definitions. The function does nothing: a call brings its law.
 ghost use Rattle.std.specs.Prelude.{◌≡◌, ◌≤◌, ℕ, ℤ};
 ghost use Rattle.corr_model.specs.Cell.{Samples};
-ghost use Rattle.job_plan.specs.declared.plan.ProductPlan.{ProductPlan};
-ghost use Rattle.job_plan.specs.declared.plan.BaselinePlan.{BaselinePlan};
-ghost use Rattle.job_plan.specs.declared.plan.ScanPlan.{ScanPlan};
-ghost use Rattle.job_plan.specs.declared.plan.Plan.{Plan};
-ghost use Rattle.job_plan.specs.Output.{cell_of};
-ghost use Rattle.pulsar_bins.specs.Bins.{BinsFields};
-ghost use Rattle.pulsar_bins.specs.Cells.{all_bins, bin_cell_of};
+ghost use Rattle.job_plan.specs.{declared.plan.ProductPlan.{ProductPlan}, declared.plan.BaselinePlan.{BaselinePlan}, declared.plan.ScanPlan.{ScanPlan}, declared.plan.Plan.{Plan}, Output.{cell_of}};
+ghost use Rattle.pulsar_bins.specs.{Bins.{BinsFields}, Cells.{all_bins, bin_cell_of}};
 
 /// The cells of all bins add up to the cell, whatever the values of the scan.
 pub fn bins_add_up()

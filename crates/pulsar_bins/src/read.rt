@@ -1,9 +1,7 @@
 //! The bins of a text.
 ghost use Rattle.std.specs.Prelude.{◌≡◌, ◌<◌, ◌^◌, [], length, OnOk};
 ghost use Rattle.std.specs.Str.Lines.{lines};
-ghost use Rattle.pulsar_bins.specs.Said.{said_by};
-ghost use Rattle.pulsar_bins.specs.Bins.{IsSaid};
-ghost use Rattle.pulsar_bins.specs.Answer.{Gives, Reads, bins_in};
+ghost use Rattle.pulsar_bins.specs.{Said.{said_by}, Bins.{IsSaid}, Answer.{Gives, Reads, bins_in}};
 
 use crate::bins::Bins;
 use crate::fault::{BinsFault, BinsKind};

@@ -1,9 +1,6 @@
 //! The lines of a text of phases, each taken behind the others.
 ghost use Rattle.std.specs.Prelude.{◌≡◌, map, OnOk};
-ghost use Rattle.pulsar_bins.specs.Words.{row_from, row_of};
-ghost use Rattle.pulsar_bins.specs.Faults.{word_fault, fields_fault, line_fault};
-ghost use Rattle.pulsar_bins.specs.Growing.{Takes, TakesAt, grown, grown_by, fault_in};
-ghost use Rattle.pulsar_bins.specs.Bins.{IsSaid};
+ghost use Rattle.pulsar_bins.specs.{Words.{row_from, row_of}, Faults.{word_fault, fields_fault, line_fault}, Growing.{Takes, TakesAt, grown, grown_by, fault_in}, Bins.{IsSaid}};
 
 use crate::fault::{BinsFault, BinsKind};
 use crate::said::Said;

@@ -1,9 +1,7 @@
 //! Runs of one bin.
 ghost use Rattle.std.specs.Prelude.{◌≡◌, ℕ, ◌≤◌, ◌<◌, ◌-◌};
-ghost use Rattle.delay_track.specs.Piece.{IsPiece};
-ghost use Rattle.delay_track.specs.Track.{model_of};
-ghost use Rattle.pulsar_bins.specs.Bin.{bin_at};
-ghost use Rattle.pulsar_bins.specs.Runs.{IsBinRun, IsNextBinRun};
+ghost use Rattle.delay_track.specs.{Piece.{IsPiece}, Track.{model_of}};
+ghost use Rattle.pulsar_bins.specs.{Bin.{bin_at}, Runs.{IsBinRun, IsNextBinRun}};
 
 use crate::edge;
 use crate::phase::bin_of;

@@ -1,11 +1,6 @@
 //! What the lines of a text of phases so far say.
 ghost use Rattle.std.specs.Prelude.{◌≡◌, ◌++◌, ◌∷◌, [], map, Some, false, OnOk};
-ghost use Rattle.pulsar_bins.specs.declared.word.Word.TheVariants.{Count, Phase};
-ghost use Rattle.pulsar_bins.specs.Said.{said_by};
-ghost use Rattle.pulsar_bins.specs.Faults.{is_taken, row_fault};
-ghost use Rattle.pulsar_bins.specs.Growing.{Takes, grown};
-ghost use Rattle.pulsar_bins.specs.Bins.{IsSaid};
-ghost use Rattle.pulsar_bins.specs.Answer.{bins_by};
+ghost use Rattle.pulsar_bins.specs.{declared.word.Word.TheVariants.{Count, Phase}, Said.{said_by}, Faults.{is_taken, row_fault}, Growing.{Takes, grown}, Bins.{IsSaid}, Answer.{bins_by}};
 
 use crate::bins::Bins;
 use crate::fault::BinsKind;

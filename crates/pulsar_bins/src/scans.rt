@@ -1,8 +1,7 @@
 //! The phase in the scans of a plan, and whether each of their samples has one.
 ghost use Rattle.std.specs.Prelude.{◌≡◌, not, true, None, Some, MatchResult};
 ghost use Rattle.std.specs.List.{All, position};
-ghost use Rattle.delay_track.specs.StationModel.{delay_model_of};
-ghost use Rattle.delay_track.specs.Track.{model_of};
+ghost use Rattle.delay_track.specs.{StationModel.{delay_model_of}, Track.{model_of}};
 ghost use Rattle.job_plan.specs.Ranges.{IsPlan, IsScanPlan};
 ghost use Rattle.pulsar_bins.specs.Scans.{has_phase, no_phase, phase_in_scan};
 

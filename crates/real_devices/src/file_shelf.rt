@@ -1,7 +1,5 @@
 ghost use Rattle.std.specs.Prelude.{◌≡◌, ◌<◌, ◌≤◌, ◌^◌, Some, IfOk, IfSome, IsOk, IsSome, IsTrue, length, option_map};
-ghost use Rattle.dev_traits.specs.Fault.{HasRisen, Counts};
-ghost use Rattle.dev_traits.specs.Files.{size_of, ReadsAt};
-ghost use Rattle.dev_traits.specs.Told.{WhereTold};
+ghost use Rattle.dev_traits.specs.{Fault.{HasRisen, Counts}, Files.{size_of, ReadsAt}, Told.{WhereTold}};
 ghost use Rattle.real_devices.specs.Opened.{IsFound};
 
 use crate::named_files::{Kind, NamedFiles};
@@ -41,8 +39,7 @@ struct Found<F> {
 impl<S: NamedFiles + Drop> Model for FileShelf<S> {
     ghost use Rattle.std.specs.Prelude.{IfSome, option_map};
     ghost use Rattle.dev_traits.specs.Told.{WhereTold};
-    ghost use Rattle.real_devices.specs.FileShelfState.{FileShelfState};
-    ghost use Rattle.real_devices.specs.Opened.{IsFound};
+    ghost use Rattle.real_devices.specs.{FileShelfState.{FileShelfState}, Opened.{IsFound}};
 
     ghost Value = { FileShelfState S };
 

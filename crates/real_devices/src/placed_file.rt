@@ -1,7 +1,6 @@
 // An open file that is read and written at a place, and the loops over its single calls.
 ghost use Rattle.std.specs.Prelude.{◌≡◌, ◌≤◌, ◌<◌, ◌+◌, ◌^◌, List, ℕ, Bool, Option, Some, length, IfOk, IsOk, IsTrue};
-ghost use Rattle.dev_traits.specs.Files.{ReadsAt};
-ghost use Rattle.dev_traits.specs.Told.{WhereTold};
+ghost use Rattle.dev_traits.specs.{Files.{ReadsAt}, Told.{WhereTold}};
 ghost use Rattle.real_devices.specs.Placed.{ReadsSome, ReadsOn};
 
 use std::io;

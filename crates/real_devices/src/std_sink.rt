@@ -1,7 +1,6 @@
 ghost use Rattle.std.specs.Prelude.{◌≡◌, ◌≤◌, ◌<◌, length, take, IfOk, OnErr, None};
 ghost use Rattle.std.specs.Io.KnownBytes.{WriteAppends};
-ghost use Rattle.dev_traits.specs.Fault.{Counts};
-ghost use Rattle.dev_traits.specs.Told.{more};
+ghost use Rattle.dev_traits.specs.{Fault.{Counts}, Told.{more}};
 
 use dev_traits::{Failed, Sink};
 use std::io::Write;

@@ -2,11 +2,8 @@
 ghost use Rattle.std.specs.Prelude.{◌≡◌, ◌≤◌, IfErr, IfSome, option_copied};
 ghost use Rattle.std.specs.Str.{IsUtf8};
 ghost use Rattle.dev_traits.specs.Told.{WhereTold};
-ghost use Rattle.run_notes.specs.Refusals.{WhereVerdict};
-ghost use Rattle.run_notes.specs.Commands.{Tells, IsOfFilesOrOutput};
-ghost use Rattle.run_notes.specs.Counted.{CountsReads, CountsWrites};
-ghost use Rattle.run_bins.specs.Texts.{bin_output};
-ghost use Rattle.run_bins.specs.Outcome.{BinsOf};
+ghost use Rattle.run_notes.specs.{Refusals.{WhereVerdict}, Commands.{Tells, IsOfFilesOrOutput}, Counted.{CountsReads, CountsWrites}};
+ghost use Rattle.run_bins.specs.{Texts.{bin_output}, Outcome.{BinsOf}};
 
 use crate::load::load_job;
 use crate::writer::write_job;

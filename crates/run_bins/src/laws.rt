@@ -2,8 +2,7 @@
 ghost use Rattle.std.specs.Prelude.{◌≡◌, ℕ, List, Option, Result};
 ghost use Rattle.corr_model.specs.Files.{Files};
 ghost use Rattle.run_notes.specs.Answers.{Answer};
-ghost use Rattle.run_bins.specs.Texts.{BinPlan};
-ghost use Rattle.run_bins.specs.Outcome.{BinsOf};
+ghost use Rattle.run_bins.specs.{Texts.{BinPlan}, Outcome.{BinsOf}};
 
 /// A job and a text of phases come to one plan with bins, or to one answer, and never to two.
 pub fn one_plan()

@@ -3,8 +3,7 @@ ghost use Rattle.std.specs.Prelude.{◌≡◌, ◌≤◌, nat_lt, find, option_m
 ghost use Rattle.std.specs.List.{All};
 ghost use Rattle.job_plan.specs.Ranges.{IsPlan, IsScanPlan};
 ghost use Rattle.bin_sums.specs.Binned.{bin_width};
-ghost use Rattle.run_ready.specs.Due.{IsDue};
-ghost use Rattle.run_ready.specs.Stage.{IsOfTexts};
+ghost use Rattle.run_ready.specs.{Due.{IsDue}, Stage.{IsOfTexts}};
 ghost use Rattle.run_bins.specs.Outcome.{too_many_cells, is_wide};
 
 use job_plan::{Plan, Plan0, ScanPlan};

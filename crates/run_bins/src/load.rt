@@ -3,11 +3,9 @@ ghost use Rattle.std.specs.Prelude.{◌≡◌, Ok, IfOk, IfErr, IfSome, option_c
 ghost use Rattle.std.specs.Str.{IsUtf8};
 ghost use Rattle.dev_traits.specs.Told.{WhereTold};
 ghost use Rattle.station_stream.specs.Recorded.{AreRecorded};
-ghost use Rattle.run_notes.specs.Refusals.{IsCause};
-ghost use Rattle.run_notes.specs.Counted.{CountsReads};
+ghost use Rattle.run_notes.specs.{Refusals.{IsCause}, Counted.{CountsReads}};
 ghost use Rattle.run_ready.specs.Stage.{IsOfFiles};
-ghost use Rattle.run_bins.specs.Jobs.{plan_of};
-ghost use Rattle.run_bins.specs.Outcome.{BinsOf};
+ghost use Rattle.run_bins.specs.{Jobs.{plan_of}, Outcome.{BinsOf}};
 
 use crate::job::BinJob;
 use crate::limit::check_cells;

@@ -2,14 +2,9 @@
 ghost use Rattle.std.specs.Prelude.{◌≡◌, ◌<◌, ◌^◌, None, Ok, OnOk, IfOk, IfErr, length};
 ghost use Rattle.std.specs.Str.{IsUtf8};
 ghost use Rattle.dev_traits.specs.Told.{WhereTold};
-ghost use Rattle.pulsar_bins.specs.Answer.{bins_in};
-ghost use Rattle.pulsar_bins.specs.Scans.{no_phase};
-ghost use Rattle.run_notes.specs.Answers.{bins_answer};
-ghost use Rattle.run_notes.specs.Refusals.{IsCause};
-ghost use Rattle.run_notes.specs.Counted.{CountsReads};
-ghost use Rattle.run_ready.specs.Due.{IsDue};
-ghost use Rattle.run_ready.specs.Stage.{IsOfFiles, IsOfTexts};
-ghost use Rattle.run_ready.specs.Steps.{Is, answered};
+ghost use Rattle.pulsar_bins.specs.{Answer.{bins_in}, Scans.{no_phase}};
+ghost use Rattle.run_notes.specs.{Answers.{bins_answer}, Refusals.{IsCause}, Counted.{CountsReads}};
+ghost use Rattle.run_ready.specs.{Due.{IsDue}, Stage.{IsOfFiles, IsOfTexts}, Steps.{Is, answered}};
 ghost use Rattle.run_bins.specs.Outcome.{BinsUnder, uncovered, scan_name};
 
 use dev_traits::Shelf;

@@ -4,15 +4,10 @@ ghost use Rattle.std.specs.List.{All, enumerate_from, range_with_len};
 ghost use Rattle.dev_traits.specs.Told.{WhereTold};
 ghost use Rattle.corr_model.specs.Records.{places_of};
 ghost use Rattle.sink_text.specs.Appends.{Appends};
-ghost use Rattle.job_plan.specs.Output.{head_of, integrations_of};
-ghost use Rattle.job_plan.specs.Values.{rotated};
+ghost use Rattle.job_plan.specs.{Output.{head_of, integrations_of}, Values.{rotated}};
 ghost use Rattle.station_stream.specs.Recorded.{AreRecorded};
-ghost use Rattle.bin_sums.specs.Ahead.{IsAheadOf};
-ghost use Rattle.bin_sums.specs.Binned.{bin_width};
-ghost use Rattle.run_bins.specs.Jobs.{plan_of};
-ghost use Rattle.run_bins.specs.Rows.{sums_text};
-ghost use Rattle.run_bins.specs.Texts.{bin_output, scan_text, integration_text};
-ghost use Rattle.run_bins.specs.Writes.{WritesText, of_sink, of_stream, scan_text_at};
+ghost use Rattle.bin_sums.specs.{Ahead.{IsAheadOf}, Binned.{bin_width}};
+ghost use Rattle.run_bins.specs.{Jobs.{plan_of}, Rows.{sums_text}, Texts.{bin_output, scan_text, integration_text}, Writes.{WritesText, of_sink, of_stream, scan_text_at}};
 
 use crate::job::BinJob;
 use crate::limit::{widest, width_of};

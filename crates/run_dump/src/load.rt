@@ -2,8 +2,7 @@
 ghost use Rattle.std.specs.Prelude.{◌≡◌, IfOk, IfErr, Ok};
 ghost use Rattle.std.specs.Str.{IsUtf8};
 ghost use Rattle.dev_traits.specs.Told.{WhereTold};
-ghost use Rattle.run_notes.specs.Refusals.{IsCause};
-ghost use Rattle.run_notes.specs.Counted.{CountsReads};
+ghost use Rattle.run_notes.specs.{Refusals.{IsCause}, Counted.{CountsReads}};
 ghost use Rattle.run_ready.specs.Stage.{IsOfFiles, IsOfTexts};
 ghost use Rattle.run_dump.specs.Shown.{ContentOf, RecordsOf, records_refusal};
 

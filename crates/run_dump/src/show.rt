@@ -4,9 +4,7 @@ ghost use Rattle.std.specs.Str.{IsUtf8};
 ghost use Rattle.dev_traits.specs.Told.{WhereTold};
 ghost use Rattle.sink_text.specs.Appends.{Appends};
 ghost use Rattle.vis_records.specs.Dumped.{dump_text};
-ghost use Rattle.run_notes.specs.Refusals.{MatchWrite};
-ghost use Rattle.run_notes.specs.Commands.{Shows, IsOfFilesOrOutput};
-ghost use Rattle.run_notes.specs.Counted.{CountsReads, CountsWrites};
+ghost use Rattle.run_notes.specs.{Refusals.{MatchWrite}, Commands.{Shows, IsOfFilesOrOutput}, Counted.{CountsReads, CountsWrites}};
 ghost use Rattle.run_dump.specs.Shown.{RecordsOf};
 
 use crate::load::load_records;

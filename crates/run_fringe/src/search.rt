@@ -2,15 +2,10 @@
 ghost use Rattle.std.specs.Prelude.{◌≡◌, ⊤, IfOk, IfErr, Ok};
 ghost use Rattle.std.specs.Str.{IsUtf8};
 ghost use Rattle.dev_traits.specs.Told.{WhereTold};
-ghost use Rattle.fringe_search.specs.Peaks.{AreSmall};
-ghost use Rattle.fringe_search.specs.Certificates.{lines_text};
-ghost use Rattle.fringe_search.specs.Written.{AppendsCertificate};
+ghost use Rattle.fringe_search.specs.{Peaks.{AreSmall}, Certificates.{lines_text}, Written.{AppendsCertificate}};
 ghost use Rattle.run_words.specs.Orders.{IsGrid};
-ghost use Rattle.run_notes.specs.Refusals.{IsCause, MatchWrite};
-ghost use Rattle.run_notes.specs.Commands.{Shows, IsOfFilesOrOutput};
-ghost use Rattle.run_notes.specs.Counted.{CountsReads, CountsWrites};
-ghost use Rattle.run_ready.specs.Steps.{Then};
-ghost use Rattle.run_ready.specs.Stage.{IsOfFiles};
+ghost use Rattle.run_notes.specs.{Refusals.{IsCause, MatchWrite}, Commands.{Shows, IsOfFilesOrOutput}, Counted.{CountsReads, CountsWrites}};
+ghost use Rattle.run_ready.specs.{Steps.{Then}, Stage.{IsOfFiles}};
 ghost use Rattle.run_dump.specs.Shown.{RecordsOf};
 ghost use Rattle.run_fringe.specs.Searched.{SmallOf, FringeOf};
 

@@ -3,11 +3,8 @@ ghost use Rattle.std.specs.Prelude.{◌≡◌, ⊤, IfOk, IfErr, OnOk, Ok, codes
 ghost use Rattle.std.specs.Str.{IsUtf8};
 ghost use Rattle.dev_traits.specs.Told.{WhereTold};
 ghost use Rattle.sink_text.specs.Appends.{Appends};
-ghost use Rattle.fringe_search.specs.Peaks.{AreSmall};
-ghost use Rattle.fringe_search.specs.Certificates.{IsRight};
-ghost use Rattle.run_notes.specs.Refusals.{IsCause, MatchWrite};
-ghost use Rattle.run_notes.specs.Commands.{Shows, IsOfFilesOrOutput};
-ghost use Rattle.run_notes.specs.Counted.{CountsReads, CountsWrites};
+ghost use Rattle.fringe_search.specs.{Peaks.{AreSmall}, Certificates.{IsRight}};
+ghost use Rattle.run_notes.specs.{Refusals.{IsCause, MatchWrite}, Commands.{Shows, IsOfFilesOrOutput}, Counted.{CountsReads, CountsWrites}};
 ghost use Rattle.run_ready.specs.Stage.{IsOfFiles};
 ghost use Rattle.run_fringe.specs.Searched.{VerdictOf, CheckOf, VerifyOf, right_text, IsVerdict};
 

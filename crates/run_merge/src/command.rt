@@ -1,11 +1,8 @@
 //! The record file of a job whose parts were summed into journals.
 ghost use Rattle.std.specs.Prelude.{◌≡◌, IfErr, IfSome, option_copied};
-ghost use Rattle.std.specs.List.{All};
-ghost use Rattle.std.specs.Str.{IsUtf8};
+ghost use Rattle.std.specs.{List.{All}, Str.{IsUtf8}};
 ghost use Rattle.dev_traits.specs.Told.{WhereTold};
-ghost use Rattle.run_notes.specs.Refusals.{WhereVerdict, WhereMemory};
-ghost use Rattle.run_notes.specs.Commands.{Tells, IsOfFilesOrOutput};
-ghost use Rattle.run_notes.specs.Counted.{CountsReads, CountsWrites};
+ghost use Rattle.run_notes.specs.{Refusals.{WhereVerdict, WhereMemory}, Commands.{Tells, IsOfFilesOrOutput}, Counted.{CountsReads, CountsWrites}};
 ghost use Rattle.run_merge.specs.Outcome.{MergeOf, merged_text};
 
 use crate::load::load_merge;

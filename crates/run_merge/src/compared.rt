@@ -3,13 +3,10 @@ ghost use Rattle.std.specs.Prelude.{◌≡◌, ℕ, List, None, option_map, IfEr
 ghost use Rattle.std.specs.List.{All};
 ghost use Rattle.dev_traits.specs.Told.{WhereTold};
 ghost use Rattle.journal_image.specs.Image.{KeptEpoch};
-ghost use Rattle.shard_merge.specs.Verdict.{verdict};
-ghost use Rattle.shard_merge.specs.Reading.{IsListed, AreReadFrom};
+ghost use Rattle.shard_merge.specs.{Verdict.{verdict}, Reading.{IsListed, AreReadFrom}};
 ghost use Rattle.run_notes.specs.Counted.{CountsReads};
-ghost use Rattle.run_ready.specs.Due.{IsDue};
-ghost use Rattle.run_ready.specs.Stage.{IsOfFiles};
-ghost use Rattle.run_merge.specs.Outcome.{merge_answer};
-ghost use Rattle.run_merge.specs.Refused.{merge_refusal};
+ghost use Rattle.run_ready.specs.{Due.{IsDue}, Stage.{IsOfFiles}};
+ghost use Rattle.run_merge.specs.{Outcome.{merge_answer}, Refused.{merge_refusal}};
 
 use dev_traits::Shelf;
 use piece_plan::JobPlan;

@@ -1,15 +1,12 @@
 //! A job and the journals of its parts, read and compared.
 ghost use Rattle.std.specs.Prelude.{◌≡◌, List, IfOk, IfErr, IfSome, option_copied};
-ghost use Rattle.std.specs.List.{All};
-ghost use Rattle.std.specs.Str.{IsUtf8};
+ghost use Rattle.std.specs.{List.{All}, Str.{IsUtf8}};
 ghost use Rattle.dev_traits.specs.Told.{WhereTold};
 ghost use Rattle.journal_image.specs.Image.{KeptEpoch};
 ghost use Rattle.shard_merge.specs.Reading.{IsListed};
-ghost use Rattle.run_notes.specs.Refusals.{IsCause};
-ghost use Rattle.run_notes.specs.Counted.{CountsReads};
+ghost use Rattle.run_notes.specs.{Refusals.{IsCause}, Counted.{CountsReads}};
 ghost use Rattle.run_ready.specs.Stage.{IsOfFiles};
-ghost use Rattle.run_merge.specs.Outcome.{MergeOf};
-ghost use Rattle.run_merge.specs.Jobs.{IsMergeOf};
+ghost use Rattle.run_merge.specs.{Outcome.{MergeOf}, Jobs.{IsMergeOf}};
 
 use crate::compared::compared;
 use crate::job::MergeJob;

@@ -1,16 +1,12 @@
 //! The journals of a job's parts.
 ghost use Rattle.std.specs.Prelude.{◌≡◌, ◌⊎◌, ◌<◌, ◌^◌, List, Ok, Some, length, IfOk, IfErr};
-ghost use Rattle.std.specs.List.{All, AllZip};
-ghost use Rattle.std.specs.Str.{IsUtf8};
-ghost use Rattle.dev_traits.specs.Files.{size_of};
-ghost use Rattle.dev_traits.specs.Told.{WhereTold};
+ghost use Rattle.std.specs.{List.{All, AllZip}, Str.{IsUtf8}};
+ghost use Rattle.dev_traits.specs.{Files.{size_of}, Told.{WhereTold}};
 ghost use Rattle.journal_image.specs.Image.{KeptEpoch};
 ghost use Rattle.shard_merge.specs.Reading.{IsListed, IsReadFrom};
-ghost use Rattle.run_notes.specs.Refusals.{IsCause};
-ghost use Rattle.run_notes.specs.Counted.{CountsReads};
+ghost use Rattle.run_notes.specs.{Refusals.{IsCause}, Counted.{CountsReads}};
 ghost use Rattle.run_ready.specs.Stage.{IsOfFiles};
-ghost use Rattle.run_merge.specs.Outcome.{ShardOf, ShardsOf};
-ghost use Rattle.run_merge.specs.Shards.{IsSizeOf, AreShardsOf};
+ghost use Rattle.run_merge.specs.{Outcome.{ShardOf, ShardsOf}, Shards.{IsSizeOf, AreShardsOf}};
 
 use crate::lists::add;
 use checkpoint_journal::Identity;

@@ -1,12 +1,9 @@
 //! The sizes of journals.
 ghost use Rattle.std.specs.Prelude.{◌≡◌, ◌<◌, ◌^◌, None, length, IfOk, IfErr, OnOk};
-ghost use Rattle.std.specs.List.{All, AllZip};
-ghost use Rattle.std.specs.Str.{IsUtf8};
+ghost use Rattle.std.specs.{List.{All, AllZip}, Str.{IsUtf8}};
 ghost use Rattle.dev_traits.specs.Told.{WhereTold};
 ghost use Rattle.run_notes.specs.Counted.{CountsReads};
-ghost use Rattle.run_ready.specs.Due.{IsDue};
-ghost use Rattle.run_ready.specs.Sizes.{no_file_of};
-ghost use Rattle.run_ready.specs.Stage.{IsOfFiles};
+ghost use Rattle.run_ready.specs.{Due.{IsDue}, Sizes.{no_file_of}, Stage.{IsOfFiles}};
 ghost use Rattle.run_merge.specs.Shards.{IsSizeOf};
 
 use crate::lists::add;

@@ -4,11 +4,8 @@ ghost use Rattle.std.specs.List.{All};
 ghost use Rattle.dev_traits.specs.Told.{WhereTold};
 ghost use Rattle.journal_image.specs.Image.{KeptEpoch};
 ghost use Rattle.vis_writer.specs.Writes.{Appended};
-ghost use Rattle.shard_merge.specs.Merged.{merged};
-ghost use Rattle.shard_merge.specs.Reading.{IsListed, AreReadFrom};
-ghost use Rattle.run_notes.specs.Refusals.{WhereMemory};
-ghost use Rattle.run_notes.specs.Commands.{IsOfOutput};
-ghost use Rattle.run_notes.specs.Counted.{CountsReads, CountsWrites};
+ghost use Rattle.shard_merge.specs.{Merged.{merged}, Reading.{IsListed, AreReadFrom}};
+ghost use Rattle.run_notes.specs.{Refusals.{WhereMemory}, Commands.{IsOfOutput}, Counted.{CountsReads, CountsWrites}};
 ghost use Rattle.run_merge.specs.Refused.{output_refusal};
 
 use crate::job::MergeJob;

@@ -1,10 +1,8 @@
 //! Statuses and notes.
 ghost use Rattle.std.specs.Prelude.{◌≡◌, [], ◌∷◌};
 ghost use Rattle.hex.specs.Hex.{encode_lower};
-ghost use Rattle.sink_text.specs.Appends.{Appends};
-ghost use Rattle.sink_text.specs.Written.{Puts};
-ghost use Rattle.run_notes.specs.Refusals.{answer_of, due_answer};
-ghost use Rattle.run_notes.specs.Answers.{words_answer, byte_answer, byte_or_none, other_answer, differs_answer, cell_text, place_text};
+ghost use Rattle.sink_text.specs.{Appends.{Appends}, Written.{Puts}};
+ghost use Rattle.run_notes.specs.{Refusals.{answer_of, due_answer}, Answers.{words_answer, byte_answer, byte_or_none, other_answer, differs_answer, cell_text, place_text}};
 
 use crate::refusal::{Due, Refusal};
 use corr_model::Cell;

@@ -6,11 +6,8 @@ ghost use Rattle.piece_plan.specs.Limited.{limited, IsPart};
 ghost use Rattle.plan_places.specs.Walk.{epochs_by};
 ghost use Rattle.station_stream.specs.Recorded.{AreRecorded};
 ghost use Rattle.checkpoint_journal.specs.Identity.{shard_of};
-ghost use Rattle.run_notes.specs.Counted.{CountsReads};
-ghost use Rattle.run_notes.specs.Refusals.{IsCause};
-ghost use Rattle.run_ready.specs.Identities.{identity_under};
-ghost use Rattle.run_ready.specs.Stage.{IsOfFiles, IsOfTexts};
-ghost use Rattle.run_ready.specs.Steps.{Is, unless};
+ghost use Rattle.run_notes.specs.{Counted.{CountsReads}, Refusals.{IsCause}};
+ghost use Rattle.run_ready.specs.{Identities.{identity_under}, Stage.{IsOfFiles, IsOfTexts}, Steps.{Is, unless}};
 ghost use Rattle.run_part.specs.Outcome.{past_end, PartOf};
 
 use checkpoint_journal::{Identity, shard_identity};

@@ -5,10 +5,7 @@ ghost use Rattle.dev_traits.specs.Told.{WhereTold};
 ghost use Rattle.frame_index.specs.Recording.{AreOnShelf};
 ghost use Rattle.station_stream.specs.Part.{IsNamedBy, IsRecordingOf};
 ghost use Rattle.run_notes.specs.Counted.{CountsReads};
-ghost use Rattle.run_ready.specs.Due.{IsDue};
-ghost use Rattle.run_ready.specs.Recordings.{foreign_answer, first_foreign};
-ghost use Rattle.run_ready.specs.Sizes.{IsSizedBy, AreShelved};
-ghost use Rattle.run_ready.specs.Stage.{IsOfFiles};
+ghost use Rattle.run_ready.specs.{Due.{IsDue}, Recordings.{foreign_answer, first_foreign}, Sizes.{IsSizedBy, AreShelved}, Stage.{IsOfFiles}};
 
 use crate::recordings::{StationFiles, add};
 use crate::refusals::recording_refusal;

@@ -1,17 +1,12 @@
 //! A job joined with its schedule, before its recordings are looked at.
 ghost use Rattle.std.specs.Prelude.{◌≡◌, ◌≤◌, ◌<◌, ◌^◌, IfOk, IfErr, IfSome, Ok, None, Some, length, unwrap_or, option_copied};
-ghost use Rattle.std.specs.List.{All};
-ghost use Rattle.std.specs.Str.{IsUtf8};
+ghost use Rattle.std.specs.{List.{All}, Str.{IsUtf8}};
 ghost use Rattle.dev_traits.specs.Told.{WhereTold};
 ghost use Rattle.corr_model.specs.Files.{bytes_under};
 ghost use Rattle.plan_places.specs.Walk.{epochs_by};
 ghost use Rattle.job_epochs.specs.Sizes.{sizes_of};
-ghost use Rattle.run_notes.specs.Refusals.{IsCause};
-ghost use Rattle.run_notes.specs.Counted.{CountsReads};
-ghost use Rattle.run_ready.specs.Outcome.{Joins, JoinOf};
-ghost use Rattle.run_ready.specs.Identities.{schedule_text};
-ghost use Rattle.run_ready.specs.Sizes.{HasFewFiles};
-ghost use Rattle.run_ready.specs.Stage.{IsOfFiles, IsOfTexts};
+ghost use Rattle.run_notes.specs.{Refusals.{IsCause}, Counted.{CountsReads}};
+ghost use Rattle.run_ready.specs.{Outcome.{Joins, JoinOf}, Identities.{schedule_text}, Sizes.{HasFewFiles}, Stage.{IsOfFiles, IsOfTexts}};
 
 use crate::scans::{JobRead, ScheduleRead, load_job, load_schedule, plan_of};
 use dev_traits::Shelf;

@@ -3,13 +3,8 @@ ghost use Rattle.std.specs.Prelude.{◌≡◌, ◌≤◌, IfOk, IfErr, IfSome, O
 ghost use Rattle.std.specs.Str.{IsUtf8};
 ghost use Rattle.dev_traits.specs.Told.{WhereTold};
 ghost use Rattle.checkpoint_journal.specs.Identity.{identity_of};
-ghost use Rattle.run_notes.specs.Refusals.{IsCause};
-ghost use Rattle.run_notes.specs.Counted.{CountsReads};
-ghost use Rattle.run_ready.specs.Outcome.{SurveyOf, PlanOf};
-ghost use Rattle.run_ready.specs.Due.{IsDue};
-ghost use Rattle.run_ready.specs.Recordings.{first_foreign, recordings_answer};
-ghost use Rattle.run_ready.specs.Sizes.{AreShelved};
-ghost use Rattle.run_ready.specs.Identities.{identity_under, lengths_of};
+ghost use Rattle.run_notes.specs.{Refusals.{IsCause}, Counted.{CountsReads}};
+ghost use Rattle.run_ready.specs.{Outcome.{SurveyOf, PlanOf}, Due.{IsDue}, Recordings.{first_foreign, recordings_answer}, Sizes.{AreShelved}, Identities.{identity_under, lengths_of}};
 ghost use Rattle.run_ready.specs.Stage.{IsOfFiles};
 ghost use Rattle.station_stream.specs.Recorded.{AreRecorded};
 

@@ -1,14 +1,10 @@
 //! The files of all stations, with their sizes, and how many slots they have.
 ghost use Rattle.std.specs.Prelude.{◌≡◌, ◌≤◌, ◌<◌, ◌^◌, ◌∷◌, ◌++◌, [], None, length, map, IfOk, IfErr, OnOk};
-ghost use Rattle.std.specs.List.{All, AllZip};
-ghost use Rattle.std.specs.Str.{IsUtf8};
+ghost use Rattle.std.specs.{List.{All, AllZip}, Str.{IsUtf8}};
 ghost use Rattle.dev_traits.specs.Told.{WhereTold};
 ghost use Rattle.frame_index.specs.Recording.{AreOnShelf, IsOnShelf, slots_by_size};
 ghost use Rattle.run_notes.specs.Counted.{CountsReads};
-ghost use Rattle.run_ready.specs.Due.{IsDue};
-ghost use Rattle.run_ready.specs.Recordings.{files_answer};
-ghost use Rattle.run_ready.specs.Sizes.{no_file, no_file_of, no_file_for, HasFiles, IsSizedBy, AreShelved, slots_together};
-ghost use Rattle.run_ready.specs.Stage.{IsOfFiles};
+ghost use Rattle.run_ready.specs.{Due.{IsDue}, Recordings.{files_answer}, Sizes.{no_file, no_file_of, no_file_for, HasFiles, IsSizedBy, AreShelved, slots_together}, Stage.{IsOfFiles}};
 
 use crate::refusals::within;
 use crate::texts::file_size;

@@ -1,18 +1,13 @@
 //! A schedule, a job, and the plan that comes of both.
 ghost use Rattle.std.specs.Prelude.{◌≡◌, ◌≤◌, ◌<◌, ◌^◌, length, IsTrue, IsSome, IfOk, IfErr, Ok, Some, IfSome, unwrap_or};
-ghost use Rattle.std.specs.List.{All};
-ghost use Rattle.std.specs.Str.{IsUtf8};
+ghost use Rattle.std.specs.{List.{All}, Str.{IsUtf8}};
 ghost use Rattle.dev_traits.specs.Told.{WhereTold};
 ghost use Rattle.plan_places.specs.Walk.{epochs_by};
 ghost use Rattle.job_epochs.specs.Sizes.{sizes_of};
 ghost use Rattle.job_text.specs.Answer.{job_in};
 ghost use Rattle.job_join.specs.Joined.{joined};
-ghost use Rattle.run_notes.specs.Answers.{job_answer};
-ghost use Rattle.run_notes.specs.Refusals.{IsCause};
-ghost use Rattle.run_notes.specs.Counted.{CountsReads};
-ghost use Rattle.run_ready.specs.Steps.{Is, answered};
-ghost use Rattle.run_ready.specs.Outcome.{take_name, key_name, scan_name, cause_name, cause_answer, ScansOf, ScheduleOf, JobOf};
-ghost use Rattle.run_ready.specs.Sizes.{HasFewFiles};
+ghost use Rattle.run_notes.specs.{Answers.{job_answer}, Refusals.{IsCause}, Counted.{CountsReads}};
+ghost use Rattle.run_ready.specs.{Steps.{Is, answered}, Outcome.{take_name, key_name, scan_name, cause_name, cause_answer, ScansOf, ScheduleOf, JobOf}, Sizes.{HasFewFiles}};
 ghost use Rattle.run_ready.specs.Stage.{IsOfFiles, IsOfTexts};
 
 use crate::refusals::{job_refusal, join_refusal, schedule_refusal, vex_refusal};

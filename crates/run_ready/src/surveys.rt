@@ -5,14 +5,8 @@ ghost use Rattle.dev_traits.specs.Told.{WhereTold};
 ghost use Rattle.plan_places.specs.Walk.{epochs_by};
 ghost use Rattle.job_epochs.specs.Sizes.{sizes_of};
 ghost use Rattle.checkpoint_journal.specs.Identity.{identity_of};
-ghost use Rattle.run_notes.specs.Refusals.{IsCause};
-ghost use Rattle.run_notes.specs.Counted.{CountsReads};
-ghost use Rattle.run_ready.specs.Steps.{Is, unless};
-ghost use Rattle.run_ready.specs.Due.{IsDue};
-ghost use Rattle.run_ready.specs.Recordings.{files_answer};
-ghost use Rattle.run_ready.specs.Identities.{lengths_of};
-ghost use Rattle.run_ready.specs.Sizes.{IsSizedBy, AreShelved, sizes_in};
-ghost use Rattle.run_ready.specs.Props.{AreSized-prop};
+ghost use Rattle.run_notes.specs.{Refusals.{IsCause}, Counted.{CountsReads}};
+ghost use Rattle.run_ready.specs.{Steps.{Is, unless}, Due.{IsDue}, Recordings.{files_answer}, Identities.{lengths_of}, Sizes.{IsSizedBy, AreShelved, sizes_in}, Props.{AreSized-prop}};
 ghost use Rattle.run_ready.specs.Stage.{IsOfFiles};
 
 use crate::identity::identity_of;

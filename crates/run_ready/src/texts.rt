@@ -1,15 +1,9 @@
 //! Files by their names: their sizes, and those that are read whole.
 ghost use Rattle.std.specs.Prelude.{◌≡◌, ◌≤◌, ◌<◌, ◌^◌, length, IfOk, IfErr, Some, Ok};
 ghost use Rattle.std.specs.Str.{IsUtf8};
-ghost use Rattle.dev_traits.specs.Files.{size_of};
-ghost use Rattle.dev_traits.specs.Told.{WhereTold};
-ghost use Rattle.run_notes.specs.Refusals.{IsCause, IsNoVerdict};
-ghost use Rattle.run_notes.specs.Counted.{CountsReads};
-ghost use Rattle.run_ready.specs.Steps.{Is};
-ghost use Rattle.run_ready.specs.Due.{IsDue};
-ghost use Rattle.run_ready.specs.Sizes.{no_file};
-ghost use Rattle.run_ready.specs.Outcome.{text_under};
-ghost use Rattle.run_ready.specs.Stage.{IsOfFiles};
+ghost use Rattle.dev_traits.specs.{Files.{size_of}, Told.{WhereTold}};
+ghost use Rattle.run_notes.specs.{Refusals.{IsCause, IsNoVerdict}, Counted.{CountsReads}};
+ghost use Rattle.run_ready.specs.{Steps.{Is}, Due.{IsDue}, Sizes.{no_file}, Outcome.{text_under}, Stage.{IsOfFiles}};
 
 use crate::refusals::{there, within};
 use dev_traits::Shelf;

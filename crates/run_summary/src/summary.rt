@@ -1,11 +1,9 @@
 //! Summaries.
 ghost use Rattle.std.specs.Prelude.{◌≡◌, ◌++◌, ◌∷◌, [], ℕ, List, length, flat_map, codes, decimal};
 ghost use Rattle.corr_model.specs.Files.{Files};
-ghost use Rattle.sink_text.specs.Appends.{Appends};
-ghost use Rattle.sink_text.specs.Written.{Puts};
+ghost use Rattle.sink_text.specs.{Appends.{Appends}, Written.{Puts}};
 ghost use Rattle.station_stream.specs.Recorded.{AreRecorded, AreNamed};
-ghost use Rattle.run_summary.specs.Lines.{PutsLines};
-ghost use Rattle.run_summary.specs.Summaries.{check_text, counts_line, kept_line, shard_line, station_line};
+ghost use Rattle.run_summary.specs.{Lines.{PutsLines}, Summaries.{check_text, counts_line, kept_line, shard_line, station_line}};
 
 use dev_traits::{Failed, Sink};
 use frame_index::Counts;

@@ -1,7 +1,6 @@
 //! The rows of an epoch's stations, made out of frames by threads.
 ghost use Rattle.std.specs.Prelude.{◌≡◌, ◌<◌, ◌≤◌, ◌+◌, None, length};
-ghost use Rattle.std.specs.List.{All};
-ghost use Rattle.std.specs.Thread.{IsSync};
+ghost use Rattle.std.specs.{List.{All}, Thread.{IsSync}};
 ghost use Rattle.run_sums.specs.Frames.{IsMaking, IsRowIn, IsStretch, AreAllMade, rows_in};
 
 use crate::making::Making;

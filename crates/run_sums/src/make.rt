@@ -2,9 +2,7 @@
 ghost use Rattle.std.specs.Prelude.{◌≡◌, ◌≤◌, None, Option, IfOk, Some, slice_get};
 ghost use Rattle.corr_model.specs.Files.{Files};
 ghost use Rattle.job_plan.specs.Ranges.{IsScanPlan};
-ghost use Rattle.run_sums.specs.Found.{IsEpochOf};
-ghost use Rattle.run_sums.specs.Frames.{HoldsFrames};
-ghost use Rattle.run_sums.specs.Reach.{HoldsEpoch};
+ghost use Rattle.run_sums.specs.{Found.{IsEpochOf}, Frames.{HoldsFrames}, Reach.{HoldsEpoch}};
 
 use crate::frames::EpochFrames;
 use crate::made::fill_rows;

@@ -1,11 +1,8 @@
 //! The frames of an epoch's stations, and room for their rows.
 ghost use Rattle.std.specs.Prelude.{◌≡◌, ◌≤◌, ◌<◌, ◌-◌, ℕ, Some, IfOk, length, slice_get};
 ghost use Rattle.dev_traits.specs.Told.{WhereTold};
-ghost use Rattle.job_plan.specs.declared.plan.StayPlan.{StayPlan};
-ghost use Rattle.job_plan.specs.Ranges.{IsPlan, IsScanPlan};
-ghost use Rattle.station_stream.specs.Faults.{CountsReads};
-ghost use Rattle.station_stream.specs.Recorded.{AreNamed, AreRecorded};
-ghost use Rattle.station_stream.specs.StayFrames.{HoldStay};
+ghost use Rattle.job_plan.specs.{declared.plan.StayPlan.{StayPlan}, Ranges.{IsPlan, IsScanPlan}};
+ghost use Rattle.station_stream.specs.{Faults.{CountsReads}, Recorded.{AreNamed, AreRecorded}, StayFrames.{HoldStay}};
 ghost use Rattle.run_sums.specs.Frames.{AreFrames, AreRows, IsOfSamples};
 
 use dev_traits::Shelf;

@@ -1,11 +1,9 @@
 //! The frames of an epoch, read from the shelf.
 ghost use Rattle.std.specs.Prelude.{◌≡◌, IfOk, Some, slice_get};
 ghost use Rattle.dev_traits.specs.Told.{WhereTold};
-ghost use Rattle.station_stream.specs.Faults.{CountsReads};
-ghost use Rattle.station_stream.specs.Recorded.{AreRecorded};
+ghost use Rattle.station_stream.specs.{Faults.{CountsReads}, Recorded.{AreRecorded}};
 ghost use Rattle.job_plan.specs.Ranges.{IsScanPlan};
-ghost use Rattle.run_sums.specs.Found.{IsEpochOf};
-ghost use Rattle.run_sums.specs.Frames.{HoldsFrames};
+ghost use Rattle.run_sums.specs.{Found.{IsEpochOf}, Frames.{HoldsFrames}};
 
 use crate::frames::EpochFrames;
 use crate::pairs::pairs_of;

@@ -2,11 +2,9 @@
 ghost use Rattle.std.specs.Prelude.{◌≡◌, ◌≤◌, IfOk};
 ghost use Rattle.dev_traits.specs.Told.{WhereTold};
 ghost use Rattle.piece_plan.specs.Epochs.{IsEpoch};
-ghost use Rattle.station_stream.specs.Faults.{CountsReads};
-ghost use Rattle.station_stream.specs.Recorded.{AreRecorded};
+ghost use Rattle.station_stream.specs.{Faults.{CountsReads}, Recorded.{AreRecorded}};
 ghost use Rattle.epoch_run.specs.Sums.{pieces_in_epoch};
-ghost use Rattle.run_sums.specs.Found.{IsOfJob};
-ghost use Rattle.run_sums.specs.Sums.{AreSums};
+ghost use Rattle.run_sums.specs.{Found.{IsOfJob}, Sums.{AreSums}};
 
 use crate::epochs::scan_of;
 use crate::reached::reach_epoch;

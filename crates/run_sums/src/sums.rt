@@ -2,9 +2,7 @@
 ghost use Rattle.std.specs.Prelude.{◌≡◌, ◌≤◌, IfOk, None, Option};
 ghost use Rattle.corr_model.specs.Files.{Files};
 ghost use Rattle.epoch_run.specs.Sums.{pieces_in_epoch};
-ghost use Rattle.run_sums.specs.Found.{IsOfScan};
-ghost use Rattle.run_sums.specs.Reach.{HoldsEpoch};
-ghost use Rattle.run_sums.specs.Sums.{AreSums};
+ghost use Rattle.run_sums.specs.{Found.{IsOfScan}, Reach.{HoldsEpoch}, Sums.{AreSums}};
 
 use crate::epochs::scan_of;
 use crate::values::EpochValues;

@@ -1,7 +1,6 @@
 //! What is wrong with the words of a call.
 ghost use Rattle.std.specs.Prelude.{◌≡◌};
-ghost use Rattle.run_words.specs.Faults.{fault_name};
-ghost use Rattle.run_words.specs.declared.fault.WordsFault.TheVariants.{Memory};
+ghost use Rattle.run_words.specs.{Faults.{fault_name}, declared.fault.WordsFault.TheVariants.{Memory}};
 
 use std::alloc::AllocError;
 use thiserror::Error;

@@ -1,11 +1,8 @@
 //! Texts and names that words give for options.
 ghost use Rattle.std.specs.Prelude.{◌≡◌, IfOk, IfErr, IfSome, Ok, Err, codes, map, option_map};
-ghost use Rattle.std.specs.List.{All};
-ghost use Rattle.std.specs.Str.{IsUtf8};
+ghost use Rattle.std.specs.{List.{All}, Str.{IsUtf8}};
 ghost use Rattle.clap.specs.Words.{rows_of, found_of, first_of, all_of};
-ghost use Rattle.run_words.specs.Numbers.{epoch_in};
-ghost use Rattle.run_words.specs.Options.{needed, all_needed, given};
-ghost use Rattle.run_words.specs.Orders.{Gives, IsCut};
+ghost use Rattle.run_words.specs.{Numbers.{epoch_in}, Options.{needed, all_needed, given}, Orders.{Gives, IsCut}};
 
 use crate::fault::WordsFault;
 use crate::numbers::epoch_in;

@@ -1,8 +1,7 @@
 //! Numbers among the words.
 ghost use Rattle.std.specs.Prelude.{◌≡◌, ◌≤◌, ◌<◌, IfOk};
 ghost use Rattle.num_time.specs.Numerals.{are_digits};
-ghost use Rattle.run_words.specs.Numbers.{is_count, number_in, within, epoch_in, workers_in, piece_in};
-ghost use Rattle.run_words.specs.Orders.{part_in};
+ghost use Rattle.run_words.specs.{Numbers.{is_count, number_in, within, epoch_in, workers_in, piece_in}, Orders.{part_in}};
 
 use crate::fault::WordsFault;
 

@@ -2,8 +2,7 @@
 ghost use Rattle.std.specs.Prelude.{◌≡◌, ◌+◌, ◌<◌, ◌++◌, ℕ, false};
 ghost use Rattle.sink_text.specs.Written.{Puts};
 ghost use Rattle.vdif_frame.specs.Header.{header_bytes};
-ghost use Rattle.sample_gen.specs.Words.{AreNext};
-ghost use Rattle.sample_gen.specs.Frames.{header_of, slots_by, frame_slots};
+ghost use Rattle.sample_gen.specs.{Words.{AreNext}, Frames.{header_of, slots_by, frame_slots}};
 
 use crate::words::draw_array;
 use dev_traits::Sink;

@@ -1,7 +1,6 @@
 //! Codes into a data array.
 ghost use Rattle.std.specs.Prelude.{◌≡◌, ◌<◌, ◌*◌, ◌^◌, ℕ, All, length, slice_index};
-ghost use Rattle.sample_unpack.specs.Level.{IsWidth, code_at};
-ghost use Rattle.sample_unpack.specs.Packed.{packed};
+ghost use Rattle.sample_unpack.specs.{Level.{IsWidth, code_at}, Packed.{packed}};
 
 /// Packs codes of `bits` bits into bytes, the first code into the lowest bits of the first byte; `out` has
 /// as many bytes as the codes fill (VDIF 1.1.1, data array).

@@ -1,16 +1,13 @@
 //! The cells of an integration, read from a shard.
 ghost use Rattle.std.specs.Prelude.{◌≡◌, ◌+◌, ◌*◌, ◌≤◌, ℕ, List, length, replicate, take, OnOk};
 ghost use Rattle.std.specs.List.{All};
-ghost use Rattle.dev_traits.specs.Fault.{Counts};
-ghost use Rattle.dev_traits.specs.Told.{WhereTold};
+ghost use Rattle.dev_traits.specs.{Fault.{Counts}, Told.{WhereTold}};
 ghost use Rattle.corr_model.specs.Cell.{no_cell};
 ghost use Rattle.piece_plan.specs.Epochs.{cell_count};
 ghost use Rattle.journal_image.specs.Image.{KeptEpoch};
 ghost use Rattle.job_epochs.specs.Added.{add_cells};
 ghost use Rattle.checkpoint_journal.specs.Cells.{cells_at};
-ghost use Rattle.shard_merge.specs.Adding.{IsWithin, cells_in, added_in, added_part};
-ghost use Rattle.shard_merge.specs.Covers.{added, kept_in};
-ghost use Rattle.shard_merge.specs.Reading.{IsListed, IsReadFrom};
+ghost use Rattle.shard_merge.specs.{Adding.{IsWithin, cells_in, added_in, added_part}, Covers.{added, kept_in}, Reading.{IsListed, IsReadFrom}};
 
 use crate::coverage::stretch;
 use crate::shard::{Shard, text_of};

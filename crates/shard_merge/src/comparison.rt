@@ -1,17 +1,12 @@
 //! Shards compared, integration by integration.
 ghost use Rattle.std.specs.Prelude.{◌≡◌, ◌≤◌, ◌<◌, ◌+◌, ◌*◌, ◌^◌, ℕ, List, length, option_map, IfOk};
 ghost use Rattle.std.specs.List.{All};
-ghost use Rattle.dev_traits.specs.Fault.{Counts};
-ghost use Rattle.dev_traits.specs.Told.{WhereTold};
+ghost use Rattle.dev_traits.specs.{Fault.{Counts}, Told.{WhereTold}};
 ghost use Rattle.corr_model.specs.declared.cell.Cell.{Cell};
-ghost use Rattle.piece_plan.specs.declared.job.ScanSize.{ScanSize};
-ghost use Rattle.piece_plan.specs.Epochs.{AreLags};
+ghost use Rattle.piece_plan.specs.{declared.job.ScanSize.{ScanSize}, Epochs.{AreLags}};
 ghost use Rattle.journal_image.specs.Image.{KeptEpoch};
-ghost use Rattle.shard_merge.specs.Covers.{width_at};
-ghost use Rattle.shard_merge.specs.Verdict.{same_cell, difference, earlier, differ_in, verdict_on, verdict_at, integrations_in, verdict_from, verdict, IsVerdict};
-ghost use Rattle.shard_merge.specs.Reading.{IsListed, IsReadFrom, AreReadFrom, CountsMerge};
-ghost use Rattle.shard_merge.specs.declared.comparison.Place.{Place};
-ghost use Rattle.shard_merge.specs.declared.comparison.Found.{Found};
+ghost use Rattle.shard_merge.specs.{Covers.{width_at}, Verdict.{same_cell, difference, earlier, differ_in, verdict_on, verdict_at, integrations_in, verdict_from, verdict, IsVerdict}};
+ghost use Rattle.shard_merge.specs.{Reading.{IsListed, IsReadFrom, AreReadFrom, CountsMerge}, declared.comparison.Place.{Place}, declared.comparison.Found.{Found}};
 ghost use Rattle.shard_merge.specs.CompareSteps.{as_difference, scan_places, with_shard, IsWithin, Stands};
 
 use crate::cells::sum_cells;

@@ -1,16 +1,12 @@
 //! The epochs of an integration that a shard keeps, and whether they cover it.
 ghost use Rattle.std.specs.Prelude.{◌≡◌, ◌<◌, ◌≤◌, true, false, ℕ, List, length, filter, map};
-ghost use Rattle.std.specs.List.{All};
-ghost use Rattle.std.specs.List.Sorted.{IsPartitionedBy, IsPartitionPoint};
+ghost use Rattle.std.specs.{List.{All}, List.Sorted.{IsPartitionedBy, IsPartitionPoint}};
 ghost use Rattle.corr_model.specs.Files.{Files};
 ghost use Rattle.piece_plan.specs.Epochs.{JobSizes};
 ghost use Rattle.job_epochs.specs.Added.{is_of};
-ghost use Rattle.checkpoint_journal.specs.declared.listed.KeptAt.{KeptAt};
-ghost use Rattle.checkpoint_journal.specs.Listed.{IsPlaced};
+ghost use Rattle.checkpoint_journal.specs.{declared.listed.KeptAt.{KeptAt}, Listed.{IsPlaced}};
 ghost use Rattle.journal_image.specs.Image.{KeptEpoch};
-ghost use Rattle.shard_merge.specs.Covers.{follow, covers, epochs_of_kept};
-ghost use Rattle.shard_merge.specs.Reading.{IsReadFrom};
-ghost use Rattle.shard_merge.specs.CoverageOrder.{stands_before, stands_in, epochs_of_listed};
+ghost use Rattle.shard_merge.specs.{Covers.{follow, covers, epochs_of_kept}, Reading.{IsReadFrom}, CoverageOrder.{stands_before, stands_in, epochs_of_listed}};
 
 use crate::shard::Shard;
 use checkpoint_journal::KeptAt;

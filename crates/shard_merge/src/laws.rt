@@ -3,18 +3,11 @@ ghost use Rattle.std.specs.Prelude.{◌≡◌, ◌≢◌, ℕ, List, None, Some}
 ghost use Rattle.std.specs.List.{All};
 ghost use Rattle.corr_model.specs.Files.{Files};
 ghost use Rattle.piece_plan.specs.Epochs.{JobSizes, IsJob};
-ghost use Rattle.job_plan.specs.declared.plan.Plan.{Plan};
-ghost use Rattle.job_plan.specs.Ranges.{IsPlan};
-ghost use Rattle.job_plan.specs.Output.{output};
+ghost use Rattle.job_plan.specs.{declared.plan.Plan.{Plan}, Ranges.{IsPlan}, Output.{output}};
 ghost use Rattle.job_epochs.specs.Sizes.{sizes_of};
-ghost use Rattle.journal_image.specs.declared.difference.Differs.{Differs};
-ghost use Rattle.journal_image.specs.Image.{KeptEpoch};
-ghost use Rattle.shard_merge.specs.declared.fault.CellsDiffer.{CellsDiffer};
-ghost use Rattle.shard_merge.specs.declared.fault.MergeFault.TheVariants.{Uncovered, Differs as TheyDiffer};
-ghost use Rattle.shard_merge.specs.Shards.{ShardKeeps, IsNoShard};
-ghost use Rattle.shard_merge.specs.Verdict.{verdict};
-ghost use Rattle.shard_merge.specs.Merged.{merged};
-ghost use Rattle.shard_merge.specs.Honest.{AreHonest, EpochsFit};
+ghost use Rattle.journal_image.specs.{declared.difference.Differs.{Differs}, Image.{KeptEpoch}};
+ghost use Rattle.shard_merge.specs.{declared.fault.CellsDiffer.{CellsDiffer}, declared.fault.MergeFault.TheVariants.{Uncovered, Differs as TheyDiffer}, Shards.{ShardKeeps, IsNoShard}};
+ghost use Rattle.shard_merge.specs.{Verdict.{verdict}, Merged.{merged}, Honest.{AreHonest, EpochsFit}};
 
 /// The file of a part's journal keeps the same epochs, however it is read.
 pub fn one_list()

@@ -1,15 +1,11 @@
 //! The epochs that a file keeps as the journal of the part that its own front tells.
 ghost use Rattle.std.specs.Prelude.{◌≡◌, ◌<◌, ◌≤◌, ◌^◌, ℕ, length, slice_index, Some, IfOk, IfErr, OnOk};
 ghost use Rattle.std.specs.List.{All};
-ghost use Rattle.dev_traits.specs.Fault.{Counts};
-ghost use Rattle.dev_traits.specs.Told.{WhereTold};
+ghost use Rattle.dev_traits.specs.{Fault.{Counts}, Told.{WhereTold}};
 ghost use Rattle.piece_plan.specs.Limited.{integrations};
 ghost use Rattle.journal_image.specs.Image.{IsIdentity};
-ghost use Rattle.checkpoint_journal.specs.Part.{IsOfPart};
-ghost use Rattle.checkpoint_journal.specs.Finding.{HasPlace, IsFound};
-ghost use Rattle.checkpoint_journal.specs.Listed.{IsPlaced, Lists};
-ghost use Rattle.shard_merge.specs.Listing.{ListsShard, IsUnlisted, IsUnlike};
-ghost use Rattle.shard_merge.specs.Reading.{CountsShard};
+ghost use Rattle.checkpoint_journal.specs.{Part.{IsOfPart}, Finding.{HasPlace, IsFound}, Listed.{IsPlaced, Lists}};
+ghost use Rattle.shard_merge.specs.{Listing.{ListsShard, IsUnlisted, IsUnlike}, Reading.{CountsShard}};
 
 use crate::fault::ShardFault;
 use crate::parts::part;

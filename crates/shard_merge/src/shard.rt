@@ -1,14 +1,11 @@
 //! The journal of a part, as a file of a shelf.
 ghost use Rattle.std.specs.Prelude.{◌≡◌, ◌<◌, ◌^◌, ℕ, List, Some, length, IfOk, IfErr};
-ghost use Rattle.std.specs.List.{All};
-ghost use Rattle.std.specs.Str.{IsUtf8};
-ghost use Rattle.dev_traits.specs.Told.{WhereTold};
-ghost use Rattle.dev_traits.specs.Files.{size_of};
+ghost use Rattle.std.specs.{List.{All}, Str.{IsUtf8}};
+ghost use Rattle.dev_traits.specs.{Told.{WhereTold}, Files.{size_of}};
 ghost use Rattle.journal_image.specs.Image.{KeptEpoch};
 ghost use Rattle.shelf_file.specs.Seen.{seen_under};
 ghost use Rattle.checkpoint_journal.specs.Listed.{IsPlaced};
-ghost use Rattle.shard_merge.specs.Listing.{ListsShard, IsUnlisted};
-ghost use Rattle.shard_merge.specs.Reading.{IsListed, IsReadFrom, IsRefusedShard, CountsShard};
+ghost use Rattle.shard_merge.specs.{Listing.{ListsShard, IsUnlisted}, Reading.{IsListed, IsReadFrom, IsRefusedShard, CountsShard}};
 
 use crate::fault::ShardFault;
 use crate::listing::list_shard;

@@ -1,21 +1,14 @@
 //! The record file of shards.
 ghost use Rattle.std.specs.Prelude.{◌≡◌, ◌≤◌, ◌<◌, ℕ, List, Some, length, flat_map, slice_get, IfErr, IfOk, IfSome, OnOk, option_copied};
 ghost use Rattle.std.specs.List.{All, range_with_len};
-ghost use Rattle.dev_traits.specs.Fault.{Counts};
-ghost use Rattle.dev_traits.specs.Told.{WhereTold};
-ghost use Rattle.corr_model.specs.Files.{Files};
-ghost use Rattle.corr_model.specs.Records.{IsHead, vis_text};
+ghost use Rattle.dev_traits.specs.{Fault.{Counts}, Told.{WhereTold}};
+ghost use Rattle.corr_model.specs.{Files.{Files}, Records.{IsHead, vis_text}};
 ghost use Rattle.job_plan.specs.Output.{head_of};
 ghost use Rattle.job_epochs.specs.Sizes.{sizes_of};
 ghost use Rattle.journal_image.specs.Image.{KeptEpoch};
 ghost use Rattle.vis_records.specs.Heads.{scan_of};
-ghost use Rattle.vis_writer.specs.Cells.{all_cells, cells_of, integrations_of, widest};
-ghost use Rattle.vis_writer.specs.Texts.{integration_at, scans_text, text_at};
-ghost use Rattle.vis_writer.specs.Writes.{Appended};
-ghost use Rattle.shard_merge.specs.Covers.{covering, width_at};
-ghost use Rattle.shard_merge.specs.Merged.{merged, merged_cells};
-ghost use Rattle.shard_merge.specs.Reading.{IsListed, AreReadFrom};
-ghost use Rattle.shard_merge.specs.Output.{IsUnwritten, CountsOutputReads, CountsOutputWrites};
+ghost use Rattle.vis_writer.specs.{Cells.{all_cells, cells_of, integrations_of, widest}, Texts.{integration_at, scans_text, text_at}, Writes.{Appended}};
+ghost use Rattle.shard_merge.specs.{Covers.{covering, width_at}, Merged.{merged, merged_cells}, Reading.{IsListed, AreReadFrom}, Output.{IsUnwritten, CountsOutputReads, CountsOutputWrites}};
 ghost use Rattle.shard_merge.specs.Writing.{IsFirst, IsHeadOf, WritesMerged, answer_of, fault_of};
 
 use crate::cells::sum_cells;

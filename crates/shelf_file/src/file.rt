@@ -31,8 +31,7 @@ impl<'a, F: Shelf> ShelfFile<'a, F> {
 }
 
 impl<'a, F: Shelf> Disk for ShelfFile<'a, F> {
-    ghost use Rattle.shelf_file.specs.Seen.{seen_of, Stays};
-    ghost use Rattle.shelf_file.specs.Laws.{seen_is_image, image_is_told, image_is_short, Stays-goes_on};
+    ghost use Rattle.shelf_file.specs.{Seen.{seen_of, Stays}, Laws.{seen_is_image, image_is_told, image_is_short, Stays-goes_on}};
 
     ghost seen = { λ file. seen_of F.told file };
 

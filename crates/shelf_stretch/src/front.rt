@@ -1,8 +1,6 @@
 //! The front of a buffer, read.
 ghost use Rattle.std.specs.Prelude.{◌≡◌, ◌≤◌, ◌<◌, ◌+◌, ◌^◌, length, drop, IfOk};
-ghost use Rattle.dev_traits.specs.Fault.{Counts};
-ghost use Rattle.dev_traits.specs.Files.{bytes_of};
-ghost use Rattle.dev_traits.specs.Told.{WhereTold};
+ghost use Rattle.dev_traits.specs.{Fault.{Counts}, Files.{bytes_of}, Told.{WhereTold}};
 ghost use Rattle.shelf_stretch.specs.Fronts.{ReadsOn, ReadsFront};
 
 use dev_traits::{Failed, Shelf};

@@ -1,9 +1,7 @@
 //! Stretches, read.
 ghost use Rattle.std.specs.Prelude.{◌≡◌, ◌≤◌, ◌<◌, ◌+◌, ◌-◌, ◌^◌, length, drop, replicate, IfOk, OnOk};
 ghost use Rattle.std.specs.Str.{IsUtf8};
-ghost use Rattle.dev_traits.specs.Fault.{Counts};
-ghost use Rattle.dev_traits.specs.Files.{bytes_of};
-ghost use Rattle.dev_traits.specs.Told.{WhereTold};
+ghost use Rattle.dev_traits.specs.{Fault.{Counts}, Files.{bytes_of}, Told.{WhereTold}};
 ghost use Rattle.shelf_stretch.specs.Stretch.{stretch, count_from};
 
 use crate::front::read_front;

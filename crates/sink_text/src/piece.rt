@@ -1,8 +1,6 @@
 // Texts made of pieces.
 ghost use Rattle.std.specs.Prelude.{◌≡◌};
-ghost use Rattle.sink_text.specs.Appends.{Appends};
-ghost use Rattle.sink_text.specs.Pieces.{piece_text, pieces_text};
-ghost use Rattle.sink_text.specs.Written.{Puts};
+ghost use Rattle.sink_text.specs.{Appends.{Appends}, Pieces.{piece_text, pieces_text}, Written.{Puts}};
 
 use crate::Stretch;
 use dev_traits::{Failed, Sink};

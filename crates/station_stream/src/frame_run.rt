@@ -2,9 +2,7 @@
 ghost use Rattle.std.specs.Prelude.{◌≡◌, ◌+◌, ◌*◌, ◌<◌, ◌≤◌, ◌^◌, ◌↔◌, IsTrue, ℕ, pos, ◌+ℤ◌, unsigned_abs, length, false, slice_index_or, Some, IfOk};
 ghost use Rattle.dev_traits.specs.Told.{WhereTold};
 ghost use Rattle.vdif_frame.specs.Shape.{samples_per_frame};
-ghost use Rattle.station_stream.specs.Part.{IsIndexed};
-ghost use Rattle.station_stream.specs.FrameSlots.{AreSlots, IsRun, slot_at};
-ghost use Rattle.station_stream.specs.Faults.{CountsReads};
+ghost use Rattle.station_stream.specs.{Part.{IsIndexed}, FrameSlots.{AreSlots, IsRun, slot_at}, Faults.{CountsReads}};
 
 use crate::place::{place_from, slot_len};
 use crate::slot::read_slot;

@@ -1,8 +1,6 @@
 //! The values of a channel, piece by piece, out of the frames of a thread.
 ghost use Rattle.std.specs.Prelude.{◌≡◌, ◌+◌, ◌<◌, ◌≤◌, ℕ, length, slice_index};
-ghost use Rattle.station_stream.specs.Ranges.{IsChanOf};
-ghost use Rattle.station_stream.specs.Sweep.{LieIn};
-ghost use Rattle.station_stream.specs.ThreadFrames.{Reach, value_in_frames};
+ghost use Rattle.station_stream.specs.{Ranges.{IsChanOf}, Sweep.{LieIn}, ThreadFrames.{Reach, value_in_frames}};
 ghost use Rattle.value_codes.specs.Codes.{value_of};
 
 use crate::levels::fill_levels;

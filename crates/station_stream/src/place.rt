@@ -1,8 +1,6 @@
 //! The frame in which a sample lies.
 ghost use Rattle.std.specs.Prelude.{◌≡◌, ◌*◌, ◌<◌, ◌^◌, pos, ◌+ℤ◌, unsigned_abs};
-ghost use Rattle.station_stream.specs.Part.{timing_of};
-ghost use Rattle.station_stream.specs.Place.{frame_place};
-ghost use Rattle.station_stream.specs.FrameSlots.{place_from};
+ghost use Rattle.station_stream.specs.{Part.{timing_of}, Place.{frame_place}, FrameSlots.{place_from}};
 ghost use Rattle.vdif_frame.specs.Shape.{IsShape, samples_per_frame};
 
 use crate::StationPart;

@@ -1,10 +1,7 @@
 //! A slot, read whole.
 ghost use Rattle.std.specs.Prelude.{◌≡◌, ◌≤◌, ◌<◌, ◌+◌, ◌^◌, ◌↔◌, IsTrue, length, slice_get, IfOk};
-ghost use Rattle.std.specs.Option.{ForSome};
-ghost use Rattle.std.specs.Str.{IsUtf8};
-ghost use Rattle.dev_traits.specs.Fault.{Counts};
-ghost use Rattle.dev_traits.specs.Files.{bytes_of};
-ghost use Rattle.dev_traits.specs.Told.{WhereTold};
+ghost use Rattle.std.specs.{Option.{ForSome}, Str.{IsUtf8}};
+ghost use Rattle.dev_traits.specs.{Fault.{Counts}, Files.{bytes_of}, Told.{WhereTold}};
 ghost use Rattle.frame_index.specs.Recording.{AreOnShelf, bytes_on};
 ghost use Rattle.shelf_stretch.specs.Stretch.{stretch};
 ghost use Rattle.station_stream.specs.Standing.{StandsAt, bytes_at};

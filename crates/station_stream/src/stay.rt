@@ -1,11 +1,8 @@
 //! The values of one station's part of a scan.
 ghost use Rattle.std.specs.Prelude.{◌≡◌, ◌-◌, ◌≤◌, ◌≤ℤ◌, ◌<ℤ◌, ℕ, ℤ, pos, true, is_some, length, IfOk};
 ghost use Rattle.dev_traits.specs.Told.{WhereTold};
-ghost use Rattle.job_plan.specs.Ranges.{IsPlan, IsScanPlan, IsStay};
-ghost use Rattle.job_plan.specs.Values.{stay_of, stay_value};
-ghost use Rattle.station_stream.specs.Faults.{CountsReads};
-ghost use Rattle.station_stream.specs.Recorded.{AreNamed, AreRecorded};
-ghost use Rattle.station_stream.specs.Stream.{IsOfWindow, windowed};
+ghost use Rattle.job_plan.specs.{Ranges.{IsPlan, IsScanPlan, IsStay}, Values.{stay_of, stay_value}};
+ghost use Rattle.station_stream.specs.{Faults.{CountsReads}, Recorded.{AreNamed, AreRecorded}, Stream.{IsOfWindow, windowed}};
 
 use crate::stay_part::{chans_of, part_of};
 use crate::{Recording, Stream, StreamFault};

@@ -22,13 +22,9 @@ impl StayFrames {
     ghost use Rattle.std.specs.Prelude.{◌≡◌, ◌+◌, ◌<◌, ◌≤◌, ℕ, pos, true, None, Option, is_some, length, slice_index, IfOk};
     ghost use Rattle.dev_traits.specs.Told.{WhereTold};
     ghost use Rattle.frame_index.specs.Recording.{Shelved};
-    ghost use Rattle.job_plan.specs.Ranges.{IsPlan, IsScanPlan, IsStay};
-    ghost use Rattle.job_plan.specs.Values.{stay_of};
+    ghost use Rattle.job_plan.specs.{Ranges.{IsPlan, IsScanPlan, IsStay}, Values.{stay_of}};
     ghost use Rattle.value_codes.specs.Codes.{value_of};
-    ghost use Rattle.station_stream.specs.Faults.{CountsReads};
-    ghost use Rattle.station_stream.specs.Recorded.{AreNamed, AreRecorded};
-    ghost use Rattle.station_stream.specs.Part.{part_value};
-    ghost use Rattle.station_stream.specs.StayFrames.{HoldFrames, HoldStay, IsPartOfStay};
+    ghost use Rattle.station_stream.specs.{Faults.{CountsReads}, Recorded.{AreNamed, AreRecorded}, Part.{part_value}, StayFrames.{HoldFrames, HoldStay, IsPartOfStay}};
 
     /// Reads the frames of a station's part of a scan at the samples from `from` up to, not including, `to`, each once, in the room
     /// of spare lists. `stay` is one of the scan's, and `recordings` are those of the plan's stations, in their order.

@@ -1,14 +1,10 @@
 //! The part of a scan that a station has.
 ghost use Rattle.std.specs.Prelude.{◌≡◌, ◌<◌, ℕ, IfOk, length};
-ghost use Rattle.std.specs.List.{All};
-ghost use Rattle.std.specs.Option.{ForSome};
+ghost use Rattle.std.specs.{List.{All}, Option.{ForSome}};
 ghost use Rattle.delay_track.specs.Track.{model_of};
 ghost use Rattle.vdif_frame.specs.Shape.{ShapeFields};
-ghost use Rattle.job_plan.specs.Ranges.{IsPlan, IsScanPlan, IsStation, IsStay, IsModelled, IsRecorded, IsBand};
-ghost use Rattle.job_plan.specs.Values.{model_of as model_in, recorded_at, band_at};
-ghost use Rattle.station_stream.specs.Part.{chan_at};
-ghost use Rattle.station_stream.specs.Ranges.{IsChanOf};
-ghost use Rattle.station_stream.specs.StayParts.{chan_of, IsPartOf};
+ghost use Rattle.job_plan.specs.{Ranges.{IsPlan, IsScanPlan, IsStation, IsStay, IsModelled, IsRecorded, IsBand}, Values.{model_of as model_in, recorded_at, band_at}};
+ghost use Rattle.station_stream.specs.{Part.{chan_at}, Ranges.{IsChanOf}, StayParts.{chan_of, IsPartOf}};
 
 use crate::{Recording, StationChan, StationPart};
 use delay_track::Track;

@@ -2,10 +2,8 @@
 ghost use Rattle.std.specs.Prelude.{◌≡◌, ◌<◌, ◌^◌, ◌⊎◌, ◌≤ℤ◌, ◌<ℤ◌, ◌+ℤ◌, ◌-ℤ◌, ℕ, ℤ, pos, unsigned_abs, [], length, map, slice_index_or, IfOk, IfSome};
 ghost use Rattle.dev_traits.specs.Told.{WhereTold};
 ghost use Rattle.corr_model.specs.Cell.{AreSmall};
-ghost use Rattle.station_stream.specs.Part.{IsIndexed, part_value};
-ghost use Rattle.station_stream.specs.Stream.{AreLevelled, AreWhole, stream_value, windowed};
+ghost use Rattle.station_stream.specs.{Part.{IsIndexed, part_value}, Stream.{AreLevelled, AreWhole, stream_value, windowed}, Faults.{CountsReads}};
 ghost use Rattle.value_codes.specs.Codes.{value_of};
-ghost use Rattle.station_stream.specs.Faults.{CountsReads};
 
 use crate::room::leave_room;
 use crate::window::channels;

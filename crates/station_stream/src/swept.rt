@@ -1,18 +1,11 @@
 //! The frames of a station's part in a window, read sweep by sweep, and the values that are taken from them.
 ghost use Rattle.std.specs.Prelude.{◌≡◌, ◌+◌, ◌<◌, ◌≤◌, ◌⊎◌, ℕ, Some, None, Option, IfOk, OnOk, length, map, slice_index};
-ghost use Rattle.std.specs.List.{Contains};
-ghost use Rattle.std.specs.Option.{ForSome};
+ghost use Rattle.std.specs.{List.{Contains}, Option.{ForSome}};
 ghost use Rattle.dev_traits.specs.Told.{WhereTold};
 ghost use Rattle.frame_index.specs.Recording.{Shelved};
 ghost use Rattle.value_codes.specs.Codes.{value_of};
-ghost use Rattle.station_stream.specs.Ranges.{IsChanOf};
-ghost use Rattle.station_stream.specs.Part.{IsIndexed, chan_at, chan_value};
-ghost use Rattle.station_stream.specs.Sweep.{LieIn};
-ghost use Rattle.station_stream.specs.Threads.{AreThreads};
-ghost use Rattle.station_stream.specs.Swept.{AreSwept, IsIn, IsSwept};
-ghost use Rattle.station_stream.specs.Filled.{IsFilled};
-ghost use Rattle.station_stream.specs.Window.{AreValues};
-ghost use Rattle.station_stream.specs.Faults.{CountsReads};
+ghost use Rattle.station_stream.specs.{Ranges.{IsChanOf}, Part.{IsIndexed, chan_at, chan_value}, Sweep.{LieIn}, Threads.{AreThreads}, Swept.{AreSwept, IsIn, IsSwept}, Filled.{IsFilled}};
+ghost use Rattle.station_stream.specs.{Window.{AreValues}, Faults.{CountsReads}};
 
 use crate::piece::fill_values;
 use crate::sweep::Sweep;

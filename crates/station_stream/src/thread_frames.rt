@@ -2,11 +2,7 @@
 ghost use Rattle.std.specs.Prelude.{◌≡◌, ◌+◌, ◌*◌, ◌<◌, ◌≤◌, ◌^◌, ℕ, ℤ, pos, ◌+ℤ◌, ◌-ℤ◌, ◌≤ℤ◌, ◌<ℤ◌, unsigned_abs, length, IfOk, OnOk};
 ghost use Rattle.dev_traits.specs.Told.{WhereTold};
 ghost use Rattle.vdif_frame.specs.Shape.{samples_per_frame};
-ghost use Rattle.station_stream.specs.declared.chan.StationChan.{StationChan};
-ghost use Rattle.station_stream.specs.Ranges.{IsChanOf};
-ghost use Rattle.station_stream.specs.Part.{IsIndexed, chan_sample};
-ghost use Rattle.station_stream.specs.FrameSlots.{AreSlots};
-ghost use Rattle.station_stream.specs.ThreadFrames.{Reach, level_in_frames};
+ghost use Rattle.station_stream.specs.{declared.chan.StationChan.{StationChan}, Ranges.{IsChanOf}, Part.{IsIndexed, chan_sample}, FrameSlots.{AreSlots}, ThreadFrames.{Reach, level_in_frames}};
 ghost use Rattle.station_stream.specs.Faults.{CountsReads};
 
 use crate::frame_run::read_run;

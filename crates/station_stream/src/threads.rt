@@ -20,10 +20,7 @@ impl Threads {
     ghost use Rattle.std.specs.List.{Contains};
     ghost use Rattle.dev_traits.specs.Told.{WhereTold};
     ghost use Rattle.frame_index.specs.Recording.{Shelved};
-    ghost use Rattle.station_stream.specs.declared.part.StationPart.{StationPart};
-    ghost use Rattle.station_stream.specs.Part.{IsIndexed};
-    ghost use Rattle.station_stream.specs.Threads.{AreThreads};
-    ghost use Rattle.station_stream.specs.Faults.{CountsReads};
+    ghost use Rattle.station_stream.specs.{declared.part.StationPart.{StationPart}, Part.{IsIndexed}, Threads.{AreThreads}, Faults.{CountsReads}};
 
     /// Those of no thread yet.
     pub(crate) fn new(alloc: Global, sweep: Sweep) -> Threads

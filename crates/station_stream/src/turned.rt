@@ -2,8 +2,7 @@
 ghost use Rattle.std.specs.Prelude.{◌≡◌, ◌+◌, ◌^◌, ◌<◌, ◌≤◌, ℕ, ℤ, Option, length, option_map, slice_index};
 ghost use Rattle.delay_track.specs.Track.{model_of};
 ghost use Rattle.fringe_turns.specs.Direction.{direction_at};
-ghost use Rattle.value_codes.specs.Codes.{value_of, turned_by};
-ghost use Rattle.value_codes.specs.Taken.{IsTaken};
+ghost use Rattle.value_codes.specs.{Codes.{value_of, turned_by}, Taken.{IsTaken}};
 
 use crate::{StationChan, StationPart};
 use fringe_turns::turns_of;

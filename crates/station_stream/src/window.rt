@@ -2,13 +2,8 @@
 ghost use Rattle.std.specs.Prelude.{◌≡◌, ◌+◌, ◌<◌, ◌≤◌, ◌^◌, ℕ, [], None, Option, IfOk, length, map, min, max, slice_index, slice_index_or};
 ghost use Rattle.dev_traits.specs.Told.{WhereTold};
 ghost use Rattle.frame_index.specs.Recording.{Shelved};
-ghost use Rattle.station_stream.specs.Part.{IsIndexed, chan_at};
+ghost use Rattle.station_stream.specs.{Part.{IsIndexed, chan_at}, Swept.{AreSwept}, Filled.{IsBlank, AreFilled, AllFilled}, Stream.{AreWhole}, Window.{AreValues}, Faults.{CountsReads}};
 ghost use Rattle.value_codes.specs.Codes.{value_of};
-ghost use Rattle.station_stream.specs.Swept.{AreSwept};
-ghost use Rattle.station_stream.specs.Filled.{IsBlank, AreFilled, AllFilled};
-ghost use Rattle.station_stream.specs.Stream.{AreWhole};
-ghost use Rattle.station_stream.specs.Window.{AreValues};
-ghost use Rattle.station_stream.specs.Faults.{CountsReads};
 
 use crate::room::take_room;
 use crate::swept::{fill_swept, leave_swept, read_swept};

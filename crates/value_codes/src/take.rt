@@ -1,8 +1,7 @@
 //! The levels of a channel out of a data array.
 ghost use Rattle.std.specs.Prelude.{◌≡◌, ◌+◌, ◌*◌, ◌/◌, ◌%◌, ◌^◌, ◌<◌, ◌≤◌, ℕ, Some, length, slice_index};
 ghost use Rattle.sample_unpack.specs.Level.{IsWidth, bit_of, code_at, level_at};
-ghost use Rattle.value_codes.specs.Fields.{field_at};
-ghost use Rattle.value_codes.specs.Taken.{IsTaken, taken_of};
+ghost use Rattle.value_codes.specs.{Fields.{field_at}, Taken.{IsTaken, taken_of}};
 
 use std::simd::prelude::*;
 

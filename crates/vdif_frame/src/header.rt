@@ -1,8 +1,7 @@
 //! The header of a data frame.
 ghost use Rattle.std.specs.Prelude.{◌≡◌, ◌≤◌, ◌<◌, ◌+◌, ◌-◌, ◌*◌, ◌/◌, ◌%◌, ◌^◌, ◌↔◌, ◌++◌, ◌∷◌, [], ℕ, List, false, if◌then◌else◌, length, replicate, take, drop, IsSome, IfSome};
 ghost use Rattle.byteorder.specs.Endian.{little_bytes};
-ghost use Rattle.vdif_frame.specs.Header.{HeaderFields, AreInRange, HasHeader, fields_of, header_bytes, word, word_0, word_1, word_2, word_3};
-ghost use Rattle.vdif_frame.specs.Shape.{head_bytes};
+ghost use Rattle.vdif_frame.specs.{Header.{HeaderFields, AreInRange, HasHeader, fields_of, header_bytes, word, word_0, word_1, word_2, word_3}, Shape.{head_bytes}};
 
 use byteorder::{ByteOrder, LittleEndian};
 use std::marker::Model;

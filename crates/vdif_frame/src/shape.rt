@@ -1,7 +1,6 @@
 //! The shape of frames, and agreement with it.
 ghost use Rattle.std.specs.Prelude.{◌≡◌, ◌≤◌, ◌<◌, ◌-◌, ◌*◌, ℕ, IfErr, OnOk, Some, None};
-ghost use Rattle.vdif_frame.specs.Shape.{ShapeFields, IsShape, samples_per_frame, head_bytes, chans_of};
-ghost use Rattle.vdif_frame.specs.Agreement.{first_field, field_name};
+ghost use Rattle.vdif_frame.specs.{Shape.{ShapeFields, IsShape, samples_per_frame, head_bytes, chans_of}, Agreement.{first_field, field_name}};
 
 use crate::Header;
 use std::marker::Model;

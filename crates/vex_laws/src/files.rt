@@ -1,8 +1,6 @@
 //! What follows for every file of a schedule.
 ghost use Rattle.vex_reader.specs.declared.file.VexFile.{VexFile};
-ghost use Rattle.vex_laws.specs.Stands.{HasPlace};
-ghost use Rattle.vex_laws.specs.Causes.{HasCause};
-ghost use Rattle.vex_laws.specs.Counting.{IsOfWhatCounts, HaveOneSchedule};
+ghost use Rattle.vex_laws.specs.{Stands.{HasPlace}, Causes.{HasCause}, Counting.{IsOfWhatCounts, HaveOneSchedule}};
 
 /// A fault is at 0 where there is no `$SCHED`, and else where a scan, a def or a statement of one begins.
 pub fn placed_fault()

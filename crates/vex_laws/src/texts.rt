@@ -1,10 +1,7 @@
 //! What follows for every text of a schedule.
 ghost use Rattle.std.specs.Prelude.{ℕ, List};
-ghost use Rattle.vex_reader.specs.declared.shape.Shape.{Shape};
-ghost use Rattle.vex_reader.specs.Shapes.{Mark};
-ghost use Rattle.vex_laws.specs.Kinds.{TellsWords};
-ghost use Rattle.vex_laws.specs.Rows.{HasShapeOfRow, FitsOneRow};
-ghost use Rattle.vex_laws.specs.Places.{HasPlacedFault};
+ghost use Rattle.vex_reader.specs.{declared.shape.Shape.{Shape}, Shapes.{Mark}};
+ghost use Rattle.vex_laws.specs.{Kinds.{TellsWords}, Rows.{HasShapeOfRow, FitsOneRow}, Places.{HasPlacedFault}};
 
 /// A word's bytes begin with no quotation mark and those of a quoted text with one, by which a schedule tells them.
 pub fn tells_words()

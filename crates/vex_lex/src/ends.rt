@@ -1,9 +1,6 @@
 // Where the shapes of a text end. A place is an index of the text.
 ghost use Rattle.std.specs.Prelude.{◌↔◌, ◌≢◌, ℕ, ◌+◌, ◌-◌, ◌<◌, ◌≤◌, length, slice_index, IsTrue, IfSome, IfNone};
-ghost use Rattle.vex_lex.specs.Bytes.{IsWhite, IsAt, HasByte, HasBytes};
-ghost use Rattle.vex_lex.specs.First.{IsFirst};
-ghost use Rattle.vex_lex.specs.Shapes.{EndsComment, StopsWord, IsTag, ClosesLiteral, IsQuoted, OpensLiteral, IsLiteral};
-ghost use Rattle.vex_lex.specs.Grammar.{IsGap};
+ghost use Rattle.vex_lex.specs.{Bytes.{IsWhite, IsAt, HasByte, HasBytes}, First.{IsFirst}, Shapes.{EndsComment, StopsWord, IsTag, ClosesLiteral, IsQuoted, OpensLiteral, IsLiteral}, Grammar.{IsGap}};
 
 use crate::bytes::{ends_word, is_control, is_separator, is_white};
 

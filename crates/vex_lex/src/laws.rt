@@ -1,8 +1,6 @@
 //! What follows from the grammar for every text. The functions do nothing: a call brings its law.
 ghost use Rattle.std.specs.Prelude.{ℕ, List, All};
-ghost use Rattle.vex_lex.specs.declared.token.Token.{Token};
-ghost use Rattle.vex_lex.specs.Grammar.{Lexes};
-ghost use Rattle.vex_lex.specs.Laws.{HasOneReading, HasOneBreak, HasTokensOrBreak, DoesNotBoth, CoverText, BeginsAsItsKind};
+ghost use Rattle.vex_lex.specs.{declared.token.Token.{Token}, Grammar.{Lexes}, Laws.{HasOneReading, HasOneBreak, HasTokensOrBreak, DoesNotBoth, CoverText, BeginsAsItsKind}};
 
 /// A text has at most one list of tokens.
 pub fn one_reading()

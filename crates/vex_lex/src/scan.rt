@@ -1,8 +1,6 @@
 // The pass over a text.
 ghost use Rattle.std.specs.Prelude.{◌≡◌, ◌<◌, List, length, IfOk, IfErr, All};
-ghost use Rattle.vex_lex.specs.Bytes.{IsWhite, IsAt, HasByte};
-ghost use Rattle.vex_lex.specs.Shapes.{OpensNone, EndsWordAt, IsWord};
-ghost use Rattle.vex_lex.specs.Grammar.{IsToken, Lexes, BreaksFrom, Breaks, IsFaultOf, GivesTokens, GivesFault};
+ghost use Rattle.vex_lex.specs.{Bytes.{IsWhite, IsAt, HasByte}, Shapes.{OpensNone, EndsWordAt, IsWord}, Grammar.{IsToken, Lexes, BreaksFrom, Breaks, IsFaultOf, GivesTokens, GivesFault}};
 ghost use Rattle.vex_lex.specs.Laws.{CoverText, BeginsAsItsKind};
 
 use crate::bytes::is_control;

@@ -1,13 +1,8 @@
 // The pass over a text's statements.
 ghost use Rattle.std.specs.Prelude.{◌≡◌, ◌⊎◌, None, Some, ◌+◌, ◌≤◌, length, IfOk, IfErr, All};
 ghost use Rattle.vex_lex.specs.declared.token.Token.{Token};
-ghost use Rattle.vex_reader.specs.declared.fault.VexFault.{VexFault};
-ghost use Rattle.vex_reader.specs.declared.file.VexFile.{VexFile};
-ghost use Rattle.vex_reader.specs.Counts.{HasAtMostScans};
-ghost use Rattle.vex_reader.specs.Fault.{out_of_memory};
-ghost use Rattle.vex_reader.specs.Reading.{fault_of, after, place_of, shape_at, reading};
-ghost use Rattle.vex_reader.specs.Grammar.{Answers, IsFileOf, IsVexFaultOf, GivesFile, GivesVexFault};
-ghost use Rattle.vex_reader.specs.ReadingState.{state_of};
+ghost use Rattle.vex_reader.specs.{declared.fault.VexFault.{VexFault}, declared.file.VexFile.{VexFile}, Counts.{HasAtMostScans}, Fault.{out_of_memory}};
+ghost use Rattle.vex_reader.specs.{Reading.{fault_of, after, place_of, shape_at, reading}, Grammar.{Answers, IsFileOf, IsVexFaultOf, GivesFile, GivesVexFault}, ReadingState.{state_of}};
 
 use crate::fault::VexFault;
 use crate::file::VexFile;

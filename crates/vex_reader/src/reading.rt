@@ -1,10 +1,9 @@
 // What the statements of a text say, one after another.
 ghost use Rattle.std.specs.Prelude.{◌≡◌, ◌<◌, IfOk, MatchResult, Result};
 ghost use Rattle.vex_reader.specs.Fault.{out_of_memory};
-ghost use Rattle.named_list.specs.Named.{put};
 ghost use Rattle.vex_reader.specs.Reading.{State, Outside, InBlock, InItem, start, is_one_word, is_revision, items_of, double, outside_fault, block_fault, item_fault, fault_of, with_loose, with_item, with_statement, empty_block, changed, after, after_at, closed, ended};
-ghost use Rattle.vex_reader.specs.Grammar.{Answers};
-ghost use Rattle.vex_reader.specs.ReadingState.{state_of};
+ghost use Rattle.vex_reader.specs.{Grammar.{Answers}, ReadingState.{state_of}};
+ghost use Rattle.named_list.specs.Named.{put};
 
 use crate::fault::{VexFault, VexKind};
 use crate::file::{Block, Item, Statement, VexFile};

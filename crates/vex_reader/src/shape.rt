@@ -1,7 +1,6 @@
 // The shapes of statements.
 ghost use Rattle.std.specs.Prelude.{◌≡◌, ℕ, ◌∷◌, ◌+◌, ◌≤◌, List, length, map, IfOk, All};
-ghost use Rattle.vex_reader.specs.Shapes.{mark_of, is_block_name, is_keyword, unshaped, lone_shape, item_shape, is_assignment, is_ref, assignment_shape, ref_shape, word_shape};
-ghost use Rattle.vex_reader.specs.Reading.{shape_at};
+ghost use Rattle.vex_reader.specs.{Shapes.{mark_of, is_block_name, is_keyword, unshaped, lone_shape, item_shape, is_assignment, is_ref, assignment_shape, ref_shape, word_shape}, Reading.{shape_at}};
 
 use crate::file::Statement;
 use crate::values::{are_values, values_of};

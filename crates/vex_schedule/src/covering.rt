@@ -3,8 +3,7 @@
 ghost use Rattle.std.specs.Prelude.{◌≡◌, ◌≤◌, ◌<◌, ℕ, List, [], ◌∷◌, length, drop, filter, slice_get, codes, Some, IfOk, IfErr, IfSome, OnOk};
 ghost use Rattle.std.specs.List.{list_any};
 ghost use Rattle.read_steps.specs.Steps.{seen};
-ghost use Rattle.vex_schedule.specs.Statements.{is_just, is_setup, only};
-ghost use Rattle.vex_schedule.specs.Covering.{is_to_freq, covers_each, covers_by, noted, noted_if, found_in, IsOnlyAt, IsCovering, AreCoverings};
+ghost use Rattle.vex_schedule.specs.{Statements.{is_just, is_setup, only}, Covering.{is_to_freq, covers_each, covers_by, noted, noted_if, found_in, IsOnlyAt, IsCovering, AreCoverings}};
 
 use crate::fault::SchedFault;
 use crate::statements::{is_some_text, only_setup};

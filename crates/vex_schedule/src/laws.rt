@@ -1,10 +1,8 @@
 //! What follows for every file. The functions do nothing: a call brings its law.
 ghost use Rattle.std.specs.Prelude.{◌≡◌, ◌↔◌, List, Ok};
-ghost use Rattle.vex_reader.specs.declared.file.Statement.{Statement};
-ghost use Rattle.vex_reader.specs.declared.file.VexFile.{VexFile};
+ghost use Rattle.vex_reader.specs.{declared.file.Statement.{Statement}, declared.file.VexFile.{VexFile}};
 ghost use Rattle.scan_list.specs.declared.scan.Scan.{Scan};
-ghost use Rattle.vex_schedule.specs.Schedule.{schedule_of};
-ghost use Rattle.vex_schedule.specs.Laws.{AreScansOf, LaterValuesDoNotCount};
+ghost use Rattle.vex_schedule.specs.{Schedule.{schedule_of}, Laws.{AreScansOf, LaterValuesDoNotCount}};
 
 /// A file has these scans exactly where they go with those of its block `$SCHED`, one by one.
 pub fn scans_by_relation()

@@ -2,12 +2,8 @@
 ghost use Rattle.std.specs.Prelude.{◌≡◌, All, map, length, codes, IfOk, IfSome};
 ghost use Rattle.num_time.specs.Times.{IsSecond};
 ghost use Rattle.named_list.specs.Named.{named, names};
-ghost use Rattle.vex_schedule.specs.Answers.{Gives};
-ghost use Rattle.vex_schedule.specs.Covering.{IsCovering, AreCoverings};
-ghost use Rattle.vex_schedule.specs.Schedule.{start_of, pass_of, passes_of, scan_of, scans_of, schedule_of};
-ghost use Rattle.vex_schedule.specs.Setups.{AreSetups};
+ghost use Rattle.vex_schedule.specs.{Answers.{Gives}, Covering.{IsCovering, AreCoverings}, Schedule.{start_of, pass_of, passes_of, scan_of, scans_of, schedule_of}, Setups.{AreSetups}, Sound.{IsStay}};
 ghost use Rattle.scan_list.specs.Sound.{IsPass, IsScan, AreScans};
-ghost use Rattle.vex_schedule.specs.Sound.{IsStay};
 
 use crate::covering::{Covering, coverings_of};
 use crate::fault::{SchedFault, SchedKind};

@@ -1,13 +1,10 @@
 //! Modes and setups: which def of `$FREQ` a station has, its sample rate and its channels.
 ghost use Rattle.std.specs.Prelude.{◌≡◌, ◌≢◌, ◌<◌, List, None, All, AllPairs, map, option_copied, option_map, length, slice_get, IfOk, IfErr, IfSome, IfNone};
 ghost use Rattle.named_list.specs.Named.{named, names};
-ghost use Rattle.scan_list.specs.declared.scan.Chan.{Chan};
+ghost use Rattle.scan_list.specs.{declared.scan.Chan.{Chan}, Sound.{IsChan}};
 ghost use Rattle.read_steps.specs.Steps.{seen};
-ghost use Rattle.vex_schedule.specs.Answers.{out_of_memory, Gives};
-ghost use Rattle.vex_schedule.specs.Schedule.{defs_in, def_of, mode_of, setup_of, setup_rate, chan_of, chans_of, setup_in};
-ghost use Rattle.vex_schedule.specs.Covering.{IsCovering, AreCoverings};
+ghost use Rattle.vex_schedule.specs.{Answers.{out_of_memory, Gives}, Schedule.{defs_in, def_of, mode_of, setup_of, setup_rate, chan_of, chans_of, setup_in}, Covering.{IsCovering, AreCoverings}};
 ghost use Rattle.vex_schedule.specs.Setups.{part_of, AreSetups};
-ghost use Rattle.scan_list.specs.Sound.{IsChan};
 
 use crate::covering::Covering;
 use crate::fault::{SchedFault, SchedKind};

@@ -1,10 +1,7 @@
 //! The stations of a scan.
 ghost use Rattle.std.specs.Prelude.{◌≡◌, ◌≢◌, List, None, All, AllPairs, map, IfOk};
 ghost use Rattle.named_list.specs.Named.{named, names};
-ghost use Rattle.vex_schedule.specs.declared.stay.Stay.{Stay};
-ghost use Rattle.vex_schedule.specs.Answers.{Gives};
-ghost use Rattle.vex_schedule.specs.Schedule.{is_in_order, stay_of, stays_of};
-ghost use Rattle.vex_schedule.specs.Sound.{IsStay};
+ghost use Rattle.vex_schedule.specs.{declared.stay.Stay.{Stay}, Answers.{Gives}, Schedule.{is_in_order, stay_of, stays_of}, Sound.{IsStay}};
 
 use crate::fault::{SchedFault, SchedKind};
 use crate::statements::first_with;

@@ -1,9 +1,7 @@
 //! The text that shows a record file: the lines of its head, then a line for each cell.
 ghost use Rattle.std.specs.Prelude.{map};
-ghost use Rattle.sink_text.specs.Appends.{Appends};
-ghost use Rattle.sink_text.specs.Written.{Puts};
-ghost use Rattle.vis_records.specs.Dumped.{baseline_line, dump_text, head_lines, numbered, product_line, scan_lines, sizes_line, station_line};
-ghost use Rattle.vis_records.specs.Heads.{baseline_of, product_of, scan_of};
+ghost use Rattle.sink_text.specs.{Appends.{Appends}, Written.{Puts}};
+ghost use Rattle.vis_records.specs.{Dumped.{baseline_line, dump_text, head_lines, numbered, product_line, scan_lines, sizes_line, station_line}, Heads.{baseline_of, product_of, scan_of}};
 
 use crate::head::{VisBaseline, VisHead, VisProduct, VisScan};
 use crate::record_lines::put_records;

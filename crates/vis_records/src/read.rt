@@ -1,9 +1,6 @@
 //! A record file, read from the front.
 ghost use Rattle.std.specs.Prelude.{◌≡◌, ◌≢◌, ◌-◌, [], length, Some, IfOk, IfErr};
-ghost use Rattle.vis_records.specs.declared.fault.VisKind.TheVariants.{Memory};
-ghost use Rattle.vis_records.specs.Content.{Content, IsRecordFile};
-ghost use Rattle.vis_records.specs.Parts.{Took, StopsBy};
-ghost use Rattle.vis_records.specs.Reading.{record_file, fault_of};
+ghost use Rattle.vis_records.specs.{declared.fault.VisKind.TheVariants.{Memory}, Content.{Content, IsRecordFile}, Parts.{Took, StopsBy}, Reading.{record_file, fault_of}};
 
 use crate::fault::{Stop, VisFault, VisKind};
 use crate::read_head::read_head;

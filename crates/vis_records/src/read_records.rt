@@ -2,9 +2,7 @@
 ghost use Rattle.std.specs.Prelude.{◌≡◌, ◌≤◌, ◌<◌, ◌^◌, length, OnOk, IfOk, IfErr};
 ghost use Rattle.std.specs.List.{range_with_len};
 ghost use Rattle.corr_model.specs.Records.{IsHead, baseline_places, product_places, scan_places, places_of};
-ghost use Rattle.vis_records.specs.Heads.{scan_of};
-ghost use Rattle.vis_records.specs.Parts.{Took, StopsBy, in_turn, one_more};
-ghost use Rattle.vis_records.specs.Reading.{place, cell, record_due, end_due};
+ghost use Rattle.vis_records.specs.{Heads.{scan_of}, Parts.{Took, StopsBy, in_turn, one_more}, Reading.{place, cell, record_due, end_due}};
 
 use crate::fault::{Stop, VisKind};
 use crate::head::{VisHead, VisScan};

@@ -2,9 +2,7 @@
 ghost use Rattle.std.specs.Prelude.{◌≡◌, ◌≤◌, ◌<◌, ◌^◌, ◌∷◌, [], length, take, drop, pos, ◌-ℤ◌};
 ghost use Rattle.corr_model.specs.Records.{IsHead, baseline_places, product_places, scan_places, places_of};
 ghost use Rattle.sink_text.specs.Written.{Puts};
-ghost use Rattle.vis_records.specs.Dumped.{cell_line, record_lines, records_lines};
-ghost use Rattle.vis_records.specs.Dumping.{PutsRecords};
-ghost use Rattle.vis_records.specs.Heads.{scan_of};
+ghost use Rattle.vis_records.specs.{Dumped.{cell_line, record_lines, records_lines}, Dumping.{PutsRecords}, Heads.{scan_of}};
 
 use crate::head::{VisHead, VisScan};
 use corr_model::{Cell, RecordAt};

@@ -1,8 +1,7 @@
 //! What is left of a text that is read from the front.
 ghost use Rattle.std.specs.Prelude.{◌≡◌, ◌≤◌, length, IfOk, IfErr};
 ghost use Rattle.std.specs.Int.{w64, cast_signed};
-ghost use Rattle.vis_records.specs.Parts.{piece, number_of, field, Took, StopsBy};
-ghost use Rattle.vis_records.specs.Reading.{word, signed_word};
+ghost use Rattle.vis_records.specs.{Parts.{piece, number_of, field, Took, StopsBy}, Reading.{word, signed_word}};
 
 use crate::fault::{Stop, VisKind};
 use byteorder::{ByteOrder, LittleEndian};

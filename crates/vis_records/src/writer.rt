@@ -3,8 +3,7 @@ ghost use Rattle.std.specs.Prelude.{◌≡◌, ◌≤◌, length, flat_map};
 ghost use Rattle.std.specs.List.{All};
 ghost use Rattle.corr_model.specs.Records.{head_text, record_text, end_text, name_text, product_text, scan_text, baseline_text, cell_text, IsName};
 ghost use Rattle.corr_model.proofs.RecordLemmas.{record_front};
-ghost use Rattle.sink_text.specs.Appends.{Appends};
-ghost use Rattle.sink_text.specs.Written.{Puts, Ends};
+ghost use Rattle.sink_text.specs.{Appends.{Appends}, Written.{Puts, Ends}};
 ghost use Rattle.vis_records.specs.Heads.{product_of, scan_of, baseline_of, sizes_text, AreNames, IsShort};
 
 use crate::head::{VisBaseline, VisHead, VisProduct, VisScan};

@@ -1,12 +1,8 @@
 //! What follows for every plan. The functions do nothing: a call brings its law.
 ghost use Rattle.std.specs.Prelude.{◌≡◌, ◌^◌, ◌<◌, length};
-ghost use Rattle.corr_model.specs.Files.{Files};
-ghost use Rattle.corr_model.specs.Records.{IsHead, vis_text};
-ghost use Rattle.job_plan.specs.declared.plan.Plan.{Plan};
-ghost use Rattle.job_plan.specs.Output.{head_of, output};
-ghost use Rattle.job_plan.specs.Ranges.{IsPlan};
-ghost use Rattle.vis_writer.specs.Cells.{all_cells};
-ghost use Rattle.vis_writer.specs.PlanCells.{cells_from};
+ghost use Rattle.corr_model.specs.{Files.{Files}, Records.{IsHead, vis_text}};
+ghost use Rattle.job_plan.specs.{declared.plan.Plan.{Plan}, Output.{head_of, output}, Ranges.{IsPlan}};
+ghost use Rattle.vis_writer.specs.{Cells.{all_cells}, PlanCells.{cells_from}};
 
 /// The record file of a plan's head with the plan's cells is what the plan comes to.
 pub fn file_of_plan()

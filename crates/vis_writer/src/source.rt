@@ -2,8 +2,7 @@
 ghost use Rattle.std.specs.Prelude.{◌≡◌, ◌<◌, Option, length, OnOk, IfErr};
 ghost use Rattle.dev_traits.specs.Told.{WhereTold};
 ghost use Rattle.corr_model.specs.Records.{Head};
-ghost use Rattle.vis_writer.specs.Cells.{CellsOf, IsFull, integrations_at, cells_at};
-ghost use Rattle.vis_writer.specs.Writes.{Composes};
+ghost use Rattle.vis_writer.specs.{Cells.{CellsOf, IsFull, integrations_at, cells_at}, Writes.{Composes}};
 
 use corr_model::Cell;
 

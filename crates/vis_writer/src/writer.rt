@@ -3,8 +3,7 @@ ghost use Rattle.std.specs.Prelude.{◌≡◌, ◌<◌, ◌≤◌, length, slice
 ghost use Rattle.corr_model.specs.Records.{IsHead, vis_text};
 ghost use Rattle.vis_records.specs.Heads.{scan_of};
 ghost use Rattle.sink_text.specs.Appends.{Appends};
-ghost use Rattle.vis_writer.specs.Cells.{all_cells, integrations_of, cells_of, cells_at, widest};
-ghost use Rattle.vis_writer.specs.Writes.{Writes, of_sink};
+ghost use Rattle.vis_writer.specs.{Cells.{all_cells, integrations_of, cells_of, cells_at, widest}, Writes.{Writes, of_sink}};
 ghost use Rattle.vis_writer.specs.Texts.{integration_text, integration_at, scan_text_by, scans_text, text_at};
 
 use crate::records::{record_count, write_products};

@@ -2,13 +2,11 @@
 ghost use Rattle.std.specs.Prelude.{◌≡◌, IfErr, IfSome, unwrap_or, option_copied};
 ghost use Rattle.std.specs.Str.{IsUtf8};
 ghost use Rattle.dev_traits.specs.Told.{WhereTold};
-ghost use Rattle.run_notes.specs.Commands.{Tells, IsOfFilesOrOutput};
-ghost use Rattle.run_notes.specs.Counted.{CountsReads, CountsWrites};
+ghost use Rattle.run_notes.specs.{Commands.{Tells, IsOfFilesOrOutput}, Counted.{CountsReads, CountsWrites}};
 ghost use Rattle.run_ready.specs.Outcome.{PlanOf};
 ghost use Rattle.run_words.specs.Orders.{IsCut};
 ghost use Rattle.run_summary.specs.Summaries.{check_text};
-ghost use Rattle.vlbi_core.specs.Faults.{written_with};
-ghost use Rattle.vlbi_core.specs.Steps.{MatchDue};
+ghost use Rattle.vlbi_core.specs.{Faults.{written_with}, Steps.{MatchDue}};
 
 use dev_traits::{Failed, Shelf, Sink};
 use num_time::Name;

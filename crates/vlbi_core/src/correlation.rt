@@ -4,8 +4,7 @@ ghost use Rattle.std.specs.Str.{IsUtf8};
 ghost use Rattle.dev_traits.specs.Told.{WhereTold};
 ghost use Rattle.run_notes.specs.Counted.{CountsReadsBeside, CountsWrites};
 ghost use Rattle.run_ready.specs.Outcome.{PlanOf};
-ghost use Rattle.run_words.specs.declared.order.Order.TheVariants.{Run};
-ghost use Rattle.run_words.specs.Orders.{IsCut, IsWork};
+ghost use Rattle.run_words.specs.{declared.order.Order.TheVariants.{Run}, Orders.{IsCut, IsWork}};
 ghost use Rattle.vlbi_core.specs.Steps.{OutcomeFrom, IsBehindWords, IsPlanned, IsFullFor, CountsJournalOr, GoesRanged, Does, Leaves};
 
 use crate::engine::{emit, resume};

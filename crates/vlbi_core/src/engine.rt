@@ -2,21 +2,15 @@
 //! the job's end, and its records are written.
 ghost use Rattle.std.specs.Prelude.{◌≡◌, ◌<◌, ◌≤◌, ◌^◌, ℕ, List, length, None, Ok, IfOk, IfErr, IfSome, IsSome, unwrap_or};
 ghost use Rattle.dev_traits.specs.Told.{WhereTold};
-ghost use Rattle.piece_plan.specs.Epochs.{IsEpoch};
-ghost use Rattle.piece_plan.specs.Limited.{IsPart};
+ghost use Rattle.piece_plan.specs.{Epochs.{IsEpoch}, Limited.{IsPart}};
 ghost use Rattle.station_stream.specs.Recorded.{AreRecorded};
 ghost use Rattle.epoch_run.specs.Sums.{pieces_in_epoch};
-ghost use Rattle.checkpoint_journal.specs.Standing.{Stands, StandsOn};
-ghost use Rattle.checkpoint_journal.specs.Runs.{Changes, Looks, Spares};
+ghost use Rattle.checkpoint_journal.specs.{Standing.{Stands, StandsOn}, Runs.{Changes, Looks, Spares}};
 ghost use Rattle.run_words.specs.Orders.{IsOrder};
-ghost use Rattle.run_notes.specs.Refusals.{IsCause};
-ghost use Rattle.run_notes.specs.Counted.{CountsReads, CountsReadsBeside, CountsJournal, CountsWrites};
-ghost use Rattle.run_ready.specs.Outcome.{PlanOf};
-ghost use Rattle.run_ready.specs.Identities.{identity_under};
-ghost use Rattle.run_ready.specs.Stage.{IsOfFiles};
+ghost use Rattle.run_notes.specs.{Refusals.{IsCause}, Counted.{CountsReads, CountsReadsBeside, CountsJournal, CountsWrites}};
+ghost use Rattle.run_ready.specs.{Outcome.{PlanOf}, Identities.{identity_under}, Stage.{IsOfFiles}};
 ghost use Rattle.run_sums.specs.Sums.{AreSums};
-ghost use Rattle.journal_rounds.specs.Extended.{IsSummed, Extends};
-ghost use Rattle.journal_rounds.specs.Room.{HasNoPlace};
+ghost use Rattle.journal_rounds.specs.{Extended.{IsSummed, Extends}, Room.{HasNoPlace}};
 ghost use Rattle.journal_records.specs.Kept.{Grows, WritesKept};
 ghost use Rattle.vlbi_core.specs.Engine.{job_names, epoch_asked, sums_refusal, sums_answer, IsOfSums, opening_refusal, resume_refusal, resume_answer, emit_refusal, emit_answer, IsRefusedFor, KeepsNamed, IsOfRecords};
 ghost use Rattle.vlbi_core.specs.Steps.{CountsJournalOr};

@@ -3,8 +3,7 @@
 ghost use Rattle.std.specs.Prelude.{◌≡◌, ℕ, List, Result};
 ghost use Rattle.corr_model.specs.Files.{Files};
 ghost use Rattle.run_notes.specs.Answers.{Answer};
-ghost use Rattle.vlbi_core.specs.Calls.{Task, OutcomeOf};
-ghost use Rattle.vlbi_core.specs.Histories.{HoldsOver, AlikeByJob};
+ghost use Rattle.vlbi_core.specs.{Calls.{Task, OutcomeOf}, Histories.{HoldsOver, AlikeByJob}};
 
 use dev_traits::Disk;
 use journal_image::laws::reads;

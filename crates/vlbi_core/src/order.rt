@@ -2,10 +2,7 @@
 ghost use Rattle.std.specs.Prelude.{◌≡◌, Ok, IfOk, IfErr, IfSome, IsSome, option_copied};
 ghost use Rattle.std.specs.Str.{IsUtf8};
 ghost use Rattle.run_words.specs.Orders.{IsCut, IsOrder};
-ghost use Rattle.vlbi_core.specs.Calls.{texts_of, order_in};
-ghost use Rattle.vlbi_core.specs.Engine.{job_names, epoch_asked};
-ghost use Rattle.vlbi_core.specs.Faults.{words_refusal};
-ghost use Rattle.vlbi_core.specs.Steps.{IsOfWords};
+ghost use Rattle.vlbi_core.specs.{Calls.{texts_of, order_in}, Engine.{job_names, epoch_asked}, Faults.{words_refusal}, Steps.{IsOfWords}};
 
 use num_time::Name;
 use run_notes::Refusal;

@@ -1,23 +1,16 @@
 //! The record file of a plan, on one thread: each integration is summed epoch by epoch, and its records are written before the
 //! next one is read.
 ghost use Rattle.std.specs.Prelude.{◌≡◌, ◌≤◌, ◌<◌, Some, flat_map, length, slice_get, IfErr, IfSome, option_copied, None};
-ghost use Rattle.std.specs.List.{range_with_len};
-ghost use Rattle.std.specs.Str.{IsUtf8};
+ghost use Rattle.std.specs.{List.{range_with_len}, Str.{IsUtf8}};
 ghost use Rattle.dev_traits.specs.Told.{WhereTold};
 ghost use Rattle.corr_model.specs.Records.{vis_text};
-ghost use Rattle.job_plan.specs.Output.{head_of, integrations_of, output};
-ghost use Rattle.job_plan.specs.Ranges.{IsPlan, IsScanPlan};
+ghost use Rattle.job_plan.specs.{Output.{head_of, integrations_of, output}, Ranges.{IsPlan, IsScanPlan}};
 ghost use Rattle.job_epochs.specs.Added.{width_of};
 ghost use Rattle.run_ready.specs.Outcome.{PlanOf};
-ghost use Rattle.run_notes.specs.Commands.{Tells, IsOfFilesOrOutput, IsOfOutput};
-ghost use Rattle.run_notes.specs.Counted.{CountsReads, CountsWrites};
+ghost use Rattle.run_notes.specs.{Commands.{Tells, IsOfFilesOrOutput, IsOfOutput}, Counted.{CountsReads, CountsWrites}};
 ghost use Rattle.station_stream.specs.Recorded.{AreNamed, AreRecorded};
-ghost use Rattle.vis_writer.specs.Cells.{all_cells, widest};
-ghost use Rattle.vis_writer.specs.Texts.{integration_at, text_at, scans_text};
-ghost use Rattle.vis_writer.specs.Writes.{Writes, Appended};
-ghost use Rattle.vlbi_core.specs.Shelf.{ShelfState, state, head_at, cells_at, stays, fails};
-ghost use Rattle.vlbi_core.specs.Faults.{refusal_of, answer_with};
-ghost use Rattle.vlbi_core.specs.Steps.{MatchDue};
+ghost use Rattle.vis_writer.specs.{Cells.{all_cells, widest}, Texts.{integration_at, text_at, scans_text}, Writes.{Writes, Appended}};
+ghost use Rattle.vlbi_core.specs.{Shelf.{ShelfState, state, head_at, cells_at, stays, fails}, Faults.{refusal_of, answer_with}, Steps.{MatchDue}};
 
 use corr_model::Cell;
 use dev_traits::{Shelf, Sink};

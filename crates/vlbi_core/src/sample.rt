@@ -4,13 +4,10 @@ ghost use Rattle.std.specs.Str.{IsUtf8};
 ghost use Rattle.mem_devices.specs.MemShelfState.{files_of};
 ghost use Rattle.sample_gen.specs.Frames.{recording_of};
 ghost use Rattle.run_words.specs.Orders.{IsWork, IsSample};
-ghost use Rattle.run_notes.specs.Commands.{Tells};
-ghost use Rattle.run_notes.specs.Counted.{CountsWrites};
+ghost use Rattle.run_notes.specs.{Commands.{Tells}, Counted.{CountsWrites}};
 ghost use Rattle.vis_records.specs.Content.{Content, IsRecordFile};
 ghost use Rattle.sample_job.specs.Sample.{SampleOf, sample_files};
-ghost use Rattle.vlbi_core.specs.Sample.{IsSampled, sample_text};
-ghost use Rattle.vlbi_core.specs.Faults.{written_with};
-ghost use Rattle.vlbi_core.specs.Steps.{IsOfMemory, IsOfSample};
+ghost use Rattle.vlbi_core.specs.{Sample.{IsSampled, sample_text}, Faults.{written_with}, Steps.{IsOfMemory, IsOfSample}};
 
 use crate::correlation::correlate_job;
 use crate::sure_shelf::SureShelf;

@@ -3,8 +3,7 @@ ghost use Rattle.std.specs.Prelude.{◌≡◌, ◌<◌, IfErr, IfSome, Ok, optio
 ghost use Rattle.std.specs.Str.{IsUtf8};
 ghost use Rattle.dev_traits.specs.Told.{WhereTold};
 ghost use Rattle.run_notes.specs.Counted.{CountsReadsBeside, CountsWrites};
-ghost use Rattle.run_words.specs.declared.order.Order.TheVariants.{Shard};
-ghost use Rattle.run_words.specs.Orders.{IsCut, IsWork};
+ghost use Rattle.run_words.specs.{declared.order.Order.TheVariants.{Shard}, Orders.{IsCut, IsWork}};
 ghost use Rattle.vlbi_core.specs.Steps.{OutcomeFrom, IsBehindWords, IsFullFor, CountsJournalOr, GoesRanged, Does, Leaves};
 
 use crate::check::written;

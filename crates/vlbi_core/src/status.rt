@@ -3,10 +3,8 @@ ghost use Rattle.std.specs.Prelude.{◌≡◌, ◌<◌, ◌^◌, IfOk, IfErr, If
 ghost use Rattle.std.specs.Str.{IsUtf8};
 ghost use Rattle.dev_traits.specs.Told.{WhereTold};
 ghost use Rattle.plan_places.specs.Places.{place_at, IsPlace};
-ghost use Rattle.checkpoint_journal.specs.Kept.{Sees};
-ghost use Rattle.checkpoint_journal.specs.Runs.{Looks};
-ghost use Rattle.run_words.specs.declared.order.Order.TheVariants.{Status};
-ghost use Rattle.run_words.specs.Orders.{IsCut};
+ghost use Rattle.checkpoint_journal.specs.{Kept.{Sees}, Runs.{Looks}};
+ghost use Rattle.run_words.specs.{declared.order.Order.TheVariants.{Status}, Orders.{IsCut}};
 ghost use Rattle.run_notes.specs.Counted.{CountsReads, CountsJournal, CountsWrites};
 ghost use Rattle.vlbi_core.specs.Steps.{IsLookedFor, IsBehindWords, IsUnnumbered, Does, Leaves};
 

@@ -1,13 +1,10 @@
 //! The top call.
 ghost use Rattle.std.specs.Prelude.{◌≡◌, ◌≢◌, ◌⊎◌, ◌≤◌, Ok, IsErr, IfErr, false};
-ghost use Rattle.dev_traits.specs.Fault.{HasRisen};
-ghost use Rattle.dev_traits.specs.Told.{WhereTold};
+ghost use Rattle.dev_traits.specs.{Fault.{HasRisen}, Told.{WhereTold}};
 ghost use Rattle.checkpoint_journal.specs.Runs.{Looks};
 ghost use Rattle.run_words.specs.Orders.{IsOrder};
-ghost use Rattle.run_notes.specs.Refusals.{WhereMemory};
-ghost use Rattle.run_notes.specs.Counted.{CountsReads, CountsReadsBeside, CountsJournal, CountsWrites};
-ghost use Rattle.vlbi_core.specs.Calls.{texts_of, order_in, is_writer, OutcomeOf};
-ghost use Rattle.vlbi_core.specs.Run.{IsVerdictStatus, IsDueStatus, IsStatus, IsVerdict, IsAppended, IsNoteOf};
+ghost use Rattle.run_notes.specs.{Refusals.{WhereMemory}, Counted.{CountsReads, CountsReadsBeside, CountsJournal, CountsWrites}};
+ghost use Rattle.vlbi_core.specs.{Calls.{texts_of, order_in, is_writer, OutcomeOf}, Run.{IsVerdictStatus, IsDueStatus, IsStatus, IsVerdict, IsAppended, IsNoteOf}};
 ghost use Rattle.vlbi_core.specs.Restart.{Restarts, AppendsOutput, IsWriterOf, IsNoWriter, IsGenOf, IsMergeOf};
 ghost use Rattle.vlbi_core.specs.Steps.{OutcomeFrom, IsWorded, IsBehindWords, IsShort, IsUnnumbered, IsFullFor, CountsJournalOr, IsOfSample, Goes, GoesRanged, Does, Leaves};
 

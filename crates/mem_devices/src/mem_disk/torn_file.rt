@@ -1,10 +1,7 @@
 // A file in memory with a record of what was done to it, and so with all its images.
 ghost use Rattle.std.specs.Prelude.{◌≡◌, ℕ, ◌+◌, ◌<◌, ◌≤◌, ◌^◌, ◌||◌, [], length, take, IfOk, OnOk, OnErr, Some, if◌then◌else◌, nat_le, slice_index};
-ghost use Rattle.dev_traits.specs.Files.{ReadsAt};
-ghost use Rattle.dev_traits.specs.Images.{put_at, Same, Torn, Shorn};
-ghost use Rattle.dev_traits.specs.Moments.{Goes};
-ghost use Rattle.mem_devices.specs.MemDiskState.{start, after_write, after_cut, after_sync, is_torn, filled, filled_by};
-ghost use Rattle.mem_devices.specs.MemDiskRecord.{replay, torn_next, call_end};
+ghost use Rattle.dev_traits.specs.{Files.{ReadsAt}, Images.{put_at, Same, Torn, Shorn}, Moments.{Goes}};
+ghost use Rattle.mem_devices.specs.{MemDiskState.{start, after_write, after_cut, after_sync, is_torn, filled, filled_by}, MemDiskRecord.{replay, torn_next, call_end}};
 
 use std::alloc::{AllocError, Global};
 

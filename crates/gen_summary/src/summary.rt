@@ -8,7 +8,7 @@ use crate::totals::totals_of;
 use dev_traits::Sink;
 use itoa::Buffer;
 use sink_text::Stretch;
-use vis_records::{SinkFault, Vis};
+use vis_records::{SinkFault, Vis, end};
 
 /// Appends five lines on a record file of so many bytes: the number of its records, its length in bytes, and the sums of
 /// all cells' pairs, real parts and imaginary parts. Where the sink fails, what was appended before stays.
@@ -27,10 +27,7 @@ pub fn write_totals<S: Sink>(vis: &Vis, bytes: u64, out: &mut S) -> Result<(), S
     put_line("pairs", Buffer::new().format(totals.pairs), &mut lines, out);
     put_line("re", Buffer::new().format(totals.re), &mut lines, out);
     put_line("im", Buffer::new().format(totals.im), &mut lines, out);
-    match lines.finish(out) {
-        Ok(()) => Ok(()),
-        Err(_) => Err(SinkFault::Sink),
-    }
+    end(lines, out)
 }
 
 // Puts a line of a word and a number.

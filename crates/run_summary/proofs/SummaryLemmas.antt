@@ -3,6 +3,7 @@ use Rattle.std.proofs.Common.{◌≡◌, ℕ, ◌+◌, ◌<◌, ◌≤◌, List,
 use Rattle.std.specs.List.{flat_map, slice_get}
 use Rattle.std.specs.Prelude.{codes, decimal}
 use Rattle.std.proofs.lemmas.List.{take_all}
+use Rattle.std.proofs.lemmas.Simd.{map-map}
 use Rattle.std.proofs.lemmas.Option.{slice_get-get_or}
 use Rattle.corr_model.specs.Files.{Files, bytes_under}
 use Rattle.corr_model.specs.Slots.{station_slots}
@@ -27,18 +28,16 @@ use Rattle.run_summary.specs.Summaries.{counts_line, station_line, check_text}
 
 -- the bytes of a file, read or looked up
 bytes_of-bytes_under : (files : Files) (name : List ℕ) → bytes_of (files name) ≡ bytes_under files name
-bytes_of-bytes_under files name = under (files name) refl
+bytes_of-bytes_under files name = by (files name)
   where
-    under : (file : Option (List ℕ)) → files name ≡ file → bytes_of (files name) ≡ bytes_under files name
-    under None is = rw is refl
-    under (Some bytes) is = rw is refl
+    by : (o : Option (List ℕ)) → bytes_of o ≡ bytes_under (λ _. o) []
+    by None = refl
+    by (Some bytes) = refl
 
 -- the bytes of a recording's files are those under their names
 bytes_on-names : (files : Files) (refs : List FileRef) → bytes_on files refs ≡ map (bytes_under files) (map (λ (f : FileRef). f.name) refs)
-bytes_on-names files [] = refl
-bytes_on-names files (f ∷ refs) =
-    ap (λ (rest : List (List ℕ)). bytes_of (files f.name) ∷ rest) (bytes_on-names files refs)
-    ∙ ap (λ (bytes : List ℕ). bytes ∷ map (bytes_under files) (map (λ (g : FileRef). g.name) refs)) (bytes_of-bytes_under files f.name)
+bytes_on-names files refs =
+    (λ i. map (λ (f : FileRef). bytes_of-bytes_under files f.name i) refs) ∙ sym (map-map (bytes_under files) (λ (f : FileRef). f.name) refs)
 
 -- the line of a station's recording
 counts_line-recorded : (files : Files) (s : StationPlan) (r : Recording) → IsNamedBy s r → IsRecordingOf files s r
@@ -48,19 +47,6 @@ counts_line-recorded files s r named recorded =
     (recorded.index.counts
     ∙ ap (λ (bytes : List (List ℕ)). counts_of s.shape (station_slots s.shape.frame_bytes bytes))
     (bytes_on-names files r.files ∙ ap (map (bytes_under files)) named.names))
-
--- the same text by another name
-pub Puts-as : {a text : List ℕ} {s₀ s₁ : StretchState} {t₀ t₁ : Option (List ℕ)} {f₀ f₁ : ℕ} → text ≡ a
-    → Puts a s₀ s₁ t₀ t₁ f₀ f₁
-    → Puts text s₀ s₁ t₀ t₁ f₀ f₁
-Puts-as {s₀ = s₀} {s₁ = s₁} {t₀ = t₀} {t₁ = t₁} {f₀ = f₀} {f₁ = f₁} is puts =
-    subst (λ (t : List ℕ). Puts t s₀ s₁ t₀ t₁ f₀ f₁) (sym is) puts
-
--- a word, a key and five words with their numbers, one after another
-pub append-line : (word key a k b l c m d n e o end : List ℕ)
-    → word ++ key ++ (a ++ k) ++ (b ++ l) ++ (c ++ m) ++ (d ++ n) ++ (e ++ o) ++ end
-    ≡ word ++ (key ++ (a ++ (k ++ (b ++ (l ++ (c ++ (m ++ (d ++ (n ++ (e ++ (o ++ end)))))))))))
-append-line word key a k b l c m d n e o end = simp append_assoc
 
 -- no line
 pub PutsLines-none : (stations : List StationPlan) (recordings : List Recording) (s : StretchState) (t : Option (List ℕ)) (f : ℕ)
@@ -114,6 +100,10 @@ pub left-whole : (job : JobSizes) (epoch : ℕ) (due : Option Place) (count : �
     → count ≡ length (epochs_by job epoch)
 left-whole job epoch due count alone whole first left =
     left.many ∙ ap length (alone left.epochs (epochs_by job epoch) (subst (λ (d : Option Place). IsWalk job epoch d left.epochs) first left.walk) whole)
+
+-- two lines and what stands behind them
+pub append-head : (a m b n text : List ℕ) → a ++ m ++ 10 ∷ [] ++ b ++ n ++ 10 ∷ [] ++ text ≡ (a ++ m ++ 10 ∷ []) ++ (b ++ n ++ 10 ∷ []) ++ text
+append-head a m b n text = simp append_assoc
 
 -- the head and the stations' lines
 pub check_text-lines : (plan : Plan) (epoch : ℕ) (files : Files) (scans epochs : ℕ) (text : List ℕ)

@@ -1,9 +1,9 @@
 //! Summaries.
-ghost use Rattle.std.specs.Prelude.{◌≡◌, ◌++◌, ◌∷◌, [], ℕ, List, length, flat_map, codes, decimal};
+ghost use Rattle.std.specs.Prelude.{◌≡◌, ◌++◌, ◌∷◌, [], ℕ, List, length, flat_map, decimal};
 ghost use Rattle.corr_model.specs.Files.{Files};
 ghost use Rattle.sink_text.specs.{Appends.{Appends}, Written.{Puts}};
 ghost use Rattle.station_stream.specs.Recorded.{AreRecorded, AreNamed};
-ghost use Rattle.run_summary.specs.{Lines.{PutsLines}, Summaries.{check_text, counts_line, kept_line, shard_line, station_line}};
+ghost use Rattle.run_summary.specs.{Lines.{PutsLines}, Summaries.{check_text, counts_line, numbered, kept_line, shard_line, station_line}};
 
 use dev_traits::{Failed, Sink};
 use frame_index::Counts;
@@ -24,29 +24,19 @@ pub fn write_check<S: Sink>(ready: &Ready, out: &mut S) -> Result<(), Failed>
     walks_are_alone();
     let plan = ready.plan.plan();
     let mut lines = Stretch::new();
-    put_head(
-        plan.scans.items().len() as u64,
-        left(&ready.epochs, start(&ready.epochs), ready.epoch),
-        &mut lines,
-        out,
-    );
+    put_number("scans ", plan.scans.items().len() as u64, &mut lines, out);
+    let epochs = left(&ready.epochs, start(&ready.epochs), ready.epoch);
+    put_number("epochs ", epochs, &mut lines, out);
     put_stations(plan.stations.items(), &ready.recordings, &mut lines, out);
     lines.finish(out)
 }
 
-// Puts the lines of the numbers of scans and epochs.
-pub(crate) fn put_head<S: Sink>(scans: u64, epochs: u64, lines: &mut Stretch, out: &mut S)
-    ensures { Puts (codes "scans " ++ decimal scans ++ 10 ∷ [] ++ codes "epochs " ++ decimal epochs ++ 10 ∷ [])
-        lines.old lines.new (S.told out.old) (S.told out.new) (S.faults out.old) (S.faults out.new) }
+// Puts the line of a number behind its word.
+fn put_number<S: Sink>(word: &str, number: u64, lines: &mut Stretch, out: &mut S)
+    ensures { Puts (word.now ++ decimal number ++ 10 ∷ []) lines.old lines.new (S.told out.old) (S.told out.new) (S.faults out.old) (S.faults out.new) }
 {
     lines.put_pieces(
-        &[
-            Piece::Text("scans "),
-            Piece::Number(scans),
-            Piece::Text("\nepochs "),
-            Piece::Number(epochs),
-            Piece::Text("\n"),
-        ],
+        &[Piece::Text(word), Piece::Number(number), Piece::Text("\n")],
         out,
     );
 }
@@ -73,24 +63,29 @@ fn put_stations<S: Sink>(
 }
 
 // Puts the line of a station.
-pub(crate) fn put_station<S: Sink>(key: &[u8], counts: &Counts, lines: &mut Stretch, out: &mut S)
+fn put_station<S: Sink>(key: &[u8], counts: &Counts, lines: &mut Stretch, out: &mut S)
     ensures { Puts (counts_line key.now counts.now) lines.old lines.new (S.told out.old) (S.told out.new) (S.faults out.old) (S.faults out.new) }
+{
+    lines.put(b"station ", out);
+    lines.put(key, out);
+    put_count("slots", counts.slots, lines, out);
+    put_count("doubled", counts.doubled, lines, out);
+    put_count("invalid", counts.invalid, lines, out);
+    put_count("foreign", counts.foreign, lines, out);
+    put_count("late", counts.late, lines, out);
+    lines.put(b"\n", out);
+}
+
+// Puts a word and a count, with a space before each.
+fn put_count<S: Sink>(word: &str, count: u64, lines: &mut Stretch, out: &mut S)
+    ensures { Puts (numbered word.now count) lines.old lines.new (S.told out.old) (S.told out.new) (S.faults out.old) (S.faults out.new) }
 {
     lines.put_pieces(
         &[
-            Piece::Text("station "),
-            Piece::Bytes(key),
-            Piece::Text(" slots "),
-            Piece::Number(counts.slots),
-            Piece::Text(" doubled "),
-            Piece::Number(counts.doubled),
-            Piece::Text(" invalid "),
-            Piece::Number(counts.invalid),
-            Piece::Text(" foreign "),
-            Piece::Number(counts.foreign),
-            Piece::Text(" late "),
-            Piece::Number(counts.late),
-            Piece::Text("\n"),
+            Piece::Text(" "),
+            Piece::Text(word),
+            Piece::Text(" "),
+            Piece::Number(count),
         ],
         out,
     );

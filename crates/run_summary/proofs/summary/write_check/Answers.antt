@@ -7,7 +7,7 @@ use Rattle.piece_plan.specs.Epochs.{JobSizes, IsJob}
 use Rattle.piece_plan.specs.Order.{job_start}
 use Rattle.plan_places.specs.Walk.{epochs_by}
 use Rattle.sink_text.proofs.WrittenText.{Puts-then, Appends-written}
-use Rattle.run_summary.proofs.SummaryLemmas.{left-whole, check_text-lines}
+use Rattle.run_summary.proofs.SummaryLemmas.{append-head, left-whole, check_text-lines}
 use Rattle.run_summary.proofs.summary.write_check.Goals as goal
 
 pub returns : goal.returns
@@ -18,13 +18,14 @@ returns g c =
     let lines = rw (stations, c.deref.ensures.value) at c.put_stations.ensures in
     let many : scans ≡ length ready.plan.scans = ap length (c.items.ensures ∙ ap (λ (p : Plan). p.scans) c.plan-plan.ensures.same) in
     let job : IsJob ready.epochs = subst IsJob (sym ready.cut) (sizes_of-IsJob ready.plan c.plan-plan.ensures.ranges ready.few) in
-    let all : c.left.result ≡ length (epochs_by (sizes_of ready.plan) ready.epoch) =
-    left-whole ready.epochs ready.epoch _ c.left.result
+    let all : c.left-epochs.result ≡ length (epochs_by (sizes_of ready.plan) ready.epoch) =
+    left-whole ready.epochs ready.epoch _ c.left-epochs.result
     (c.walks_are_alone.ensures ready.epochs ready.epoch (job_start ready.epochs))
     (c.epochs_by_length_are_walk.ensures ready.epochs ready.epoch job ready.some_epoch ready.short_epoch)
-    c.start.ensures.first c.left.ensures
+    c.start.ensures.first c.left-epochs.ensures
     ∙ ap (λ (e : JobSizes). length (epochs_by e ready.epoch)) ready.cut in (
-      codes "scans " ++ decimal scans ++ 10 ∷ [] ++ codes "epochs " ++ decimal c.left.result ++ 10 ∷ [] ++ lines.text,
-      Appends-written c.new-lines.ensures (Puts-then refl c.put_head.ensures lines.puts) c.finish.ensures,
-      λ files recorded. check_text-lines ready.plan ready.epoch files scans c.left.result lines.text many all (lines.same files recorded),
+      codes "scans " ++ decimal scans ++ 10 ∷ [] ++ codes "epochs " ++ decimal c.left-epochs.result ++ 10 ∷ [] ++ lines.text,
+      Appends-written c.new-lines.ensures (Puts-then (append-head (codes "scans ") (decimal scans) (codes "epochs ") (decimal c.left-epochs.result) lines.text)
+          (Puts-then refl c.put_number.ensures c.put_number-2.ensures) lines.puts) c.finish.ensures,
+      λ files recorded. check_text-lines ready.plan ready.epoch files scans c.left-epochs.result lines.text many all (lines.same files recorded),
     )

@@ -1,12 +1,12 @@
 -- Cells add up in any grouping, and so a cell over a range is the sum of the cells over its parts.
-use Rattle.std.specs.Prelude.{if◌then◌else◌}
-use Rattle.std.proofs.Common.{◌≡◌, ℕ, zero, suc, ◌+◌, ◌-◌, ◌*◌, ◌≤◌, ◌<◌, Bool, true, false, ℤ, pos, negsuc, ◌+ℤ◌, ◌*ℤ◌, ◌≤ℤ◌, neg_ℤ, FitsSigned, w8, to_z, of_z, refl, sym, ap, ◌∙◌, arith, add-zero, add-suc}
+use Rattle.std.specs.Prelude.{if◌then◌else◌, IfSome}
+use Rattle.std.proofs.Common.{◌≡◌, ℕ, zero, suc, ◌+◌, ◌-◌, ◌*◌, ◌≤◌, ◌<◌, Bool, true, false, ℤ, pos, negsuc, ◌+ℤ◌, ◌*ℤ◌, ◌≤ℤ◌, neg_ℤ, FitsSigned, w8, to_z, of_z, Some, None, refl, sym, ap, ◌∙◌, arith, add-zero, add-suc}
 use Rattle.std.proofs.lemmas.Int.{ints, to_z-of_z, unsigned_abs-mul}
 use Rattle.std.proofs.lemmas.Nat.{mul-le}
 use Rattle.std.specs.Int.RustNames.{unsigned_abs}
 use Rattle.corr_model.specs.declared.cell.Cell.{Cell}
 use Rattle.corr_model.specs.declared.cell.Pair.{Pair}
-use Rattle.corr_model.specs.Cell.{Samples, no_cell, cell_plus, is_inside, product_of, sum_from, product_at, cell_in, IsSmall, IsProduct}
+use Rattle.corr_model.specs.Cell.{Value, Samples, no_cell, cell_plus, is_inside, product_of, sum_from, product_at, cell_in, IsSmall, AreSmall, IsProduct}
 
 pub same_cell : (re re' im im' : ℤ) (n n' : ℕ) → re ≡ re' → im ≡ im' → n ≡ n'
     → ◌≡◌ {A = Cell} (record { re = re; im = im; count = n }) (record { re = re'; im = im'; count = n' })
@@ -143,6 +143,32 @@ product-small x y h k =
     let size : unsigned_abs (x *ℤ y) ≤ 225 = omega (arith, unsigned_abs-mul x y) in
     within_abs (x *ℤ y) 225 size
 
+pub no_cell-small : IsProduct no_cell
+no_cell-small = record {
+  re_low = omega (arith, ints);
+  re_high = omega (arith, ints);
+  im_low = omega (arith, ints);
+  im_high = omega (arith, ints);
+  count = omega arith;
+}
+
+-- the product of two small values
+pub product_of-small : (v w : Value) → IfSome v AreSmall → IfSome w AreSmall → IsProduct (product_of v w)
+product_of-small (Some a) (Some b) small_a small_b =
+    let rr = product-small a.0 b.0 small_a.0 small_b.0 in
+    let ii = product-small a.1 b.1 small_a.1 small_b.1 in
+    let ir = product-small a.1 b.0 small_a.1 small_b.0 in
+    let ri = product-small a.0 b.1 small_a.0 small_b.1 in
+    record {
+      re_low = omega (arith, ints, rr.0, ii.0);
+      re_high = omega (arith, ints, rr.1, ii.1);
+      im_low = omega (arith, ints, ir.0, ri.1);
+      im_high = omega (arith, ints, ir.1, ri.0);
+      count = omega arith;
+    }
+product_of-small (Some a) None small_a small_b = no_cell-small
+product_of-small None w small_a small_b = no_cell-small
+
 -- what so many pairs can add
 pub record IsGrown (c : Cell) (pairs : ℕ) : Type 0 where
   pub re_low : neg_ℤ (pos (450 * pairs)) ≤ℤ c.re
@@ -169,3 +195,46 @@ IsGrown-more c d n m grown small one = record {
   im_high = omega (arith, ints, grown.im_high, small.im_high);
   count = omega (arith, grown.count, small.count);
 }
+
+-- what two cells have grown by
+pub IsGrown-plus : (c d : Cell) (n m : ℕ) → IsGrown c n → IsGrown d m → IsGrown (cell_plus c d) (n + m)
+IsGrown-plus c d n m first second = record {
+  re_low = omega (arith, ints, first.re_low, second.re_low);
+  re_high = omega (arith, ints, first.re_high, second.re_high);
+  im_low = omega (arith, ints, first.im_low, second.im_low);
+  im_high = omega (arith, ints, first.im_high, second.im_high);
+  count = omega (arith, first.count, second.count);
+}
+
+-- among more pairs
+pub IsGrown-wider : (c : Cell) (n m : ℕ) → IsGrown c n → n ≤ m → IsGrown c m
+IsGrown-wider c n m grown h = record {
+  re_low = omega (arith, ints, grown.re_low);
+  re_high = omega (arith, ints, grown.re_high);
+  im_low = omega (arith, ints, grown.im_low);
+  im_high = omega (arith, ints, grown.im_high);
+  count = omega (arith, grown.count);
+}
+
+-- what pairs of small values add up to
+pub sum_from-grown : (f : ℕ → Cell) (from n : ℕ) → ((k : ℕ) → IsProduct (f k)) → IsGrown (sum_from f from n) n
+sum_from-grown f from zero each = IsGrown-none 0
+sum_from-grown f from (suc n) each =
+    IsGrown-more (sum_from f from n) (f (from + n)) n (suc n) (sum_from-grown f from n each) (each (from + n)) (omega arith)
+
+pub product_at-small : (z : Samples) (pair : Pair) (samples : ℕ) (lag : ℤ) (n : ℕ)
+    → IfSome (z pair.a pair.x (pos n)) AreSmall → IfSome (z pair.b pair.y (pos n +ℤ lag)) AreSmall
+    → IsProduct (product_at z pair samples lag n)
+product_at-small z pair samples lag n first second = by (is_inside (pos n +ℤ lag) samples)
+  where
+    by : (inside : Bool) → IsProduct (if inside then product_of (z pair.a pair.x (pos n)) (z pair.b pair.y (pos n +ℤ lag)) else no_cell)
+    by true = product_of-small _ _ first second
+    by false = no_cell-small
+
+-- the cell of a range of small values
+pub cell_in-grown : (z : Samples) (pair : Pair) (samples : ℕ) (lag : ℤ) (from to : ℕ)
+    → ((n : ℤ) → IfSome (z pair.a pair.x n) AreSmall) → ((n : ℤ) → IfSome (z pair.b pair.y n) AreSmall)
+    → IsGrown (cell_in z pair samples lag from to) (to - from)
+unfolding cell_in
+cell_in-grown z pair samples lag from to first second =
+    sum_from-grown (product_at z pair samples lag) from (to - from) (λ n. product_at-small z pair samples lag n (first (pos n)) (second (pos n +ℤ lag)))

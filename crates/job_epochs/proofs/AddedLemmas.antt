@@ -78,7 +78,7 @@ epoch_sums-at plan files scan e there =
     ap (λ (o : Option ScanPlan). option_map_or (λ (s : ScanPlan). range_cells plan (rotated plan files s) s e.from e.to) o []) there
 
 -- an integration's cells are those of its samples
-integration_cells-is : (plan : Plan) (z : Samples) (scan : ScanPlan) (m : ℕ)
+pub integration_cells-is : (plan : Plan) (z : Samples) (scan : ScanPlan) (m : ℕ)
     → range_cells plan z scan
     (integration_at (sizes_of plan) (size_of plan scan) m).from (integration_at (sizes_of plan) (size_of plan scan) m).to
     ≡ integration_cells plan z scan m

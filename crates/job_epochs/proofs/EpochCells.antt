@@ -29,7 +29,7 @@ map-back f (Some x) y is =
     let same : f x ≡ y = cc in
     (x, refl, same)
 
-cell_in-IsCell : (z : Samples) (pair : Pair) (samples : ℕ) (lag : ℤ) (from to : ℕ) → AllSmall z → to - from ≤ 2 ^ 40
+pub cell_in-IsCell : (z : Samples) (pair : Pair) (samples : ℕ) (lag : ℤ) (from to : ℕ) → AllSmall z → to - from ≤ 2 ^ 40
     → IsCell (cell_in z pair samples lag from to)
 cell_in-IsCell z pair samples lag from to small few =
     let grown = cell_in-IsGrown z pair samples lag from to small in

@@ -34,7 +34,7 @@ pub is_of-true : (number m : ℕ) → ((number == number) && (m == m)) ≡ true
 is_of-true number m =
     ap (λ (b : Bool). b && (m == m)) (eq-eqb number number refl) ∙ eq-eqb m m refl
 
-is_of-false : (number m k j : ℕ) → (k ≡ number → j ≡ m → ⊥) → ((k == number) && (j == m)) ≡ false
+pub is_of-false : (number m k j : ℕ) → (k ≡ number → j ≡ m → ⊥) → ((k == number) && (j == m)) ≡ false
 is_of-false number m k j other = by (k == number) (j == m) refl refl
   where
     by : (a b : Bool) → (k == number) ≡ a → (j == m) ≡ b → ((k == number) && (j == m)) ≡ false

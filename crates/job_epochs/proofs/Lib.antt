@@ -7,5 +7,4 @@ pub mod FoldLemmas
 pub mod AddedLemmas
 pub mod EpochCells
 pub mod CountedSums
-pub mod SumCells
 pub mod PlacedCells

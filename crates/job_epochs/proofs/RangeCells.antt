@@ -7,9 +7,9 @@ use Rattle.std.proofs.lemmas.Int.{ints, wrapping_add_is, int_wrap_fits}
 use Rattle.std.proofs.lemmas.List.FromFn.{length-map-range_with_len, length-range_with_len}
 use Rattle.corr_model.specs.declared.cell.Cell.{Cell}
 use Rattle.corr_model.specs.declared.cell.Pair.{Pair}
-use Rattle.corr_model.specs.Cell.{Value, Samples, no_cell, cell_plus, is_inside, product_of, product_at, sum_from, cell_in, AreSmall, IsProduct}
+use Rattle.corr_model.specs.Cell.{Samples, no_cell, cell_plus, cell_in, AreSmall}
 use Rattle.corr_model.specs.Lags.{lag_of}
-use Rattle.corr_model.proofs.CellLemmas.{same_cell, cell_in-none, cell_in-split, product-small, IsGrown, IsGrown-none, IsGrown-more}
+use Rattle.corr_model.proofs.CellLemmas.{same_cell, cell_in-none, cell_in-split, cell_in-grown, IsGrown}
 use Rattle.job_plan.specs.declared.plan.ProductPlan.{ProductPlan}
 use Rattle.job_plan.specs.declared.plan.BaselinePlan.{BaselinePlan}
 use Rattle.job_plan.specs.declared.plan.ScanPlan.{ScanPlan}
@@ -22,50 +22,9 @@ use Rattle.job_epochs.proofs.RowLemmas.{add_cells-map, add_cells-rows, length-ro
 abbrev pub AllSmall : Samples → Type 0
 AllSmall z = (station chan : ℕ) (n : ℤ) → IfSome (z station chan n) AreSmall
 
-no_cell-IsProduct : IsProduct no_cell
-no_cell-IsProduct = record {
-  re_low = omega (arith, ints);
-  re_high = omega (arith, ints);
-  im_low = omega (arith, ints);
-  im_high = omega (arith, ints);
-  count = omega arith;
-}
-
-product_of-IsProduct : (x y : Value) → IfSome x AreSmall → IfSome y AreSmall → IsProduct (product_of x y)
-product_of-IsProduct (Some a) (Some b) h k =
-    let rr = product-small a.0 b.0 h.0 k.0 in
-    let ii = product-small a.1 b.1 h.1 k.1 in
-    let ir = product-small a.1 b.0 h.1 k.0 in
-    let ri = product-small a.0 b.1 h.0 k.1 in
-    record {
-      re_low = omega (arith, ints, rr.0, ii.0);
-      re_high = omega (arith, ints, rr.1, ii.1);
-      im_low = omega (arith, ints, ir.0, ri.1);
-      im_high = omega (arith, ints, ir.1, ri.0);
-      count = omega arith;
-    }
-product_of-IsProduct (Some a) None h k = no_cell-IsProduct
-product_of-IsProduct None y h k = no_cell-IsProduct
-
-product_at-IsProduct : (z : Samples) (pair : Pair) (samples : ℕ) (lag : ℤ) (n : ℕ) → AllSmall z
-    → IsProduct (product_at z pair samples lag n)
-product_at-IsProduct z pair samples lag n small = by (is_inside (pos n +ℤ lag) samples)
-  where
-    by : (inside : Bool)
-        → IsProduct (if inside then product_of (z pair.a pair.x (pos n)) (z pair.b pair.y (pos n +ℤ lag)) else no_cell)
-    by true = product_of-IsProduct _ _ (small pair.a pair.x (pos n)) (small pair.b pair.y (pos n +ℤ lag))
-    by false = no_cell-IsProduct
-
-sum_from-IsGrown : (f : ℕ → Cell) (from count : ℕ) → ((k : ℕ) → IsProduct (f k)) → IsGrown (sum_from f from count) count
-sum_from-IsGrown f from zero small = IsGrown-none 0
-sum_from-IsGrown f from (suc n) small =
-    IsGrown-more (sum_from f from n) (f (from + n)) n (suc n) (sum_from-IsGrown f from n small) (small (from + n)) (omega arith)
-
 pub cell_in-IsGrown : (z : Samples) (pair : Pair) (samples : ℕ) (lag : ℤ) (from to : ℕ) → AllSmall z
     → IsGrown (cell_in z pair samples lag from to) (to - from)
-unfolding cell_in
-cell_in-IsGrown z pair samples lag from to small =
-    sum_from-IsGrown (product_at z pair samples lag) from (to - from) (λ n. product_at-IsProduct z pair samples lag n small)
+cell_in-IsGrown z pair samples lag from to small = cell_in-grown z pair samples lag from to (small pair.a pair.x) (small pair.b pair.y)
 
 -- what no more than 2^40 pairs add up to is within 64 bits
 pub part-fits : (x : ℤ) (n : ℕ) → neg_ℤ (pos (450 * n)) ≤ℤ x → x ≤ℤ pos (450 * n) → n ≤ 2 ^ 40 → FitsSigned w64 x
@@ -78,7 +37,7 @@ sum-is x y n m x_low x_high y_low y_high few =
     wrapping_add_is w64 x y (part-fits x n x_low x_high (omega arith)) (part-fits y m y_low y_high (omega arith))
     ∙ int_wrap_fits w64 (x +ℤ y) (part-fits (x +ℤ y) (n + m) (omega (arith, ints)) (omega (arith, ints)) few)
 
-plus_wrapped-is : (c d : Cell) (n m : ℕ) → IsGrown c n → IsGrown d m → n + m ≤ 2 ^ 40 → plus_wrapped c d ≡ cell_plus c d
+pub plus_wrapped-is : (c d : Cell) (n m : ℕ) → IsGrown c n → IsGrown d m → n + m ≤ 2 ^ 40 → plus_wrapped c d ≡ cell_plus c d
 plus_wrapped-is c d n m first second few =
     same_cell _ _ _ _ _ _
     (sum-is c.re d.re n m first.re_low first.re_high second.re_low second.re_high few)

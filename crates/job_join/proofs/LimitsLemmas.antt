@@ -5,9 +5,10 @@ use Rattle.std.proofs.lemmas.List.{get_or-map, length-map, at_drop_more}
 use Rattle.scan_list.specs.declared.scan.Scan.{Scan}
 use Rattle.job_text.specs.Job.{JobFields}
 use Rattle.job_join.specs.declared.places.Place.{Place}
+use Rattle.job_join.specs.declared.joining.Joining.{Joining}
 use Rattle.job_join.specs.Standing.{is_taken}
 use Rattle.job_join.specs.Spans.{samples_of}
-use Rattle.job_join.specs.Joining.{held_samples}
+use Rattle.job_join.specs.Joining.{scans_of, held_samples}
 use Rattle.job_join.specs.Places.{Visit, visit_in, visit_of}
 use Rattle.job_join.proofs.JoinLemmas.{samples_of-stands}
 
@@ -60,3 +61,14 @@ pub past-held : (job : JobFields) (rate most : ℕ) (p : Place) → visit_of p �
 past-held job rate most p held =
     ap (λ t. cond t (passing (λ n. nat_lt most n) (held_samples rate p)) None) (ap (λ (v : Visit). v.taken) held)
     ∙ ap (λ n. cond (is_taken job.takes p.scan.now) (passing (λ m. nat_lt most m) n) None) (samples_of-stands job rate p.scan.now p.stands.items (ap (λ (v : Visit). v.stands) held))
+
+-- and what is past of the place of a number is so of the scan of that number
+pub past-at : (j : Joining) (most i : ℕ) (p : Place) (value : Option ℕ) → map visit_of j.places.items ≡ map (visit_in j.job.now) (scans_of j)
+    → i < length j.places.items → p ≡ get_or j.places.items i p → value ≡ cond p.taken (passing (λ n. nat_lt most n) (held_samples j.rate p)) None
+    → (i < length (scans_of j)) × (value ≡ taken_value (is_taken j.job.now.takes) (samples_of j.job.now j.rate) (λ n. nat_lt most n) (get_or (scans_of j) i p.scan.now))
+past-at j most i p value visits less is past =
+    let held = visit_of-at j.job.now j.places.items visits i p less is in
+    let here : get_or (scans_of j) i p.scan.now ≡ p.scan.now = get_or-map (λ (q : Place). q.scan.now) j.places.items i p p.scan.now less ∙ ap (λ (q : Place). q.scan.now) (sym is) in (
+      omega (arith, less, length-map j.places.items (λ (q : Place). q.scan.now)),
+      past ∙ past-held j.job.now j.rate most p held ∙ sym (ap (taken_value (is_taken j.job.now.takes) (samples_of j.job.now j.rate) (λ n. nat_lt most n)) here),
+    )

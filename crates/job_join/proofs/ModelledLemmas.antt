@@ -12,12 +12,13 @@ use Rattle.job_text.specs.Job.{JobFields}
 use Rattle.job_join.specs.declared.places.Place.{Place}
 use Rattle.job_join.specs.declared.joining.Joining.{Joining}
 use Rattle.job_join.specs.declared.reach.Need.{Need}
+use Rattle.job_join.specs.declared.reach.Need.TheVariants.{Delay, Clock}
 use Rattle.job_join.specs.Standing.{Stand, is_taken, taken, stands_in, rate_of}
 use Rattle.job_join.specs.declared.stands.Here.{Here}
 use Rattle.job_join.specs.Spans.{end_sample, samples_of}
-use Rattle.job_join.specs.Modelled.{model_in, first_failing}
+use Rattle.job_join.specs.Modelled.{model_in, no_model, no_clock, first_failing}
 use Rattle.job_join.specs.Joining.{scans_of}
-use Rattle.job_join.specs.Needs.{are_met, lacking_of, lacking_among, samples_among}
+use Rattle.job_join.specs.Needs.{are_met, lacking_of, lacking_among, lacking, samples_among}
 use Rattle.job_join.specs.Places.{stand_of, stands_of, visit_in, visit_of}
 use Rattle.job_join.proofs.RangesLists.{All-from_map}
 
@@ -91,14 +92,20 @@ lacking_of-found need job rate scan samples hs i h less is lacks =
     ∙ ap (λ (x : Here). lacking (x ∷ drop (i + 1) hs)) is
     ∙ sym (at_drop_more lacking hs i h less)
 
+first_failing-lacking : (need : Need) (job : JobFields) (scans : List Scan) → first_failing (are_met need) job scans ≡ lacking need job scans
+unfolding no_model no_clock
+first_failing-lacking Delay job scans = refl
+first_failing-lacking Clock job scans = refl
+
 -- what is found of the scans that are held is what is found of the schedule
-pub lacking_among-failing : (need : Need) (job : JobFields) (rate : ℕ) (scans : List Scan) (places : List Place) → map visit_of places ≡ map (visit_in job) scans → rate ≡ rate_of job scans
-    → lacking_among need job rate (map visit_of places) ≡ first_failing (are_met need) job scans
+pub lacking_among-lacking : (need : Need) (job : JobFields) (rate : ℕ) (scans : List Scan) (places : List Place) → map visit_of places ≡ map (visit_in job) scans → rate ≡ rate_of job scans
+    → lacking_among need job rate (map visit_of places) ≡ lacking need job scans
 unfolding taken fails stays found
-lacking_among-failing need job rate scans places whole same =
+lacking_among-lacking need job rate scans places whole same =
     ap (lacking_among need job rate) whole
     ∙ ap (λ r. lacking_among need job r (map (visit_in job) scans)) same
     ∙ lacking_among-visits need job (rate_of job scans) scans
+    ∙ first_failing-lacking need job scans
 
 -- the scans that are held begin in seconds of the calendar
 pub seconds-held : (j : Joining) → AreScans (scans_of j) → All (λ (p : Place). IsSecond p.scan.now.second) j.places.items

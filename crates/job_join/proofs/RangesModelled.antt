@@ -7,6 +7,7 @@ use Rattle.std.proofs.lemmas.List.Elements.{All-nil, All-cons, All-head, All-tai
 use Rattle.std.proofs.lemmas.Option.{slice_get-map, same_Some}
 use Rattle.num_time.specs.Times.{IsSecond}
 use Rattle.corr_model.specs.Delay.{DelayModel, has_model, has_clock}
+use Rattle.delay_track.specs.Model.{delay_model}
 use Rattle.scan_list.specs.declared.scan.Scan.{Scan}
 use Rattle.job_plan.specs.declared.plan.StationPlan.{StationPlan}
 use Rattle.job_plan.specs.declared.plan.StayPlan.{StayPlan}
@@ -68,7 +69,7 @@ record IsSound (job : JobFields) (rate : ℕ) (scan : Scan) (s : Stand) : Type 0
 module _ (job : JobFields) (rate : ℕ) (channels : List (List ℕ)) (scans : List Scan) (scan : Scan) where
   model-same : (s : StationFields) → IsSecond scan.second
       → model_of (plan_by job rate channels scans) (scan_plan job rate channels scan) (station_plan rate channels s) ≡ model_in job rate scan s
-  model-same s is = ap (λ (start : ℤ). record { polys = s.polys; clocks = s.clocks; start = start; rate = rate; knot = job.knot }) (second-same scan.second is)
+  model-same s is = ap (λ (start : ℤ). delay_model s.polys s.clocks start rate job.knot) (second-same scan.second is)
 
   sound-modelled : (s : Stand) → IsSecond scan.second → IsSound job rate scan s
       → IsModelled (plan_by job rate channels scans) (scan_plan job rate channels scan) (station_plan rate channels s.station)

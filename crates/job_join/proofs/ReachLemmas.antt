@@ -1,5 +1,5 @@
 -- The samples through which one polynomial is in force, of a scan of any number of samples.
-use Rattle.std.proofs.Common.{◌≡◌, ℕ, ◌/◌, ◌^◌, ◌<◌, ◌≤◌, min, All, true, List, [], ◌∷◌, ◌⊎◌, ⊎_elim, inl, inr, Option, Some, None, option_map, ℤ, pos, ◌+ℤ◌, ◌-ℤ◌, ◌*ℤ◌, ◌≤ℤ◌, refl, sym, ap, subst, ◌∙◌, arith}
+use Rattle.std.proofs.Common.{◌≡◌, ℕ, ◌/◌, ◌^◌, ◌<◌, ◌≤◌, min, All, true, List, [], ◌∷◌, ◌⊎◌, ⊎_elim, inl, inr, Option, Some, None, option_map, ℤ, pos, ◌+ℤ◌, ◌-ℤ◌, ◌*ℤ◌, ◌≤ℤ◌, w64, FitsSigned, is_some, refl, sym, ap, subst, ◌∙◌, arith}
 use Rattle.std.proofs.lemmas.Int.{ints}
 use Rattle.std.proofs.lemmas.Bool.{false≢true}
 use Rattle.std.proofs.lemmas.Option.{same_Some}
@@ -9,11 +9,11 @@ use Rattle.entry_list.specs.Latest.{IsLatest, in_force}
 use Rattle.entry_list.proofs.InForce.{in_force-IsInForce, in_force-before, in_force-none_before}
 use Rattle.delay_poly.specs.declared.entry.PolyEntry.{PolyEntry}
 use Rattle.station_clock.specs.declared.entry.ClockEntry.{ClockEntry}
-use Rattle.corr_model.specs.Delay.{DelayModel, IsDelayModel, poly_second, second_at, poly_at, samples_since, is_clocked}
+use Rattle.corr_model.specs.Delay.{DelayModel, IsDelayModel, poly_second, clock_second, second_at, poly_at, samples_since, is_clocked}
 use Rattle.delay_track.proofs.Polynomials.{poly_at-none, poly_at-entries, poly_at-before, quotient_rises, is_modelled-late, IsBegun-poly_at}
 use Rattle.delay_track.proofs.Samples.{samples_since-pos, product_low}
 use Rattle.delay_track.proofs.Stretches.{is_modelled-before}
-use Rattle.delay_track.proofs.Clocks.{is_clocked-none, is_clocked-entries}
+use Rattle.delay_track.proofs.Clocks.{clock_of-entries, is_clocked-none, is_clocked-entries}
 use Rattle.job_join.specs.declared.reach.Need.{Need}
 use Rattle.job_join.specs.declared.reach.Need.TheVariants.{Delay, Clock}
 use Rattle.job_join.specs.Needs.{is_met}
@@ -42,9 +42,11 @@ in_force-near m q model =
     (All-weaker (λ e. IsSecond e.second) (λ e. poly_second e ≤ℤ (m.start +ℤ pos (min q (2 ^ 40)))) (λ e its. omega (arith, ints, its, model.start, high.0)) m.polys model.polys))
     (min_cases q (2 ^ 40))
 
-pub poly_at-near : (m : DelayModel) (n : ℕ) → IsDelayModel m 0 → (m.polys ≡ [] → ⊥)
-    → in_force poly_second m.polys (m.start +ℤ pos (min (n / m.rate) (2 ^ 40))) ≡ poly_at m n
-poly_at-near m n model some = in_force-near m (n / m.rate) model ∙ sym (poly_at-entries m n some)
+-- so what is in force in that second is the polynomial of the sample
+pub poly_at-near : (m : DelayModel) (n : ℕ) (second : ℤ) (found : Option PolyEntry) → IsDelayModel m 0 → (m.polys ≡ [] → ⊥)
+    → second ≡ m.start +ℤ pos (min (n / m.rate) (2 ^ 40)) → found ≡ in_force poly_second m.polys second → found ≡ poly_at m n
+poly_at-near m n second found model some near is =
+    is ∙ ap (in_force poly_second m.polys) near ∙ in_force-near m (n / m.rate) model ∙ sym (poly_at-entries m n some)
 
 -- the polynomial of a second
 poly_with : (found : Option PolyEntry) (second : ℤ) → option_map poly_second found ≡ Some second → (e : PolyEntry) × (found ≡ Some e) × (e.second ≡ second)
@@ -57,6 +59,7 @@ pub record IsSecondOf (m : DelayModel) (n : ℕ) (second : ℤ) : Type 0 where
   pub at : poly_at m n ≡ Some poly
   pub begins : poly.second ≡ second
   pub ranges : IsSecond second
+  pub fits : FitsSigned w64 second
   pub begun : (second -ℤ m.start) ≤ℤ pos (n / m.rate)
   pub since : pos n ≡ (second -ℤ m.start) *ℤ pos m.rate +ℤ pos (samples_since m poly n)
   pub low : (pos 0 -ℤ pos (2 ^ 64)) ≤ℤ ((second -ℤ m.start) *ℤ pos m.rate)
@@ -75,10 +78,16 @@ IsSecondOf-poly_at m n second model is =
           at = at;
           begins = refl;
           ranges = begun.second;
+          fits = omega (arith, ints, begun.second);
           begun = omega (arith, ints, begun.begun);
           since = omega (arith, ints, samples_since-pos m n e begun);
           low = omega (arith, ints, product, model.rate);
         }
+
+-- a sample of a station with clock entries has a clock where one is in force at that second
+pub is_clocked-second : (m : DelayModel) (n : ℕ) (second : ℤ) → IsSecondOf m n second → (m.clocks ≡ [] → ⊥) → is_clocked m n ≡ is_some (in_force clock_second m.clocks second)
+is_clocked-second m n second of some =
+    is_clocked-entries m n of.poly some of.at ∙ ap is_some (clock_of-entries m of.poly ∙ ap (in_force clock_second m.clocks) of.begins)
 
 pub poly_without : (found : Option PolyEntry) → option_map poly_second found ≡ None → found ≡ None
 poly_without None is = refl

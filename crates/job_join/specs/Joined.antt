@@ -1,6 +1,6 @@
 -- The plan of a job and a schedule, or why they do not go together.
 use Rattle.read_steps.specs.Steps as steps
-use Rattle.std.specs.Prelude.{ℕ, ◌/◌, nat_lt, unsigned_abs, List, [], ◌∷◌, length, map, filter, bytes_eq, Option, None, Some, option_map, unwrap_or, Result, Ok, Err}
+use Rattle.std.specs.Prelude.{ℕ, ◌/◌, nat_lt, unsigned_abs, List, [], ◌∷◌, ◌++◌, length, map, filter, bytes_eq, Option, None, Some, option_map, unwrap_or, Result, Ok, Err}
 use Rattle.std.specs.List.{position}
 use Rattle.vdif_frame.specs.Shape.{samples_per_frame}
 use Rattle.named_list.specs.Named.{named}
@@ -31,20 +31,29 @@ first_there [] = None
 first_there (None ∷ more) = first_there more
 first_there (Some fault ∷ more) = Some fault
 
--- why the two do not go together, by the first of these causes: the number is that of the `take` line, of the station
--- in the job, or of the scan in the schedule. The quantities are those with epochs of this length.
-unfoldable pub refusal_of : JobFields → ℕ → List Scan → Option JoinFault
-refusal_of job epoch scans = first_there (
+-- the causes that ask for no delay and for no size: the number is that of the `take` line, or of the station in the job
+abbrev pub early_causes : JobFields → List Scan → List (Option JoinFault)
+early_causes job scans =
     option_map UnknownScan (unknown_scan job scans)
     ∷ option_map UnknownStation (unknown_station job scans)
     ∷ option_map RateDiffers (rate_differs job scans)
     ∷ option_map ChannelDiffers (channel_differs job scans)
     ∷ option_map ProductDiffers (product_differs job scans)
     ∷ option_map FrameRate (frame_rate job scans)
-    ∷ option_map NoModel (no_model job scans)
+    ∷ []
+
+-- the others: the number is that of the station in the job, or of the scan in the schedule. The quantities are those with
+-- epochs of this length.
+abbrev pub late_causes : JobFields → ℕ → List Scan → List (Option JoinFault)
+late_causes job epoch scans =
+    option_map NoModel (no_model job scans)
     ∷ option_map NoClock (no_clock job scans)
     ∷ option_map (λ (l : Quantity × ℕ). Limit l.0 l.1) (limit job epoch scans)
-    ∷ [])
+    ∷ []
+
+-- why the two do not go together, by the first of these causes
+unfoldable pub refusal_of : JobFields → ℕ → List Scan → Option JoinFault
+refusal_of job epoch scans = first_there (early_causes job scans ++ late_causes job epoch scans)
 
 -- where a station records a channel, none where no `chan` line says so
 abbrev pub recorded_of : StationFields → List ℕ → Option Recorded

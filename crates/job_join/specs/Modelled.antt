@@ -1,6 +1,7 @@
 -- Stations without a delay model, or without a clock, at some sample of a scan in which they stand.
 use Rattle.std.specs.Prelude.{ℕ, not, Bool, List, map, find, flat_map, Option, option_map}
 use Rattle.corr_model.specs.Delay.{DelayModel, has_model, has_clock}
+use Rattle.delay_track.specs.Model.{delay_model}
 use Rattle.scan_list.specs.declared.scan.Scan.{Scan}
 use Rattle.job_text.specs.Job.{JobFields, StationFields}
 use Rattle.job_join.specs.Standing.{Stand, taken, stands_in, rate_of}
@@ -8,13 +9,7 @@ use Rattle.job_join.specs.Spans.{samples_of}
 
 -- what a station's delay in a scan depends on
 abbrev pub model_in : JobFields → ℕ → Scan → StationFields → DelayModel
-model_in job rate scan s = record {
-  polys = s.polys;
-  clocks = s.clocks;
-  start = scan.second;
-  rate = rate;
-  knot = job.knot;
-}
+model_in job rate scan s = delay_model s.polys s.clocks scan.second rate job.knot
 
 -- the scans that are taken, each with each of its stations, in order
 abbrev pub stays_taken : JobFields → List Scan → List (Scan × Stand)

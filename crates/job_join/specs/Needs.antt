@@ -9,7 +9,7 @@ use Rattle.job_join.specs.declared.reach.Need.{Need}
 use Rattle.job_join.specs.declared.reach.Need.TheVariants.{Delay, Clock}
 use Rattle.job_join.specs.Standing.{Stand}
 use Rattle.job_join.specs.Spans.{end_sample}
-use Rattle.job_join.specs.Modelled.{model_in}
+use Rattle.job_join.specs.Modelled.{model_in, no_model, no_clock}
 use Rattle.job_join.specs.Places.{Visit}
 
 -- sample n has it
@@ -39,3 +39,8 @@ lacking_in need job rate v =
 abbrev pub lacking_among : Need → JobFields → ℕ → List Visit → Option ℕ
 lacking_among need job rate [] = None
 lacking_among need job rate (v ∷ visits) = option_or (lacking_in need job rate v) (lacking_among need job rate visits)
+
+-- that of the first scan of a schedule that is taken and has such a station
+abbrev pub lacking : Need → JobFields → List Scan → Option ℕ
+lacking Delay job scans = no_model job scans
+lacking Clock job scans = no_clock job scans

@@ -2,7 +2,7 @@
 ghost use Rattle.std.specs.Prelude.{◌≡◌, ◌<◌, ◌^◌, not, map, All};
 ghost use Rattle.num_time.specs.Times.{IsSecond};
 ghost use Rattle.scan_list.specs.Sound.{AreScans};
-ghost use Rattle.job_join.specs.{declared.places.Place.{Place}, Joining.{scans_of, IsJoining}, Modelled.{model_in, no_model, no_clock}, Needs.{are_met, lacking_in, lacking_among}, Places.{visit_of}};
+ghost use Rattle.job_join.specs.{declared.places.Place.{Place}, Joining.{scans_of, IsJoining}, Modelled.{model_in}, Needs.{are_met, lacking_in, lacking_among, lacking}, Places.{visit_of}};
 
 use crate::joining::Joining;
 use crate::places::Place;
@@ -63,22 +63,12 @@ fn lacking_among(need: Need, job: &Job, rate: u32, places: &[Place]) -> Option<u
     None
 }
 
-/// The number of the first station of the first taken scan that has no delay model at some sample of it.
-pub(crate) fn no_model(j: &Joining) -> Option<usize>
+/// The number of the first station of the first taken scan that lacks what is needed at some sample of it.
+pub(crate) fn lacking(need: Need, j: &Joining) -> Option<usize>
     requires joining { IsJoining j.now }
     requires scans { AreScans (scans_of j.now) }
     requires rate { 0 < j.now.rate }
-    ensures { result ≡ no_model j.now.job.now (scans_of j.now) }
+    ensures { result ≡ lacking need j.now.job.now (scans_of j.now) }
 {
-    lacking_among(Need::Delay, j.job, j.rate, &j.places)
-}
-
-/// The number of the first station of the first taken scan that has no clock at some sample of it.
-pub(crate) fn no_clock(j: &Joining) -> Option<usize>
-    requires joining { IsJoining j.now }
-    requires scans { AreScans (scans_of j.now) }
-    requires rate { 0 < j.now.rate }
-    ensures { result ≡ no_clock j.now.job.now (scans_of j.now) }
-{
-    lacking_among(Need::Clock, j.job, j.rate, &j.places)
+    lacking_among(need, j.job, j.rate, &j.places)
 }

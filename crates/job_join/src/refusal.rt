@@ -6,7 +6,8 @@ ghost use Rattle.job_join.specs.{Joined.{refusal_of}, Joining.{scans_of, IsJoini
 use crate::fault::JoinFault;
 use crate::joining::Joining;
 use crate::limits::limit;
-use crate::modelled::{no_clock, no_model};
+use crate::modelled::lacking;
+use crate::reach::Need;
 
 // The first cause among those that ask for delays and for sizes.
 fn late(j: &Joining, epoch: u64) -> Option<JoinFault>
@@ -16,10 +17,10 @@ fn late(j: &Joining, epoch: u64) -> Option<JoinFault>
     requires epoch { 0 < epoch }
     ensures { result ≡ late_of j.now.job.now epoch (scans_of j.now) }
 {
-    if let Some(station) = no_model(j) {
+    if let Some(station) = lacking(Need::Delay, j) {
         return Some(JoinFault::NoModel(station));
     }
-    if let Some(station) = no_clock(j) {
+    if let Some(station) = lacking(Need::Clock, j) {
         return Some(JoinFault::NoClock(station));
     }
     match limit(j, epoch) {

@@ -1,6 +1,6 @@
--- The lines of a text, the first and those behind it.
-use Rattle.std.proofs.Common.{◌≡◌, ◌==◌, ◌<◌, ℕ, Bool, false, List, [], ◌∷◌, length, refl, ap, ◌∙◌, arith, All}
-use Rattle.std.specs.List.{position_or_len, before_first, after_first, slice_split}
+-- The lines of a text, the first and those behind it, and how many there are.
+use Rattle.std.proofs.Common.{◌≡◌, ◌==◌, ◌+◌, ◌^◌, ◌<◌, ◌≤◌, ℕ, Bool, true, false, cond, List, [], ◌∷◌, length, refl, ap, ◌∙◌, arith, All}
+use Rattle.std.specs.List.{position_or_len, before_first, after_first, slice_split, onto_first}
 use Rattle.std.specs.Str.Lines.{lines, lines_of_parts, strip_carriage_return}
 use Rattle.std.proofs.lemmas.List.Elements.{All-from_get_or}
 use Rattle.std.proofs.lemmas.List.Sums.{fails_before_first}
@@ -34,3 +34,34 @@ lines-last text some whole =
     All-from_get_or (λ b. is_line_feed b ≡ false) text 0
     (λ i h. fails_before_first is_line_feed text i 0 (omega (arith, h, whole))) in
     ap lines_of_parts (slice_split_none is_line_feed text none) ∙ part-last text some
+
+-- one byte more in the first part makes at most one line more
+single : (x : List ℕ) → length (lines_of_parts (x ∷ [])) ≤ 1
+single x = by (length x == 0)
+  where
+    by : (b : Bool) → length (cond b [] (x ∷ [])) ≤ 1
+    by true = omega arith
+    by false = omega arith
+
+first-more : (x : ℕ) (parts : List (List ℕ)) → length (lines_of_parts (onto_first x parts)) ≤ 1 + length (lines_of_parts parts)
+first-more x [] = omega (arith, single (x ∷ []))
+first-more x (y ∷ []) = omega (arith, single (x ∷ y))
+first-more x (y ∷ z ∷ more) = omega arith
+
+empty-more : (parts : List (List ℕ)) → length (lines_of_parts ([] ∷ parts)) ≤ 1 + length (lines_of_parts parts)
+empty-more [] = omega (arith, single [])
+empty-more (y ∷ more) = omega arith
+
+-- there are at most as many lines as bytes
+pub length-lines : (text : List ℕ) → length (lines text) ≤ length text
+length-lines [] = omega arith
+length-lines (x ∷ xs) = by (x == 10) (length-lines xs)
+  where
+    by : (b : Bool) → length (lines xs) ≤ length xs → length (lines_of_parts (cond b ([] ∷ slice_split is_line_feed xs) (onto_first x (slice_split is_line_feed xs)))) ≤ length (x ∷ xs)
+    by true h = omega (arith, h, empty-more (slice_split is_line_feed xs))
+    by false h = omega (arith, h, first-more x (slice_split is_line_feed xs))
+
+-- the number of a line, counted from 1, fits 32 bits where the number of bytes does
+pub line_number-fits : (text : List ℕ) (number : ℕ) {line : List ℕ} {left more : List (List ℕ)} → length text < 2 ^ 32
+    → number + length left ≡ length (lines text) → left ≡ line ∷ more → number + 1 < 2 ^ 32
+line_number-fits text number short count is = omega (arith, short, count, ap length is, length-lines text)

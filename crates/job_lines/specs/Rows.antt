@@ -24,13 +24,21 @@ abbrev pub fields_of : List ℕ → List (List ℕ)
 fields_of line = filter (λ field. nat_lt 0 (length field)) (slice_split is_blank (uncommented line))
 
 -- a line by its word, and the fields behind it
-pub record Row : Type 0 where
-  pub word : Word
+pub record RowBy (W : Type 0) : Type 0 where
+  pub word : W
   pub fields : List (List ℕ)
 
+-- the row of some fields, none where there is no field or the first spells no word
+abbrev pub row_by : {W : Type 0} → (List ℕ → Option W) → List (List ℕ) → Option (RowBy W)
+row_by spelt [] = None
+row_by spelt (first ∷ fields) = option_map (λ word. record { word = word; fields = fields }) (spelt first)
+
+-- a row of a job
+abbrev pub Row : Type 0
+Row = RowBy Word
+
 abbrev pub row_from : List (List ℕ) → Option Row
-row_from [] = None
-row_from (first ∷ fields) = option_map (λ word. record { word = word; fields = fields }) (word_of first)
+row_from fields = row_by word_of fields
 
 -- the row of a line, none where it has no field or begins with no word of a job
 abbrev pub row_of : List ℕ → Option Row

@@ -1,14 +1,20 @@
 -- The names of the stations' channels.
-use Rattle.std.proofs.Common.{◌≡◌, ℕ, zero, suc, ◌<◌, Bool, true, false, cond, ◌||◌, List, [], ◌∷◌, ◌++◌, length, get_or, set, Some, None, is_some, refl, sym, ap, subst, ◌∙◌, arith, bytes_eq}
+use Rattle.std.proofs.Common.{◌≡◌, ℕ, zero, suc, ◌<◌, Bool, true, false, cond, ◌||◌, List, [], ◌∷◌, ◌++◌, length, get_or, set, ◌-◌, ◌^◌, Option, Some, None, is_some, option_to_list, refl, sym, ap, subst, ◌∙◌, arith, bytes_eq}
+use Rattle.std.specs.Prelude.{IfSome}
 use Rattle.std.specs.List.{All}
 use Rattle.std.proofs.lemmas.List.Folds.{list_any-append}
 use Rattle.std.proofs.lemmas.List.Elements.{All-head, All-tail, All-push, All-set}
 use Rattle.named_list.specs.Named.{named, put}
 use Rattle.job_text.specs.declared.places.ChanPlace.{ChanPlace}
+use Rattle.job_text.specs.declared.part.Part.{Part}
+use Rattle.job_text.specs.declared.part.Part.TheVariants.{File, Chan, Clock, Poly}
+use Rattle.job_text.specs.Values.{◌>>=◌, field, name_fits, number_within, chan_in}
 use Rattle.job_text.specs.Job.{StationFields}
 use Rattle.job_text.specs.Ranges.{IsName, IsStationOf, IsChanOf}
 use Rattle.job_text.specs.Faults.{has_channel}
-use Rattle.job_text.specs.Places.{AreIndexed}
+use Rattle.job_text.specs.Faults.{double_or_range, chan_fault, part_fault}
+use Rattle.job_text.specs.Growing.{with_chan, with_part}
+use Rattle.job_text.specs.Places.{AreIndexed, with_name}
 use Rattle.job_text.proofs.NameLemmas.{name_from, is_some-push}
 use Rattle.job_text.proofs.StationLemmas.{ArePlaces-set, ArePlaces-push}
 
@@ -52,6 +58,17 @@ is_some-put {A} (x ∷ xs) name other thing = by (bytes_eq x.0 name) refl (bytes
     by false e true f rest = rw (e, f) refl
     by false e false f rest = rw (e, f) rest
 
+-- the name of a channel that a line says
+chan_in-name : (chans : ℕ) (fields : List (List ℕ)) → IfSome (chan_in chans fields) (λ (c : List ℕ × ChanPlace). c.0 ≡ field fields 1)
+unfolding chan_in
+chan_in-name chans fields = by (number_within 0 1023 (field fields 2)) (number_within 0 (chans - 1) (field fields 3)) (name_fits (field fields 1))
+  where
+    by : (a o : Option ℕ) (b : Bool) → IfSome (a >>= (λ thread. o >>= (λ index. cond b (Some (field fields 1, record { thread = thread; index = index })) None))) (λ (c : List ℕ × ChanPlace). c.0 ≡ field fields 1)
+    by None o b = tt
+    by (Some thread) None b = tt
+    by (Some thread) (Some index) true = refl
+    by (Some thread) (Some index) false = tt
+
 module _ {T : Type 0} {stations : List StationFields} {places : List (List ℕ × ℕ)} {channels : List (List ℕ × T)} (h : AreIndexed stations places channels) where
   -- a station in the place of one of the same key and the same channels
   pub AreIndexed-set : (i : ℕ) (s d : StationFields) → i < length stations → s.key ≡ (get_or stations i d).key → IsStationOf s → s.chans ≡ (get_or stations i d).chans → AreIndexed (set stations i s) places channels
@@ -73,6 +90,26 @@ module _ {T : Type 0} {stations : List StationFields} {places : List (List ℕ �
         ∙ sym (has_channel-set stations i s d x (bytes_eq name x) less
         (ap (λ c. is_some (named c x)) chans ∙ is_some-push (get_or stations i d).chans chan.0 x chan.1 ∙ ap (λ n. is_some (named (get_or stations i d).chans x) || bytes_eq n x) is));
   }
+
+  -- one with what a line says of its channels
+  AreIndexed-with_chan : (fields : List (List ℕ)) (i : ℕ) (s d : StationFields) (thing : T) → i < length stations → d ≡ get_or stations i d → (chan_fault fields d ≡ None) × (s ≡ with_chan fields d) → IsStationOf s
+      → AreIndexed (set stations i s) places (put channels (field fields 1) thing)
+  unfolding chan_fault
+  AreIndexed-with_chan fields i s d thing less old taken sound = by (chan_in (2 ^ d.chans_log2) fields) (chan_in-name (2 ^ d.chans_log2) fields) (is_some (named d.chans (field fields 1))) taken.0 taken.1
+    where
+      by : (o : Option (List ℕ × ChanPlace)) → IfSome o (λ (c : List ℕ × ChanPlace). c.0 ≡ field fields 1) → (again : Bool) → double_or_range again o ≡ None → s ≡ record d { chans = d.chans ++ option_to_list o }
+          → AreIndexed (set stations i s) places (put channels (field fields 1) thing)
+      by (Some chan) name again free is = AreIndexed-chan i s d (field fields 1) thing chan less (ap (λ s. s.key) is ∙ ap (λ s. s.key) old) sound name (ap (λ s. s.chans) is ∙ ap (λ s. s.chans ++ chan ∷ []) old)
+      by None name true free is = absurd cc
+      by None name false free is = absurd cc
+
+  -- one with what a line says of a part
+  pub AreIndexed-part : (part : Part) (fields : List (List ℕ)) (i : ℕ) (s d : StationFields) (thing : T) → i < length stations → d ≡ get_or stations i d
+      → (part_fault part fields d ≡ None) × (s ≡ with_part part fields d) → IsStationOf s → AreIndexed (set stations i s) places (with_name part (field fields 1) thing channels)
+  AreIndexed-part Chan fields i s d thing less old taken sound = AreIndexed-with_chan fields i s d thing less old taken sound
+  AreIndexed-part File fields i s d thing less old taken sound = AreIndexed-set i s d less (ap (λ s. s.key) taken.1 ∙ ap (λ s. s.key) old) sound (ap (λ s. s.chans) taken.1 ∙ ap (λ s. s.chans) old)
+  AreIndexed-part Clock fields i s d thing less old taken sound = AreIndexed-set i s d less (ap (λ s. s.key) taken.1 ∙ ap (λ s. s.key) old) sound (ap (λ s. s.chans) taken.1 ∙ ap (λ s. s.chans) old)
+  AreIndexed-part Poly fields i s d thing less old taken sound = AreIndexed-set i s d less (ap (λ s. s.key) taken.1 ∙ ap (λ s. s.key) old) sound (ap (λ s. s.chans) taken.1 ∙ ap (λ s. s.chans) old)
 
   -- one more station, without channels
   pub AreIndexed-push : (s : StationFields) → named places s.key ≡ None → s.chans ≡ [] → IsStationOf s → AreIndexed (stations ++ s ∷ []) (put places s.key (length stations)) channels

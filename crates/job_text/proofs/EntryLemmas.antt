@@ -1,28 +1,15 @@
 -- Whether a second is among those of some entries, by the entry in force at it.
-use Rattle.std.proofs.Common.{◌≡◌, ◌≢◌, ◌<◌, ℕ, Bool, true, false, List, length, get_or, refl, sym, ◌∙◌, ap, arith, IsTrue, Decides, FitsSigned, eqb}
-use Rattle.std.specs.Prelude.{Option, Some, ℤ, ◌<ℤ◌, ◌≤ℤ◌, if◌then◌else◌}
+use Rattle.std.proofs.Common.{◌≡◌, ◌≢◌, ◌<◌, ℕ, Bool, true, false, List, length, get_or, refl, sym, ◌∙◌, ap, arith}
+use Rattle.std.specs.Prelude.{Option, Some, ℤ, ◌<ℤ◌, ◌≤ℤ◌}
 use Rattle.std.specs.List.{All, list_any}
 use Rattle.std.specs.Ordering.{int_eq}
-use Rattle.std.proofs.lemmas.Int.{ints, to_z-of_z}
-use mir.Val.{of_z, to_z}
-use mir.Syntax.{w64}
-use Rattle.std.proofs.lemmas.Bool.Decides.{Decides-int_eq, Decides-eqb, same_from_decides}
+use Rattle.std.proofs.lemmas.Int.{ints}
+use Rattle.std.proofs.lemmas.Bool.Decides.{Decides-int_eq}
 use Rattle.std.proofs.lemmas.List.Folds.{list_any_none, list_any_at}
 use Rattle.std.proofs.lemmas.List.Elements.{All-weaker}
 use Rattle.entry_list.specs.Latest.{IsLatest}
+use Rattle.job_lines.proofs.SecondLemmas.{fails, passes, differs}
 use Rattle.job_text.specs.Faults.{is_taken}
-
--- a test that a fact decides fails where the fact does not hold
-pub fails : (b : Bool) (P : Type 0) → Decides b P → (P → ⊥) → b ≡ false
-fails true P d lacks = absurd (lacks (d.0 refl))
-fails false P d lacks = refl
-
-pub passes : (b : Bool) (P : Type 0) → Decides b P → P → b ≡ true
-passes b P d p = d.1 p
-
--- two that a test tells apart differ
-pub differs : (b : Bool) (P : Type 0) → Decides b P → b ≡ false → P → ⊥
-differs b P d off p = let on : b ≡ true = d.1 p in let odd : true ≡ false = sym on ∙ off in cc
 
 module _ {E : Type 0} (second_of : E → ℤ) (entries : List E) (t : ℤ) where
   abbrev at : E → Bool
@@ -59,15 +46,6 @@ module _ {E : Type 0} (second_of : E → ℤ) (entries : List E) (t : ℤ) where
       All-from : ((i : ℕ) (d : E) → i < length entries → second_of (get_or entries i d) ≢ t) → All (λ x. second_of x ≢ t) entries
       All-from f = f
 
--- whether two seconds of the machine are one
-pub same_second : (x y : ℤ) → FitsSigned w64 x → FitsSigned w64 y → eqb (of_z w64 x) (of_z w64 y) ≡ int_eq x y
-same_second x y f g =
-    let one : to_z w64 (of_z w64 x) ≡ x = to_z-of_z w64 x f in
-    let two : to_z w64 (of_z w64 y) ≡ y = to_z-of_z w64 y g in
-    same_from_decides (eqb (of_z w64 x) (of_z w64 y)) (int_eq x y)
-    (λ e. sym one ∙ ap (to_z w64) ((Decides-eqb (of_z w64 x) (of_z w64 y)).0 e) ∙ two, λ e. (Decides-eqb (of_z w64 x) (of_z w64 y)).1 (ap (of_z w64) e))
-    (Decides-int_eq x y)
-
 module _ {E : Type 0} (second_of : E → ℤ) (entries : List E) (t : ℤ) (o : Option ℤ) (is : o ≡ Some t) where
   pub taken_by : (s : ℤ) (e : E) (b : Bool) → s ≡ second_of e → b ≡ int_eq s t → IsLatest second_of entries t e → b ≡ is_taken second_of o entries
   taken_by s e b same test latest =
@@ -75,8 +53,3 @@ module _ {E : Type 0} (second_of : E → ℤ) (entries : List E) (t : ℤ) (o : 
 
   pub none_by : All (λ x. t <ℤ second_of x) entries → false ≡ is_taken second_of o entries
   none_by later = sym (later-none second_of entries t later) ∙ ap (λ p. is_taken second_of p entries) (sym is)
-
--- the first of two things, where the test holds
-pub chosen : {A : Type 0} (b : Bool) (new x y : A) → IsTrue b → new ≡ (if b then x else y) → new ≡ x
-chosen true new x y on h = h
-chosen false new x y on h = absurd cc

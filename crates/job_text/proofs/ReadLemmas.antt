@@ -1,11 +1,11 @@
 -- The lines of a job read one behind the other.
 use Rattle.std.proofs.Common.{◌≡◌, ℕ, ◌+◌, Bool, true, false, cond, not, ◌&&◌, List, [], ◌∷◌, ◌++◌, length, Option, Some, None, option_map, option_to_list, refl, sym, ap, ◌∙◌, arith, append_assoc}
-use Rattle.std.specs.List.{cons_option}
 use Rattle.std.specs.Option.{option_map_or}
 use Rattle.std.proofs.lemmas.List.{append-nil}
 use Rattle.job_lines.specs.Words.{word_of, is_inline, needed, further, are_written}
 use Rattle.job_lines.specs.Rows.{Row, is_clean, fields_of, row_of, row_from}
 use Rattle.job_lines.specs.declared.word.Word.{Word}
+use Rattle.job_lines.proofs.RowLemmas.{filter_map-cons}
 use Rattle.job_text.specs.declared.fault.JobKind.{JobKind}
 use Rattle.job_text.specs.declared.fault.JobKind.TheVariants.{Line, Unknown}
 use Rattle.job_text.specs.declared.fault.JobFault.{JobFault}
@@ -13,7 +13,9 @@ use Rattle.job_text.specs.Said.{Said, said_by}
 use Rattle.job_text.specs.Faults.{row_fault, word_fault, fields_fault, line_fault}
 use Rattle.job_text.specs.Growing.{grown_by}
 use Rattle.job_text.specs.Answer.{faults_behind, first_fault, rows_in}
+use Rattle.job_text.specs.Sound.{IsSaid}
 use Rattle.job_text.proofs.SaidLemmas.{AreKnown, known-none, known-push, said-push}
+use Rattle.job_text.proofs.SoundLemmas.{IsSaid-none}
 
 -- the fault of a row, none where there is no row
 abbrev fault_of : Said → Option Row → Option JobKind
@@ -55,13 +57,6 @@ known-more : (rows : List Row) (o : Option Row) → AreKnown rows → fault_of (
 known-more rows None known h = rw (append-nil rows) known
 known-more rows (Some row) known h = known-push rows row.word row.fields known h
 
-rows-cons : (line : List ℕ) (more : List (List ℕ)) → rows_in (line ∷ more) ≡ option_to_list (row_of line) ++ rows_in more
-rows-cons line more = by (row_of line)
-  where
-    by : (o : Option Row) → cons_option o (rows_in more) ≡ option_to_list o ++ rows_in more
-    by None = refl
-    by (Some row) = refl
-
 -- a fault of a kind in a line
 abbrev at_number : ℕ → JobKind → JobFault
 at_number n kind = record { kind = kind; line = n }
@@ -74,14 +69,15 @@ pub record IsReading (inline : Bool) (all : List (List ℕ)) (said : Said) (numb
   pub faults : first_fault 1 (faults_behind inline [] all) ≡ first_fault (number + 1) (faults_behind inline rows left)
   pub all_rows : rows_in all ≡ rows ++ rows_in left
   pub count : number + length left ≡ length all
+  pub sound : IsSaid said
 
 pub reading-starts : (inline : Bool) (all : List (List ℕ)) (said : Said) → said ≡ said_by [] → IsReading inline all said 0 all
-reading-starts inline all said is = record { rows = []; known = known-none; says = is; faults = refl; all_rows = refl; count = omega arith }
+reading-starts inline all said is = record { rows = []; known = known-none; says = is; faults = refl; all_rows = refl; count = omega arith; sound = rw is IsSaid-none }
 
 module _ {inline : Bool} {all : List (List ℕ)} {said : Said} {number : ℕ} {left : List (List ℕ)} (h : IsReading inline all said number left) where
   pub reading-next : (line : List ℕ) (more : List (List ℕ)) (new : Said) → left ≡ line ∷ more
-      → (line_fault inline said line ≡ None) × (new ≡ grown_by said (row_of line)) → IsReading inline all new (number + 1) more
-  reading-next line more new is taken =
+      → (line_fault inline said line ≡ None) × (new ≡ grown_by said (row_of line)) → (IsSaid said → IsSaid new) → IsReading inline all new (number + 1) more
+  reading-next line more new is taken keeps =
       let free_said : line_fault inline (said_by h.rows) line ≡ None = ap (λ s. line_fault inline s line) (sym h.says) ∙ taken.0 in
       let free : fault_of (said_by h.rows) (row_of line) ≡ None = line-free inline (said_by h.rows) line free_said in
       record {
@@ -90,6 +86,7 @@ module _ {inline : Bool} {all : List (List ℕ)} {said : Said} {number : ℕ} {l
         says = taken.1 ∙ ap (λ s. grown_by s (row_of line)) h.says ∙ sym (said-more h.rows (row_of line) h.known free);
         faults = h.faults ∙ ap (λ xs. first_fault (number + 1) (faults_behind inline h.rows xs)) is
             ∙ (λ i. first_fault (number + 1) (free_said i ∷ faults_behind inline (h.rows ++ option_to_list (row_of line)) more));
-        all_rows = h.all_rows ∙ ap (λ xs. h.rows ++ rows_in xs) is ∙ ap (λ xs. h.rows ++ xs) (rows-cons line more) ∙ (let e : (h.rows ++ option_to_list (row_of line)) ++ rows_in more ≡ h.rows ++ (option_to_list (row_of line) ++ rows_in more) = simp append_assoc in sym e);
+        all_rows = h.all_rows ∙ ap (λ xs. h.rows ++ rows_in xs) is ∙ ap (λ xs. h.rows ++ xs) (filter_map-cons row_of line more) ∙ (let e : (h.rows ++ option_to_list (row_of line)) ++ rows_in more ≡ h.rows ++ (option_to_list (row_of line) ++ rows_in more) = simp append_assoc in sym e);
         count = omega (arith, h.count, ap length is);
+        sound = keeps h.sound;
       }

@@ -26,6 +26,16 @@ more w v read fields = option_to_list (cond (are_one w v) (read fields) None)
 abbrev row : Word → List (List ℕ) → Row
 row w fields = record { word = w; fields = fields }
 
+-- what the lines of files, of products and of takes say
+abbrev file_in : List (List ℕ) → Option (List ℕ)
+file_in fields = Some (field fields 1)
+
+abbrev product_in : List (List ℕ) → Option (List ℕ × List ℕ)
+product_in fields = Some (field fields 0, field fields 1)
+
+abbrev take_in : List (List ℕ) → Option (List ℕ)
+take_in fields = Some (field fields 0)
+
 each-push : {A : Type 0} (v : Word) (read : List (List ℕ) → Option A) (rows : List Row) (w : Word) (fields : List (List ℕ))
     → each v read (rows ++ row w fields ∷ []) ≡ each v read rows ++ more w v read fields
 unfolding each
@@ -41,230 +51,18 @@ last_from : {A : Type 0} (a : Option A) (xs : List A) (x : A) → fold (λ _ y. 
 last_from a [] x = refl
 last_from a (y ∷ ys) x = last_from (Some y) ys x
 
-last-said : {A : Type 0} (xs : List A) (o : Option A) (again : Bool) → double_or_range again o ≡ None → last (xs ++ option_to_list o) ≡ o
-last-said xs (Some x) again h = last_from None xs x
-last-said xs None true h = absurd cc
-last-said xs None false h = absurd cc
+last-said : {A : Type 0} (v : Word) (read : List (List ℕ) → Option A) (rows : List Row) (fields : List (List ℕ))
+    → double_or_range (is_some (last (each v read rows))) (read fields) ≡ None → last (each v read rows ++ option_to_list (read fields)) ≡ read fields
+last-said {A} v read rows fields h = by (each v read rows) (read fields) (is_some (last (each v read rows))) h
+  where
+    by : (xs : List A) (o : Option A) (again : Bool) → double_or_range again o ≡ None → last (xs ++ option_to_list o) ≡ o
+    by xs (Some x) again h = last_from None xs x
+    by xs None true h = absurd cc
+    by xs None false h = absurd cc
 
 said_some : {A : Type 0} (o : Option A) (again : Bool) → double_or_range again o ≡ None → again ≡ false
 said_some o true h = absurd cc
 said_some o false h = refl
-
--- a station with one more row
-filled-push : (rows : List Row) (w : Word) (fields : List (List ℕ)) (s : StationFields) → filled (rows ++ row w fields ∷ []) s ≡ record s {
-  files = each File (of_key s.key (λ (fields : List (List ℕ)). Some (field fields 1))) rows ++ more w File (of_key s.key (λ (fields : List (List ℕ)). Some (field fields 1))) fields;
-  chans = each Chan (of_key s.key (chan_in (2 ^ s.chans_log2))) rows ++ more w Chan (of_key s.key (chan_in (2 ^ s.chans_log2))) fields;
-  clocks = each Clock (of_key s.key clock_in) rows ++ more w Clock (of_key s.key clock_in) fields;
-  polys = each Poly (of_key s.key poly_in) rows ++ more w Poly (of_key s.key poly_in) fields;
-}
-unfolding filled
-filled-push rows w fields s = λ i. record s {
-  files = each-push File (of_key s.key (λ (fields : List (List ℕ)). Some (field fields 1))) rows w fields i;
-  chans = each-push Chan (of_key s.key (chan_in (2 ^ s.chans_log2))) rows w fields i;
-  clocks = each-push Clock (of_key s.key clock_in) rows w fields i;
-  polys = each-push Poly (of_key s.key poly_in) rows w fields i;
-}
-
-filled-Lags : (rows : List Row) (fields : List (List ℕ)) (s : StationFields) → filled (rows ++ row Lags fields ∷ []) s ≡ filled rows s
-unfolding filled
-filled-Lags rows fields s = filled-push rows Lags fields s ∙ (λ i. record s {
-  files = append-nil (each File (of_key s.key (λ (fields : List (List ℕ)). Some (field fields 1))) rows) i;
-  chans = append-nil (each Chan (of_key s.key (chan_in (2 ^ s.chans_log2))) rows) i;
-  clocks = append-nil (each Clock (of_key s.key clock_in) rows) i;
-  polys = append-nil (each Poly (of_key s.key poly_in) rows) i;
-})
-
-filled-Integration : (rows : List Row) (fields : List (List ℕ)) (s : StationFields) → filled (rows ++ row Integration fields ∷ []) s ≡ filled rows s
-unfolding filled
-filled-Integration rows fields s = filled-push rows Integration fields s ∙ (λ i. record s {
-  files = append-nil (each File (of_key s.key (λ (fields : List (List ℕ)). Some (field fields 1))) rows) i;
-  chans = append-nil (each Chan (of_key s.key (chan_in (2 ^ s.chans_log2))) rows) i;
-  clocks = append-nil (each Clock (of_key s.key clock_in) rows) i;
-  polys = append-nil (each Poly (of_key s.key poly_in) rows) i;
-})
-
-filled-Epoch : (rows : List Row) (fields : List (List ℕ)) (s : StationFields) → filled (rows ++ row Epoch fields ∷ []) s ≡ filled rows s
-unfolding filled
-filled-Epoch rows fields s = filled-push rows Epoch fields s ∙ (λ i. record s {
-  files = append-nil (each File (of_key s.key (λ (fields : List (List ℕ)). Some (field fields 1))) rows) i;
-  chans = append-nil (each Chan (of_key s.key (chan_in (2 ^ s.chans_log2))) rows) i;
-  clocks = append-nil (each Clock (of_key s.key clock_in) rows) i;
-  polys = append-nil (each Poly (of_key s.key poly_in) rows) i;
-})
-
-filled-Knot : (rows : List Row) (fields : List (List ℕ)) (s : StationFields) → filled (rows ++ row Knot fields ∷ []) s ≡ filled rows s
-unfolding filled
-filled-Knot rows fields s = filled-push rows Knot fields s ∙ (λ i. record s {
-  files = append-nil (each File (of_key s.key (λ (fields : List (List ℕ)). Some (field fields 1))) rows) i;
-  chans = append-nil (each Chan (of_key s.key (chan_in (2 ^ s.chans_log2))) rows) i;
-  clocks = append-nil (each Clock (of_key s.key clock_in) rows) i;
-  polys = append-nil (each Poly (of_key s.key poly_in) rows) i;
-})
-
-filled-Auto : (rows : List Row) (fields : List (List ℕ)) (s : StationFields) → filled (rows ++ row Auto fields ∷ []) s ≡ filled rows s
-unfolding filled
-filled-Auto rows fields s = filled-push rows Auto fields s ∙ (λ i. record s {
-  files = append-nil (each File (of_key s.key (λ (fields : List (List ℕ)). Some (field fields 1))) rows) i;
-  chans = append-nil (each Chan (of_key s.key (chan_in (2 ^ s.chans_log2))) rows) i;
-  clocks = append-nil (each Clock (of_key s.key clock_in) rows) i;
-  polys = append-nil (each Poly (of_key s.key poly_in) rows) i;
-})
-
-filled-Station : (rows : List Row) (fields : List (List ℕ)) (s : StationFields) → filled (rows ++ row Station fields ∷ []) s ≡ filled rows s
-unfolding filled
-filled-Station rows fields s = filled-push rows Station fields s ∙ (λ i. record s {
-  files = append-nil (each File (of_key s.key (λ (fields : List (List ℕ)). Some (field fields 1))) rows) i;
-  chans = append-nil (each Chan (of_key s.key (chan_in (2 ^ s.chans_log2))) rows) i;
-  clocks = append-nil (each Clock (of_key s.key clock_in) rows) i;
-  polys = append-nil (each Poly (of_key s.key poly_in) rows) i;
-})
-
-filled-Product : (rows : List Row) (fields : List (List ℕ)) (s : StationFields) → filled (rows ++ row Product fields ∷ []) s ≡ filled rows s
-unfolding filled
-filled-Product rows fields s = filled-push rows Product fields s ∙ (λ i. record s {
-  files = append-nil (each File (of_key s.key (λ (fields : List (List ℕ)). Some (field fields 1))) rows) i;
-  chans = append-nil (each Chan (of_key s.key (chan_in (2 ^ s.chans_log2))) rows) i;
-  clocks = append-nil (each Clock (of_key s.key clock_in) rows) i;
-  polys = append-nil (each Poly (of_key s.key poly_in) rows) i;
-})
-
-filled-Take : (rows : List Row) (fields : List (List ℕ)) (s : StationFields) → filled (rows ++ row Take fields ∷ []) s ≡ filled rows s
-unfolding filled
-filled-Take rows fields s = filled-push rows Take fields s ∙ (λ i. record s {
-  files = append-nil (each File (of_key s.key (λ (fields : List (List ℕ)). Some (field fields 1))) rows) i;
-  chans = append-nil (each Chan (of_key s.key (chan_in (2 ^ s.chans_log2))) rows) i;
-  clocks = append-nil (each Clock (of_key s.key clock_in) rows) i;
-  polys = append-nil (each Poly (of_key s.key poly_in) rows) i;
-})
-
-filled-Rate : (rows : List Row) (fields : List (List ℕ)) (s : StationFields) → filled (rows ++ row Rate fields ∷ []) s ≡ filled rows s
-unfolding filled
-filled-Rate rows fields s = filled-push rows Rate fields s ∙ (λ i. record s {
-  files = append-nil (each File (of_key s.key (λ (fields : List (List ℕ)). Some (field fields 1))) rows) i;
-  chans = append-nil (each Chan (of_key s.key (chan_in (2 ^ s.chans_log2))) rows) i;
-  clocks = append-nil (each Clock (of_key s.key clock_in) rows) i;
-  polys = append-nil (each Poly (of_key s.key poly_in) rows) i;
-})
-
-filled-Scan : (rows : List Row) (fields : List (List ℕ)) (s : StationFields) → filled (rows ++ row Scan fields ∷ []) s ≡ filled rows s
-unfolding filled
-filled-Scan rows fields s = filled-push rows Scan fields s ∙ (λ i. record s {
-  files = append-nil (each File (of_key s.key (λ (fields : List (List ℕ)). Some (field fields 1))) rows) i;
-  chans = append-nil (each Chan (of_key s.key (chan_in (2 ^ s.chans_log2))) rows) i;
-  clocks = append-nil (each Clock (of_key s.key clock_in) rows) i;
-  polys = append-nil (each Poly (of_key s.key poly_in) rows) i;
-})
-
-filled-Band : (rows : List Row) (fields : List (List ℕ)) (s : StationFields) → filled (rows ++ row Band fields ∷ []) s ≡ filled rows s
-unfolding filled
-filled-Band rows fields s = filled-push rows Band fields s ∙ (λ i. record s {
-  files = append-nil (each File (of_key s.key (λ (fields : List (List ℕ)). Some (field fields 1))) rows) i;
-  chans = append-nil (each Chan (of_key s.key (chan_in (2 ^ s.chans_log2))) rows) i;
-  clocks = append-nil (each Clock (of_key s.key clock_in) rows) i;
-  polys = append-nil (each Poly (of_key s.key poly_in) rows) i;
-})
-
-filled-File : (rows : List Row) (fields : List (List ℕ)) (s : StationFields)
-    → filled (rows ++ row File fields ∷ []) s ≡ cond (bytes_eq (filled rows s).key (field fields 0)) (with_file fields (filled rows s)) (filled rows s)
-unfolding filled
-filled-File rows fields s = filled-push rows File fields s ∙ by (bytes_eq s.key (field fields 0))
-  where
-    by : (b : Bool) → (let t : StationFields = record s {
-      files = each File (of_key s.key (λ (fields : List (List ℕ)). Some (field fields 1))) rows ++ option_to_list (cond b ((λ (fields : List (List ℕ)). Some (field fields 1)) fields) None);
-      chans = each Chan (of_key s.key (chan_in (2 ^ s.chans_log2))) rows ++ [];
-      clocks = each Clock (of_key s.key clock_in) rows ++ [];
-      polys = each Poly (of_key s.key poly_in) rows ++ [];
-    } in t) ≡ cond b (with_file fields (filled rows s)) (filled rows s)
-    by true = λ i. record s {
-      files = each File (of_key s.key (λ (fields : List (List ℕ)). Some (field fields 1))) rows ++ option_to_list ((λ (fields : List (List ℕ)). Some (field fields 1)) fields);
-      chans = append-nil (each Chan (of_key s.key (chan_in (2 ^ s.chans_log2))) rows) i;
-      clocks = append-nil (each Clock (of_key s.key clock_in) rows) i;
-      polys = append-nil (each Poly (of_key s.key poly_in) rows) i;
-    }
-    by false = λ i. record s {
-      files = append-nil (each File (of_key s.key (λ (fields : List (List ℕ)). Some (field fields 1))) rows) i;
-      chans = append-nil (each Chan (of_key s.key (chan_in (2 ^ s.chans_log2))) rows) i;
-      clocks = append-nil (each Clock (of_key s.key clock_in) rows) i;
-      polys = append-nil (each Poly (of_key s.key poly_in) rows) i;
-    }
-
-filled-Chan : (rows : List Row) (fields : List (List ℕ)) (s : StationFields)
-    → filled (rows ++ row Chan fields ∷ []) s ≡ cond (bytes_eq (filled rows s).key (field fields 0)) (with_chan fields (filled rows s)) (filled rows s)
-unfolding filled
-filled-Chan rows fields s = filled-push rows Chan fields s ∙ by (bytes_eq s.key (field fields 0))
-  where
-    by : (b : Bool) → (let t : StationFields = record s {
-      files = each File (of_key s.key (λ (fields : List (List ℕ)). Some (field fields 1))) rows ++ [];
-      chans = each Chan (of_key s.key (chan_in (2 ^ s.chans_log2))) rows ++ option_to_list (cond b ((chan_in (2 ^ s.chans_log2)) fields) None);
-      clocks = each Clock (of_key s.key clock_in) rows ++ [];
-      polys = each Poly (of_key s.key poly_in) rows ++ [];
-    } in t) ≡ cond b (with_chan fields (filled rows s)) (filled rows s)
-    by true = λ i. record s {
-      files = append-nil (each File (of_key s.key (λ (fields : List (List ℕ)). Some (field fields 1))) rows) i;
-      chans = each Chan (of_key s.key (chan_in (2 ^ s.chans_log2))) rows ++ option_to_list ((chan_in (2 ^ s.chans_log2)) fields);
-      clocks = append-nil (each Clock (of_key s.key clock_in) rows) i;
-      polys = append-nil (each Poly (of_key s.key poly_in) rows) i;
-    }
-    by false = λ i. record s {
-      files = append-nil (each File (of_key s.key (λ (fields : List (List ℕ)). Some (field fields 1))) rows) i;
-      chans = append-nil (each Chan (of_key s.key (chan_in (2 ^ s.chans_log2))) rows) i;
-      clocks = append-nil (each Clock (of_key s.key clock_in) rows) i;
-      polys = append-nil (each Poly (of_key s.key poly_in) rows) i;
-    }
-
-filled-Clock : (rows : List Row) (fields : List (List ℕ)) (s : StationFields)
-    → filled (rows ++ row Clock fields ∷ []) s ≡ cond (bytes_eq (filled rows s).key (field fields 0)) (with_clock fields (filled rows s)) (filled rows s)
-unfolding filled
-filled-Clock rows fields s = filled-push rows Clock fields s ∙ by (bytes_eq s.key (field fields 0))
-  where
-    by : (b : Bool) → (let t : StationFields = record s {
-      files = each File (of_key s.key (λ (fields : List (List ℕ)). Some (field fields 1))) rows ++ [];
-      chans = each Chan (of_key s.key (chan_in (2 ^ s.chans_log2))) rows ++ [];
-      clocks = each Clock (of_key s.key clock_in) rows ++ option_to_list (cond b (clock_in fields) None);
-      polys = each Poly (of_key s.key poly_in) rows ++ [];
-    } in t) ≡ cond b (with_clock fields (filled rows s)) (filled rows s)
-    by true = λ i. record s {
-      files = append-nil (each File (of_key s.key (λ (fields : List (List ℕ)). Some (field fields 1))) rows) i;
-      chans = append-nil (each Chan (of_key s.key (chan_in (2 ^ s.chans_log2))) rows) i;
-      clocks = each Clock (of_key s.key clock_in) rows ++ option_to_list (clock_in fields);
-      polys = append-nil (each Poly (of_key s.key poly_in) rows) i;
-    }
-    by false = λ i. record s {
-      files = append-nil (each File (of_key s.key (λ (fields : List (List ℕ)). Some (field fields 1))) rows) i;
-      chans = append-nil (each Chan (of_key s.key (chan_in (2 ^ s.chans_log2))) rows) i;
-      clocks = append-nil (each Clock (of_key s.key clock_in) rows) i;
-      polys = append-nil (each Poly (of_key s.key poly_in) rows) i;
-    }
-
-filled-Poly : (rows : List Row) (fields : List (List ℕ)) (s : StationFields)
-    → filled (rows ++ row Poly fields ∷ []) s ≡ cond (bytes_eq (filled rows s).key (field fields 0)) (with_poly fields (filled rows s)) (filled rows s)
-unfolding filled
-filled-Poly rows fields s = filled-push rows Poly fields s ∙ by (bytes_eq s.key (field fields 0))
-  where
-    by : (b : Bool) → (let t : StationFields = record s {
-      files = each File (of_key s.key (λ (fields : List (List ℕ)). Some (field fields 1))) rows ++ [];
-      chans = each Chan (of_key s.key (chan_in (2 ^ s.chans_log2))) rows ++ [];
-      clocks = each Clock (of_key s.key clock_in) rows ++ [];
-      polys = each Poly (of_key s.key poly_in) rows ++ option_to_list (cond b (poly_in fields) None);
-    } in t) ≡ cond b (with_poly fields (filled rows s)) (filled rows s)
-    by true = λ i. record s {
-      files = append-nil (each File (of_key s.key (λ (fields : List (List ℕ)). Some (field fields 1))) rows) i;
-      chans = append-nil (each Chan (of_key s.key (chan_in (2 ^ s.chans_log2))) rows) i;
-      clocks = append-nil (each Clock (of_key s.key clock_in) rows) i;
-      polys = each Poly (of_key s.key poly_in) rows ++ option_to_list (poly_in fields);
-    }
-    by false = λ i. record s {
-      files = append-nil (each File (of_key s.key (λ (fields : List (List ℕ)). Some (field fields 1))) rows) i;
-      chans = append-nil (each Chan (of_key s.key (chan_in (2 ^ s.chans_log2))) rows) i;
-      clocks = append-nil (each Clock (of_key s.key clock_in) rows) i;
-      polys = append-nil (each Poly (of_key s.key poly_in) rows) i;
-    }
-
--- the stations with that of a key changed, one by one
-changed-map : (g f : StationFields → StationFields) (h : StationFields → StationFields) (key : List ℕ) (xs : List StationFields)
-    → ((s : StationFields) → g s ≡ cond (bytes_eq (f s).key key) (h (f s)) (f s)) → map g xs ≡ changed (map f xs) key h
-changed-map g f h key [] each_is = refl
-changed-map g f h key (x ∷ xs) each_is = λ i. each_is x i ∷ changed-map g f h key xs each_is i
 
 -- a word whose rows name a station first
 abbrev keyed_number : ℕ → Bool
@@ -273,14 +71,6 @@ keyed_number n = eqb n 6 || (eqb n 7 || (eqb n 8 || eqb n 9))
 abbrev pub is_keyed : Word → Bool
 is_keyed w = keyed_number (number_of w)
 
--- some row names a station of this key first
-abbrev pub names_key : List ℕ → List Row → Bool
-names_key key rows = list_any (λ r. is_keyed r.word && bytes_eq key (field r.fields 0)) rows
-
--- each station that rows name is stated by one of them
-abbrev pub AreKnown : List Row → Type 0
-AreKnown rows = (key : List ℕ) → station_with (said_by rows).stations key ≡ None → names_key key rows ≡ false
-
 or_left : (a b : Bool) → (a || b) ≡ false → a ≡ false
 or_left true b h = absurd cc
 or_left false b h = refl
@@ -288,6 +78,101 @@ or_left false b h = refl
 or_right : (a b : Bool) → (a || b) ≡ false → b ≡ false
 or_right true b h = absurd cc
 or_right false b h = h
+
+-- a station with one more row
+filled-push : (rows : List Row) (w : Word) (fields : List (List ℕ)) (s : StationFields) → filled (rows ++ row w fields ∷ []) s ≡ record s {
+  files = each File (of_key s.key file_in) rows ++ more w File (of_key s.key file_in) fields;
+  chans = each Chan (of_key s.key (chan_in (2 ^ s.chans_log2))) rows ++ more w Chan (of_key s.key (chan_in (2 ^ s.chans_log2))) fields;
+  clocks = each Clock (of_key s.key clock_in) rows ++ more w Clock (of_key s.key clock_in) fields;
+  polys = each Poly (of_key s.key poly_in) rows ++ more w Poly (of_key s.key poly_in) fields;
+}
+unfolding filled
+filled-push rows w fields s = λ i. record s {
+  files = each-push File (of_key s.key file_in) rows w fields i;
+  chans = each-push Chan (of_key s.key (chan_in (2 ^ s.chans_log2))) rows w fields i;
+  clocks = each-push Clock (of_key s.key clock_in) rows w fields i;
+  polys = each-push Poly (of_key s.key poly_in) rows w fields i;
+}
+
+-- a station with nothing behind each of its lists
+abbrev unfilled : List Row → StationFields → StationFields
+unfilled rows s = record (filled rows s) {
+  files = (filled rows s).files ++ [];
+  chans = (filled rows s).chans ++ [];
+  clocks = (filled rows s).clocks ++ [];
+  polys = (filled rows s).polys ++ [];
+}
+
+unfilled-is : (rows : List Row) (s : StationFields) → unfilled rows s ≡ filled rows s
+unfilled-is rows s = λ i. record (filled rows s) {
+  files = append-nil (filled rows s).files i;
+  chans = append-nil (filled rows s).chans i;
+  clocks = append-nil (filled rows s).clocks i;
+  polys = append-nil (filled rows s).polys i;
+}
+
+-- a row that names no station first says nothing of one
+filled-other : (rows : List Row) (w : Word) (fields : List (List ℕ)) (s : StationFields) → is_keyed w ≡ false → filled (rows ++ row w fields ∷ []) s ≡ filled rows s
+unfolding filled
+filled-other rows w fields s other =
+    let no_file : are_one w File ≡ false = or_left (eqb (number_of w) 6) (eqb (number_of w) 7 || (eqb (number_of w) 8 || eqb (number_of w) 9)) other in
+    let behind_file : (eqb (number_of w) 7 || (eqb (number_of w) 8 || eqb (number_of w) 9)) ≡ false = or_right (eqb (number_of w) 6) (eqb (number_of w) 7 || (eqb (number_of w) 8 || eqb (number_of w) 9)) other in
+    let no_chan : are_one w Chan ≡ false = or_left (eqb (number_of w) 7) (eqb (number_of w) 8 || eqb (number_of w) 9) behind_file in
+    let behind_chan : (eqb (number_of w) 8 || eqb (number_of w) 9) ≡ false = or_right (eqb (number_of w) 7) (eqb (number_of w) 8 || eqb (number_of w) 9) behind_file in
+    let no_clock : are_one w Clock ≡ false = or_left (eqb (number_of w) 8) (eqb (number_of w) 9) behind_chan in
+    let no_poly : are_one w Poly ≡ false = or_right (eqb (number_of w) 8) (eqb (number_of w) 9) behind_chan in
+    let unadded : filled (rows ++ row w fields ∷ []) s ≡ unfilled rows s =
+    filled-push rows w fields s ∙ (λ i. record s {
+      files = each File (of_key s.key file_in) rows ++ option_to_list (cond (no_file i) (of_key s.key file_in fields) None);
+      chans = each Chan (of_key s.key (chan_in (2 ^ s.chans_log2))) rows ++ option_to_list (cond (no_chan i) (of_key s.key (chan_in (2 ^ s.chans_log2)) fields) None);
+      clocks = each Clock (of_key s.key clock_in) rows ++ option_to_list (cond (no_clock i) (of_key s.key clock_in fields) None);
+      polys = each Poly (of_key s.key poly_in) rows ++ option_to_list (cond (no_poly i) (of_key s.key poly_in fields) None);
+    }) in
+    unadded ∙ unfilled-is rows s
+
+-- one more row that names a station first changes that station alone
+abbrev Changes : Word → (List (List ℕ) → StationFields → StationFields) → Type 0
+Changes w change = (rows : List Row) (fields : List (List ℕ)) (s : StationFields)
+    → filled (rows ++ row w fields ∷ []) s ≡ cond (bytes_eq (filled rows s).key (field fields 0)) (change fields (filled rows s)) (filled rows s)
+
+-- what is put behind one of a station's lists where the row names the station
+one-more : {A : Type 0} (rows : List Row) (s : StationFields) (names : Bool) (put : StationFields → List A → StationFields) (xs : List A) (o : Option A)
+    → put (unfilled rows s) (xs ++ option_to_list (cond names o None)) ≡ cond names (put (filled rows s) (xs ++ option_to_list o)) (put (filled rows s) xs)
+one-more {A} rows s names put xs o = (λ i. put (unfilled-is rows s i) (xs ++ option_to_list (cond names o None))) ∙ by names
+  where
+    by : (b : Bool) → put (filled rows s) (xs ++ option_to_list (cond b o None)) ≡ cond b (put (filled rows s) (xs ++ option_to_list o)) (put (filled rows s) xs)
+    by true = refl
+    by false = ap (put (filled rows s)) (append-nil xs)
+
+filled-File : Changes File with_file
+unfolding filled
+filled-File rows fields s = filled-push rows File fields s ∙ one-more rows s (bytes_eq s.key (field fields 0)) (λ t xs. record t { files = xs }) (filled rows s).files (file_in fields)
+
+filled-Chan : Changes Chan with_chan
+unfolding filled
+filled-Chan rows fields s = filled-push rows Chan fields s ∙ one-more rows s (bytes_eq s.key (field fields 0)) (λ t xs. record t { chans = xs }) (filled rows s).chans (chan_in (2 ^ s.chans_log2) fields)
+
+filled-Clock : Changes Clock with_clock
+unfolding filled
+filled-Clock rows fields s = filled-push rows Clock fields s ∙ one-more rows s (bytes_eq s.key (field fields 0)) (λ t xs. record t { clocks = xs }) (filled rows s).clocks (clock_in fields)
+
+filled-Poly : Changes Poly with_poly
+unfolding filled
+filled-Poly rows fields s = filled-push rows Poly fields s ∙ one-more rows s (bytes_eq s.key (field fields 0)) (λ t xs. record t { polys = xs }) (filled rows s).polys (poly_in fields)
+
+-- the stations with that of a key changed, one by one
+changed-map : (g f : StationFields → StationFields) (h : StationFields → StationFields) (key : List ℕ) (xs : List StationFields)
+    → ((s : StationFields) → g s ≡ cond (bytes_eq (f s).key key) (h (f s)) (f s)) → map g xs ≡ changed (map f xs) key h
+changed-map g f h key [] each_is = refl
+changed-map g f h key (x ∷ xs) each_is = λ i. each_is x i ∷ changed-map g f h key xs each_is i
+
+-- some row names a station of this key first
+abbrev pub names_key : List ℕ → List Row → Bool
+names_key key rows = list_any (λ r. is_keyed r.word && bytes_eq key (field r.fields 0)) rows
+
+-- each station that rows name is stated by one of them
+abbrev pub AreKnown : List Row → Type 0
+AreKnown rows = (key : List ℕ) → station_with (said_by rows).stations key ≡ None → names_key key rows ≡ false
 
 -- where no row names a key, the rows say nothing of its station
 none-of : {A : Type 0} (v : Word) (read : List (List ℕ) → Option A) (key : List ℕ) (rows : List Row) → is_keyed v ≡ true → names_key key rows ≡ false → each v (of_key key read) rows ≡ []
@@ -312,7 +197,7 @@ none-of {A} v read key (r ∷ rows) keyed none =
 filled-none : (rows : List Row) (s : StationFields) → names_key s.key rows ≡ false → filled rows s ≡ record s { files = []; chans = []; clocks = []; polys = [] }
 unfolding filled
 filled-none rows s none = λ i. record s {
-  files = none-of File (λ (fields : List (List ℕ)). Some (field fields 1)) s.key rows refl none i;
+  files = none-of File file_in s.key rows refl none i;
   chans = none-of Chan (chan_in (2 ^ s.chans_log2)) s.key rows refl none i;
   clocks = none-of Clock clock_in s.key rows refl none i;
   polys = none-of Poly poly_in s.key rows refl none i;
@@ -368,8 +253,8 @@ said-step : (rows : List Row) (w : Word) (fields : List (List ℕ)) → said_by 
   auto = list_any (λ r. are_one r.word Auto) rows || (are_one w Auto || false);
   rate = last (each Rate rate_in rows ++ more w Rate rate_in fields);
   stations = map (filled (rows ++ row w fields ∷ [])) (each Station station_in rows ++ more w Station station_in fields);
-  products = each Product (λ (fields' : List (List ℕ)). Some (field fields' 0, field fields' 1)) rows ++ more w Product (λ (fields' : List (List ℕ)). Some (field fields' 0, field fields' 1)) fields;
-  takes = each Take (λ (fields' : List (List ℕ)). Some (field fields' 0)) rows ++ more w Take (λ (fields' : List (List ℕ)). Some (field fields' 0)) fields;
+  products = each Product product_in rows ++ more w Product product_in fields;
+  takes = each Take take_in rows ++ more w Take take_in fields;
   scans = each Scan scan_in rows ++ more w Scan scan_in fields;
   bands = each Band band_in rows ++ more w Band band_in fields;
 }
@@ -382,242 +267,90 @@ said-step rows w fields = λ i. record {
   auto = list_any-append (λ r. are_one r.word Auto) rows (row w fields ∷ []) i;
   rate = last (each-push Rate rate_in rows w fields i);
   stations = map (filled (rows ++ row w fields ∷ [])) (each-push Station station_in rows w fields i);
-  products = each-push Product (λ (fields' : List (List ℕ)). Some (field fields' 0, field fields' 1)) rows w fields i;
-  takes = each-push Take (λ (fields' : List (List ℕ)). Some (field fields' 0)) rows w fields i;
+  products = each-push Product product_in rows w fields i;
+  takes = each-push Take take_in rows w fields i;
   scans = each-push Scan scan_in rows w fields i;
   bands = each-push Band band_in rows w fields i;
 }
 
+-- what rows say with nothing behind each part, beside these stations
+abbrev unsaid : List Row → List StationFields → Said
+unsaid rows stations = record {
+  lags = last (each Lags lags_in rows ++ []);
+  integration = last (each Integration integration_in rows ++ []);
+  epoch = last (each Epoch epoch_in rows ++ []);
+  knot = last (each Knot knot_in rows ++ []);
+  auto = list_any (λ r. are_one r.word Auto) rows || false;
+  rate = last (each Rate rate_in rows ++ []);
+  stations = stations;
+  products = each Product product_in rows ++ [];
+  takes = each Take take_in rows ++ [];
+  scans = each Scan scan_in rows ++ [];
+  bands = each Band band_in rows ++ [];
+}
+
+unsaid-is : (rows : List Row) (old new : List StationFields) → old ≡ new → unsaid rows old ≡ record (said_by rows) { stations = new }
+unfolding said_by
+unsaid-is rows old new same = λ i. record {
+  lags = last (append-nil (each Lags lags_in rows) i);
+  integration = last (append-nil (each Integration integration_in rows) i);
+  epoch = last (append-nil (each Epoch epoch_in rows) i);
+  knot = last (append-nil (each Knot knot_in rows) i);
+  auto = or_false (list_any (λ r. are_one r.word Auto) rows) i;
+  rate = last (append-nil (each Rate rate_in rows) i);
+  stations = same i;
+  products = append-nil (each Product product_in rows) i;
+  takes = append-nil (each Take take_in rows) i;
+  scans = append-nil (each Scan scan_in rows) i;
+  bands = append-nil (each Band band_in rows) i;
+}
+
+-- the stations that rows say, each with one more row
+abbrev with_row : List Row → Word → List (List ℕ) → List StationFields
+with_row rows w fields = map (filled (rows ++ row w fields ∷ [])) (each Station station_in rows ++ [])
+
+-- a row that names no station first leaves all stations
+said-other : (rows : List Row) (w : Word) (fields : List (List ℕ)) → is_keyed w ≡ false → unsaid rows (with_row rows w fields) ≡ said_by rows
+unfolding said_by
+said-other rows w fields other = unsaid-is rows (with_row rows w fields) (map (filled rows) (each Station station_in rows)) (λ i. map (λ s. filled-other rows w fields s other i) (append-nil (each Station station_in rows) i))
+
+-- a row that names a station first changes its station alone
+said-keyed : (rows : List Row) (w : Word) (fields : List (List ℕ)) (change : List (List ℕ) → StationFields → StationFields) → Changes w change
+    → unsaid rows (with_row rows w fields) ≡ record (said_by rows) { stations = changed (said_by rows).stations (field fields 0) (change fields) }
+unfolding said_by
+said-keyed rows w fields change changes =
+    unsaid-is rows (with_row rows w fields) (changed (map (filled rows) (each Station station_in rows)) (field fields 0) (change fields))
+    (ap (map (filled (rows ++ row w fields ∷ []))) (append-nil (each Station station_in rows))
+    ∙ changed-map (filled (rows ++ row w fields ∷ [])) (filled rows) (change fields) (field fields 0) (each Station station_in rows) (changes rows fields))
+
+-- a row that states a station, whose key no row before it names
+said-station : (rows : List Row) (fields : List (List ℕ)) → names_key (field fields 0) rows ≡ false
+    → map (filled (rows ++ row Station fields ∷ [])) (each Station station_in rows ++ option_to_list (station_in fields)) ≡ map (filled rows) (each Station station_in rows) ++ option_to_list (station_in fields)
+said-station rows fields none =
+    (λ i. map (λ s. filled-other rows Station fields s refl i) (each Station station_in rows ++ option_to_list (station_in fields)))
+    ∙ map-append (filled rows) (each Station station_in rows) (option_to_list (station_in fields))
+    ∙ ap (λ xs. map (filled rows) (each Station station_in rows) ++ xs) (stated rows fields (station_in fields) (station-bare fields) none)
+
 -- Behind rows that stand together, one more row without a fault adds what it says.
 pub said-push : (rows : List Row) (w : Word) (fields : List (List ℕ)) → AreKnown rows → row_fault (said_by rows) w fields ≡ None → said_by (rows ++ row w fields ∷ []) ≡ grown (said_by rows) w fields
 unfolding said_by grown row_fault
-said-push rows Lags fields known h =
-    said-step rows Lags fields ∙ (λ i. record {
-      lags = last-said (each Lags lags_in rows) (lags_in fields) (is_some (last (each Lags lags_in rows))) h i;
-      integration = last (append-nil (each Integration integration_in rows) i);
-      epoch = last (append-nil (each Epoch epoch_in rows) i);
-      knot = last (append-nil (each Knot knot_in rows) i);
-      auto = or_false (list_any (λ r. are_one r.word Auto) rows) i;
-      rate = last (append-nil (each Rate rate_in rows) i);
-      stations = map (λ s. filled-Lags rows fields s i) (append-nil (each Station station_in rows) i);
-      products = append-nil (each Product (λ (fields' : List (List ℕ)). Some (field fields' 0, field fields' 1)) rows) i;
-      takes = append-nil (each Take (λ (fields' : List (List ℕ)). Some (field fields' 0)) rows) i;
-      scans = append-nil (each Scan scan_in rows) i;
-      bands = append-nil (each Band band_in rows) i;
-    })
-said-push rows Integration fields known h =
-    said-step rows Integration fields ∙ (λ i. record {
-      lags = last (append-nil (each Lags lags_in rows) i);
-      integration = last-said (each Integration integration_in rows) (integration_in fields) (is_some (last (each Integration integration_in rows))) h i;
-      epoch = last (append-nil (each Epoch epoch_in rows) i);
-      knot = last (append-nil (each Knot knot_in rows) i);
-      auto = or_false (list_any (λ r. are_one r.word Auto) rows) i;
-      rate = last (append-nil (each Rate rate_in rows) i);
-      stations = map (λ s. filled-Integration rows fields s i) (append-nil (each Station station_in rows) i);
-      products = append-nil (each Product (λ (fields' : List (List ℕ)). Some (field fields' 0, field fields' 1)) rows) i;
-      takes = append-nil (each Take (λ (fields' : List (List ℕ)). Some (field fields' 0)) rows) i;
-      scans = append-nil (each Scan scan_in rows) i;
-      bands = append-nil (each Band band_in rows) i;
-    })
-said-push rows Epoch fields known h =
-    said-step rows Epoch fields ∙ (λ i. record {
-      lags = last (append-nil (each Lags lags_in rows) i);
-      integration = last (append-nil (each Integration integration_in rows) i);
-      epoch = last-said (each Epoch epoch_in rows) (epoch_in fields) (is_some (last (each Epoch epoch_in rows))) h i;
-      knot = last (append-nil (each Knot knot_in rows) i);
-      auto = or_false (list_any (λ r. are_one r.word Auto) rows) i;
-      rate = last (append-nil (each Rate rate_in rows) i);
-      stations = map (λ s. filled-Epoch rows fields s i) (append-nil (each Station station_in rows) i);
-      products = append-nil (each Product (λ (fields' : List (List ℕ)). Some (field fields' 0, field fields' 1)) rows) i;
-      takes = append-nil (each Take (λ (fields' : List (List ℕ)). Some (field fields' 0)) rows) i;
-      scans = append-nil (each Scan scan_in rows) i;
-      bands = append-nil (each Band band_in rows) i;
-    })
-said-push rows Knot fields known h =
-    said-step rows Knot fields ∙ (λ i. record {
-      lags = last (append-nil (each Lags lags_in rows) i);
-      integration = last (append-nil (each Integration integration_in rows) i);
-      epoch = last (append-nil (each Epoch epoch_in rows) i);
-      knot = last-said (each Knot knot_in rows) (knot_in fields) (is_some (last (each Knot knot_in rows))) h i;
-      auto = or_false (list_any (λ r. are_one r.word Auto) rows) i;
-      rate = last (append-nil (each Rate rate_in rows) i);
-      stations = map (λ s. filled-Knot rows fields s i) (append-nil (each Station station_in rows) i);
-      products = append-nil (each Product (λ (fields' : List (List ℕ)). Some (field fields' 0, field fields' 1)) rows) i;
-      takes = append-nil (each Take (λ (fields' : List (List ℕ)). Some (field fields' 0)) rows) i;
-      scans = append-nil (each Scan scan_in rows) i;
-      bands = append-nil (each Band band_in rows) i;
-    })
-said-push rows Auto fields known h =
-    said-step rows Auto fields ∙ (λ i. record {
-      lags = last (append-nil (each Lags lags_in rows) i);
-      integration = last (append-nil (each Integration integration_in rows) i);
-      epoch = last (append-nil (each Epoch epoch_in rows) i);
-      knot = last (append-nil (each Knot knot_in rows) i);
-      auto = or_true (list_any (λ r. are_one r.word Auto) rows) i;
-      rate = last (append-nil (each Rate rate_in rows) i);
-      stations = map (λ s. filled-Auto rows fields s i) (append-nil (each Station station_in rows) i);
-      products = append-nil (each Product (λ (fields' : List (List ℕ)). Some (field fields' 0, field fields' 1)) rows) i;
-      takes = append-nil (each Take (λ (fields' : List (List ℕ)). Some (field fields' 0)) rows) i;
-      scans = append-nil (each Scan scan_in rows) i;
-      bands = append-nil (each Band band_in rows) i;
-    })
+said-push rows Lags fields known h = said-step rows Lags fields ∙ (λ i. record (said-other rows Lags fields refl i) { lags = last-said Lags lags_in rows fields h i })
+said-push rows Integration fields known h = said-step rows Integration fields ∙ (λ i. record (said-other rows Integration fields refl i) { integration = last-said Integration integration_in rows fields h i })
+said-push rows Epoch fields known h = said-step rows Epoch fields ∙ (λ i. record (said-other rows Epoch fields refl i) { epoch = last-said Epoch epoch_in rows fields h i })
+said-push rows Knot fields known h = said-step rows Knot fields ∙ (λ i. record (said-other rows Knot fields refl i) { knot = last-said Knot knot_in rows fields h i })
+said-push rows Auto fields known h = said-step rows Auto fields ∙ (λ i. record (said-other rows Auto fields refl i) { auto = or_true (list_any (λ r. are_one r.word Auto) rows) i })
 said-push rows Station fields known h =
     let none : names_key (field fields 0) rows ≡ false = known (field fields 0) (none_from (station_with (said_by rows).stations (field fields 0)) (said_some (station_in fields) (is_some (station_with (said_by rows).stations (field fields 0))) h)) in
-    let stations : map (filled (rows ++ row Station fields ∷ [])) (each Station station_in rows ++ option_to_list (station_in fields)) ≡ map (filled rows) (each Station station_in rows) ++ option_to_list (station_in fields) =
-    (λ i. map (λ s. filled-Station rows fields s i) (each Station station_in rows ++ option_to_list (station_in fields)))
-    ∙ map-append (filled rows) (each Station station_in rows) (option_to_list (station_in fields))
-    ∙ ap (λ xs. map (filled rows) (each Station station_in rows) ++ xs) (stated rows fields (station_in fields) (station-bare fields) none) in
-    said-step rows Station fields ∙ (λ i. record {
-      lags = last (append-nil (each Lags lags_in rows) i);
-      integration = last (append-nil (each Integration integration_in rows) i);
-      epoch = last (append-nil (each Epoch epoch_in rows) i);
-      knot = last (append-nil (each Knot knot_in rows) i);
-      auto = or_false (list_any (λ r. are_one r.word Auto) rows) i;
-      rate = last (append-nil (each Rate rate_in rows) i);
-      stations = stations i;
-      products = append-nil (each Product (λ (fields' : List (List ℕ)). Some (field fields' 0, field fields' 1)) rows) i;
-      takes = append-nil (each Take (λ (fields' : List (List ℕ)). Some (field fields' 0)) rows) i;
-      scans = append-nil (each Scan scan_in rows) i;
-      bands = append-nil (each Band band_in rows) i;
-    })
-said-push rows File fields known h =
-    let stations : map (filled (rows ++ row File fields ∷ [])) (each Station station_in rows ++ []) ≡ changed (map (filled rows) (each Station station_in rows)) (field fields 0) (with_file fields) =
-    ap (map (filled (rows ++ row File fields ∷ []))) (append-nil (each Station station_in rows))
-    ∙ changed-map (filled (rows ++ row File fields ∷ [])) (filled rows) (with_file fields) (field fields 0) (each Station station_in rows) (filled-File rows fields) in
-    said-step rows File fields ∙ (λ i. record {
-      lags = last (append-nil (each Lags lags_in rows) i);
-      integration = last (append-nil (each Integration integration_in rows) i);
-      epoch = last (append-nil (each Epoch epoch_in rows) i);
-      knot = last (append-nil (each Knot knot_in rows) i);
-      auto = or_false (list_any (λ r. are_one r.word Auto) rows) i;
-      rate = last (append-nil (each Rate rate_in rows) i);
-      stations = stations i;
-      products = append-nil (each Product (λ (fields' : List (List ℕ)). Some (field fields' 0, field fields' 1)) rows) i;
-      takes = append-nil (each Take (λ (fields' : List (List ℕ)). Some (field fields' 0)) rows) i;
-      scans = append-nil (each Scan scan_in rows) i;
-      bands = append-nil (each Band band_in rows) i;
-    })
-said-push rows Chan fields known h =
-    let stations : map (filled (rows ++ row Chan fields ∷ [])) (each Station station_in rows ++ []) ≡ changed (map (filled rows) (each Station station_in rows)) (field fields 0) (with_chan fields) =
-    ap (map (filled (rows ++ row Chan fields ∷ []))) (append-nil (each Station station_in rows))
-    ∙ changed-map (filled (rows ++ row Chan fields ∷ [])) (filled rows) (with_chan fields) (field fields 0) (each Station station_in rows) (filled-Chan rows fields) in
-    said-step rows Chan fields ∙ (λ i. record {
-      lags = last (append-nil (each Lags lags_in rows) i);
-      integration = last (append-nil (each Integration integration_in rows) i);
-      epoch = last (append-nil (each Epoch epoch_in rows) i);
-      knot = last (append-nil (each Knot knot_in rows) i);
-      auto = or_false (list_any (λ r. are_one r.word Auto) rows) i;
-      rate = last (append-nil (each Rate rate_in rows) i);
-      stations = stations i;
-      products = append-nil (each Product (λ (fields' : List (List ℕ)). Some (field fields' 0, field fields' 1)) rows) i;
-      takes = append-nil (each Take (λ (fields' : List (List ℕ)). Some (field fields' 0)) rows) i;
-      scans = append-nil (each Scan scan_in rows) i;
-      bands = append-nil (each Band band_in rows) i;
-    })
-said-push rows Clock fields known h =
-    let stations : map (filled (rows ++ row Clock fields ∷ [])) (each Station station_in rows ++ []) ≡ changed (map (filled rows) (each Station station_in rows)) (field fields 0) (with_clock fields) =
-    ap (map (filled (rows ++ row Clock fields ∷ []))) (append-nil (each Station station_in rows))
-    ∙ changed-map (filled (rows ++ row Clock fields ∷ [])) (filled rows) (with_clock fields) (field fields 0) (each Station station_in rows) (filled-Clock rows fields) in
-    said-step rows Clock fields ∙ (λ i. record {
-      lags = last (append-nil (each Lags lags_in rows) i);
-      integration = last (append-nil (each Integration integration_in rows) i);
-      epoch = last (append-nil (each Epoch epoch_in rows) i);
-      knot = last (append-nil (each Knot knot_in rows) i);
-      auto = or_false (list_any (λ r. are_one r.word Auto) rows) i;
-      rate = last (append-nil (each Rate rate_in rows) i);
-      stations = stations i;
-      products = append-nil (each Product (λ (fields' : List (List ℕ)). Some (field fields' 0, field fields' 1)) rows) i;
-      takes = append-nil (each Take (λ (fields' : List (List ℕ)). Some (field fields' 0)) rows) i;
-      scans = append-nil (each Scan scan_in rows) i;
-      bands = append-nil (each Band band_in rows) i;
-    })
-said-push rows Poly fields known h =
-    let stations : map (filled (rows ++ row Poly fields ∷ [])) (each Station station_in rows ++ []) ≡ changed (map (filled rows) (each Station station_in rows)) (field fields 0) (with_poly fields) =
-    ap (map (filled (rows ++ row Poly fields ∷ []))) (append-nil (each Station station_in rows))
-    ∙ changed-map (filled (rows ++ row Poly fields ∷ [])) (filled rows) (with_poly fields) (field fields 0) (each Station station_in rows) (filled-Poly rows fields) in
-    said-step rows Poly fields ∙ (λ i. record {
-      lags = last (append-nil (each Lags lags_in rows) i);
-      integration = last (append-nil (each Integration integration_in rows) i);
-      epoch = last (append-nil (each Epoch epoch_in rows) i);
-      knot = last (append-nil (each Knot knot_in rows) i);
-      auto = or_false (list_any (λ r. are_one r.word Auto) rows) i;
-      rate = last (append-nil (each Rate rate_in rows) i);
-      stations = stations i;
-      products = append-nil (each Product (λ (fields' : List (List ℕ)). Some (field fields' 0, field fields' 1)) rows) i;
-      takes = append-nil (each Take (λ (fields' : List (List ℕ)). Some (field fields' 0)) rows) i;
-      scans = append-nil (each Scan scan_in rows) i;
-      bands = append-nil (each Band band_in rows) i;
-    })
-said-push rows Product fields known h =
-    said-step rows Product fields ∙ (λ i. record {
-      lags = last (append-nil (each Lags lags_in rows) i);
-      integration = last (append-nil (each Integration integration_in rows) i);
-      epoch = last (append-nil (each Epoch epoch_in rows) i);
-      knot = last (append-nil (each Knot knot_in rows) i);
-      auto = or_false (list_any (λ r. are_one r.word Auto) rows) i;
-      rate = last (append-nil (each Rate rate_in rows) i);
-      stations = map (λ s. filled-Product rows fields s i) (append-nil (each Station station_in rows) i);
-      products = each Product (λ (fields' : List (List ℕ)). Some (field fields' 0, field fields' 1)) rows ++ ((field fields 0, field fields 1) ∷ []);
-      takes = append-nil (each Take (λ (fields' : List (List ℕ)). Some (field fields' 0)) rows) i;
-      scans = append-nil (each Scan scan_in rows) i;
-      bands = append-nil (each Band band_in rows) i;
-    })
-said-push rows Take fields known h =
-    said-step rows Take fields ∙ (λ i. record {
-      lags = last (append-nil (each Lags lags_in rows) i);
-      integration = last (append-nil (each Integration integration_in rows) i);
-      epoch = last (append-nil (each Epoch epoch_in rows) i);
-      knot = last (append-nil (each Knot knot_in rows) i);
-      auto = or_false (list_any (λ r. are_one r.word Auto) rows) i;
-      rate = last (append-nil (each Rate rate_in rows) i);
-      stations = map (λ s. filled-Take rows fields s i) (append-nil (each Station station_in rows) i);
-      products = append-nil (each Product (λ (fields' : List (List ℕ)). Some (field fields' 0, field fields' 1)) rows) i;
-      takes = each Take (λ (fields' : List (List ℕ)). Some (field fields' 0)) rows ++ (field fields 0 ∷ []);
-      scans = append-nil (each Scan scan_in rows) i;
-      bands = append-nil (each Band band_in rows) i;
-    })
-said-push rows Rate fields known h =
-    said-step rows Rate fields ∙ (λ i. record {
-      lags = last (append-nil (each Lags lags_in rows) i);
-      integration = last (append-nil (each Integration integration_in rows) i);
-      epoch = last (append-nil (each Epoch epoch_in rows) i);
-      knot = last (append-nil (each Knot knot_in rows) i);
-      auto = or_false (list_any (λ r. are_one r.word Auto) rows) i;
-      rate = last-said (each Rate rate_in rows) (rate_in fields) (is_some (last (each Rate rate_in rows))) h i;
-      stations = map (λ s. filled-Rate rows fields s i) (append-nil (each Station station_in rows) i);
-      products = append-nil (each Product (λ (fields' : List (List ℕ)). Some (field fields' 0, field fields' 1)) rows) i;
-      takes = append-nil (each Take (λ (fields' : List (List ℕ)). Some (field fields' 0)) rows) i;
-      scans = append-nil (each Scan scan_in rows) i;
-      bands = append-nil (each Band band_in rows) i;
-    })
-said-push rows Scan fields known h =
-    said-step rows Scan fields ∙ (λ i. record {
-      lags = last (append-nil (each Lags lags_in rows) i);
-      integration = last (append-nil (each Integration integration_in rows) i);
-      epoch = last (append-nil (each Epoch epoch_in rows) i);
-      knot = last (append-nil (each Knot knot_in rows) i);
-      auto = or_false (list_any (λ r. are_one r.word Auto) rows) i;
-      rate = last (append-nil (each Rate rate_in rows) i);
-      stations = map (λ s. filled-Scan rows fields s i) (append-nil (each Station station_in rows) i);
-      products = append-nil (each Product (λ (fields' : List (List ℕ)). Some (field fields' 0, field fields' 1)) rows) i;
-      takes = append-nil (each Take (λ (fields' : List (List ℕ)). Some (field fields' 0)) rows) i;
-      scans = each Scan scan_in rows ++ option_to_list (scan_in fields);
-      bands = append-nil (each Band band_in rows) i;
-    })
-said-push rows Band fields known h =
-    said-step rows Band fields ∙ (λ i. record {
-      lags = last (append-nil (each Lags lags_in rows) i);
-      integration = last (append-nil (each Integration integration_in rows) i);
-      epoch = last (append-nil (each Epoch epoch_in rows) i);
-      knot = last (append-nil (each Knot knot_in rows) i);
-      auto = or_false (list_any (λ r. are_one r.word Auto) rows) i;
-      rate = last (append-nil (each Rate rate_in rows) i);
-      stations = map (λ s. filled-Band rows fields s i) (append-nil (each Station station_in rows) i);
-      products = append-nil (each Product (λ (fields' : List (List ℕ)). Some (field fields' 0, field fields' 1)) rows) i;
-      takes = append-nil (each Take (λ (fields' : List (List ℕ)). Some (field fields' 0)) rows) i;
-      scans = append-nil (each Scan scan_in rows) i;
-      bands = each Band band_in rows ++ option_to_list (band_in fields);
-    })
+    said-step rows Station fields ∙ (λ i. record (unsaid-is rows [] [] refl i) { stations = said-station rows fields none i })
+said-push rows File fields known h = said-step rows File fields ∙ said-keyed rows File fields with_file filled-File
+said-push rows Chan fields known h = said-step rows Chan fields ∙ said-keyed rows Chan fields with_chan filled-Chan
+said-push rows Clock fields known h = said-step rows Clock fields ∙ said-keyed rows Clock fields with_clock filled-Clock
+said-push rows Poly fields known h = said-step rows Poly fields ∙ said-keyed rows Poly fields with_poly filled-Poly
+said-push rows Product fields known h = said-step rows Product fields ∙ (λ i. record (said-other rows Product fields refl i) { products = each Product product_in rows ++ option_to_list (product_in fields) })
+said-push rows Take fields known h = said-step rows Take fields ∙ (λ i. record (said-other rows Take fields refl i) { takes = each Take take_in rows ++ option_to_list (take_in fields) })
+said-push rows Rate fields known h = said-step rows Rate fields ∙ (λ i. record (said-other rows Rate fields refl i) { rate = last-said Rate rate_in rows fields h i })
+said-push rows Scan fields known h = said-step rows Scan fields ∙ (λ i. record (said-other rows Scan fields refl i) { scans = each Scan scan_in rows ++ option_to_list (scan_in fields) })
+said-push rows Band fields known h = said-step rows Band fields ∙ (λ i. record (said-other rows Band fields refl i) { bands = each Band band_in rows ++ option_to_list (band_in fields) })
 
 find-append : (xs ys : List StationFields) (key : List ℕ) → station_with (xs ++ ys) key ≡ None → station_with xs key ≡ None
 find-append [] ys key h = refl

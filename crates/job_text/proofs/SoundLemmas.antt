@@ -13,7 +13,8 @@ use Rattle.job_text.specs.declared.fault.JobKind.{JobKind}
 use Rattle.job_text.specs.declared.places.ScanSpan.{ScanSpan}
 use Rattle.job_text.specs.declared.places.Band.{Band as BandPlace}
 use Rattle.job_text.specs.Ranges.{IsName, IsSpan, AreDistinct}
-use Rattle.job_text.specs.Values.{◌>>=◌, field, name_fits, whole_of, second_of, bounded, number_within, lags_in, scan_in, band_in}
+use Rattle.job_lines.specs.Values.{bounded}
+use Rattle.job_text.specs.Values.{◌>>=◌, field, name_fits, whole_of, second_of, number_within, lags_in, scan_in, band_in}
 use Rattle.job_text.specs.Said.{Said, said_by, each}
 use Rattle.job_text.specs.Faults.{double_or_range, row_fault}
 use Rattle.job_text.specs.Growing.{Takes, grown}

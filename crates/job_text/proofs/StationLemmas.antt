@@ -29,7 +29,7 @@ use Rattle.job_text.specs.Values.{field}
 use Rattle.job_text.specs.Faults.{station_with, station_fault}
 use Rattle.job_text.specs.Growing.{changed}
 use Rattle.job_text.specs.Places.{ArePlaces}
-use Rattle.job_text.proofs.EntryLemmas.{fails, differs}
+use Rattle.job_lines.proofs.SecondLemmas.{fails, differs}
 use Rattle.job_text.proofs.NameLemmas.{same_name, name_from, named-push, or_at, put-new, among-names}
 
 -- the first station of a key stands where no earlier one has it

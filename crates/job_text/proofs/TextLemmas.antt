@@ -1,43 +1,14 @@
--- The lines of a text and their fields: how many there are, and which bytes they have.
+-- The lines of a text and their fields: which bytes they have.
 use Rattle.std.proofs.Common.{◌≡◌, ◌==◌, ℕ, zero, suc, ◌+◌, ◌<◌, ◌≤◌, Bool, true, false, cond, ◌&&◌, nat_lt, List, [], ◌∷◌, length, get_or, refl, arith}
 use Rattle.std.specs.List.{All, list_all, slice_split, onto_first}
 use Rattle.std.specs.Str.{IsUtf8, IsAscii}
-use Rattle.std.specs.Str.Lines.{lines, lines_of_parts}
 use Rattle.std.proofs.lemmas.Str.{IsUtf8-from_ascii}
 use Rattle.std.proofs.lemmas.List.Elements.{All-nil, All-cons, All-head, All-tail, All-filter, All-weaker, All-get_or}
 use Rattle.std.proofs.lemmas.Bool.Decides.{nat_tests}
 use Rattle.std.proofs.lemmas.List.{get_or_past}
 use Rattle.job_lines.specs.Rows.{uncommented, is_allowed, is_clean, is_blank, fields_of}
 use Rattle.job_text.specs.Values.{field}
-
--- one byte more in the first part makes at most one line more
-single : (x : List ℕ) → length (lines_of_parts (x ∷ [])) ≤ 1
-single x = by (length x == 0)
-  where
-    by : (b : Bool) → length (cond b [] (x ∷ [])) ≤ 1
-    by true = omega arith
-    by false = omega arith
-
-first-more : (x : ℕ) (parts : List (List ℕ)) → length (lines_of_parts (onto_first x parts)) ≤ 1 + length (lines_of_parts parts)
-first-more x [] = omega (arith, single (x ∷ []))
-first-more x (y ∷ []) = omega (arith, single (x ∷ y))
-first-more x (y ∷ z ∷ more) = omega arith
-
-empty-more : (parts : List (List ℕ)) → length (lines_of_parts ([] ∷ parts)) ≤ 1 + length (lines_of_parts parts)
-empty-more [] = omega (arith, single [])
-empty-more (y ∷ more) = omega arith
-
--- there are at most as many lines as bytes
-pub length-lines : (text : List ℕ) → length (lines text) ≤ length text
-length-lines [] = omega arith
-length-lines (x ∷ xs) = by (x == 10) (length-lines xs)
-  where
-    parts : List (List ℕ)
-    parts = slice_split (λ b. b == 10) xs
-
-    by : (b : Bool) → length (lines xs) ≤ length xs → length (lines_of_parts (cond b ([] ∷ slice_split (λ b. b == 10) xs) (onto_first x (slice_split (λ b. b == 10) xs)))) ≤ length (x ∷ xs)
-    by true h = omega (arith, h, empty-more (slice_split (λ b. b == 10) xs))
-    by false h = omega (arith, h, first-more x (slice_split (λ b. b == 10) xs))
+pub use Rattle.job_lines.proofs.LineLemmas.{length-lines}
 
 abbrev are_allowed : List ℕ → Bool
 are_allowed xs = list_all is_allowed xs

@@ -1,6 +1,5 @@
 -- A whole job against the text that it is read from.
 use Rattle.std.proofs.Common.{◌≡◌, ℕ, ◌<◌, ◌≤◌, Bool, true, false, cond, not, ◌&&◌, ◌||◌, nat_lt, List, [], ◌∷◌, length, map, Option, Some, None, Ok, is_some, ok_or, filter_map, refl, sym, ap, subst, ◌∙◌, arith}
-use Rattle.std.specs.Prelude.{unwrap_or}
 use Rattle.std.proofs.lemmas.List.{length-map}
 use Rattle.std.specs.List.{cons_option}
 use Rattle.std.specs.Str.Lines.{lines}
@@ -14,6 +13,7 @@ use Rattle.job_text.specs.declared.fault.JobKind.TheVariants.{Missing}
 use Rattle.job_text.specs.Job.{JobFields}
 use Rattle.job_text.specs.Values.{◌>>=◌, station_in, scan_in}
 use Rattle.job_text.specs.Said.{Said, said_by, each, filled}
+use Rattle.job_text.specs.Numbers.{job_from}
 use Rattle.job_text.specs.Answer.{faults_behind, first_fault, rows_in, is_whole, job_by, job_in, answer_behind}
 use Rattle.job_text.proofs.TextLemmas.{length-lines, both_left, both_right}
 
@@ -62,18 +62,15 @@ job-parts : (inline : Bool) (said : Said) (job : JobFields) → job_by inline sa
 unfolding job_by
 job-parts inline said job h = by said.lags said.integration said.epoch (is_whole inline said) refl h
   where
-    whole : ℕ → ℕ → ℕ → JobFields
-    whole lags integration epoch = record { lags = lags; integration = integration; epoch = epoch; knot = unwrap_or said.knot 32768; auto = said.auto; rate = said.rate; stations = said.stations; products = said.products; takes = said.takes; scans = said.scans; bands = said.bands }
-
     by : (a b c : Option ℕ) (w : Bool) → is_whole inline said ≡ w
-        → (a >>= λ lags. b >>= λ integration. c >>= λ epoch. cond w (Some (record { lags = lags; integration = integration; epoch = epoch; knot = unwrap_or said.knot 32768; auto = said.auto; rate = said.rate; stations = said.stations; products = said.products; takes = said.takes; scans = said.scans; bands = said.bands })) None) ≡ Some job
+        → (a >>= λ lags. b >>= λ integration. c >>= λ epoch. cond w (Some (job_from said (record { lags = lags; integration = integration; epoch = epoch }))) None) ≡ Some job
         → HasParts inline said job
     by None b c w e h = absurd cc
     by (Some x) None c w e h = absurd cc
     by (Some x) (Some y) None w e h = absurd cc
     by (Some x) (Some y) (Some z) false e h = absurd cc
     by (Some x) (Some y) (Some z) true e h =
-        let same : record { lags = x; integration = y; epoch = z; knot = unwrap_or said.knot 32768; auto = said.auto; rate = said.rate; stations = said.stations; products = said.products; takes = said.takes; scans = said.scans; bands = said.bands } ≡ job = cc in
+        let same : job_from said (record { lags = x; integration = y; epoch = z }) ≡ job = cc in
         subst (λ (j : JobFields). HasParts inline said j) same (record { scans = refl; stations = refl; own = own_scans inline said e })
 
 read-parts : (inline : Bool) (said : Said) (fault : Option JobFault) (job : JobFields) → answer_behind fault (job_by inline said) ≡ Ok job → HasParts inline said job

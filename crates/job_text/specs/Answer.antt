@@ -1,6 +1,6 @@
 -- The job of a text, or the first fault.
 use Rattle.read_steps.specs.Steps as steps
-use Rattle.std.specs.Prelude.{◌≡◌, ◌⊎◌, ℕ, ◌+◌, Bool, ◌&&◌, ◌||◌, not, nat_lt, if◌then◌else◌, is_some, List, [], ◌∷◌, ◌++◌, length, filter_map, option_to_list, Option, Some, None, unwrap_or, ok_or, Result, Ok, Err}
+use Rattle.std.specs.Prelude.{◌≡◌, ◌⊎◌, ℕ, ◌+◌, Bool, ◌&&◌, ◌||◌, not, nat_lt, if◌then◌else◌, is_some, List, [], ◌∷◌, ◌++◌, length, filter_map, option_to_list, Option, Some, None, ok_or, Result, Ok, Err}
 use Rattle.std.specs.Str.Lines.{lines}
 use Rattle.job_lines.specs.Rows.{Row, row_of}
 use Rattle.job_text.specs.declared.fault.JobKind.{JobKind}
@@ -10,6 +10,7 @@ use Rattle.job_text.specs.Job.{JobFields}
 use Rattle.job_text.specs.Said.{Said, said_by}
 use Rattle.job_text.specs.Values.{◌>>=◌}
 use Rattle.job_text.specs.Faults.{line_fault}
+use Rattle.job_text.specs.Numbers.{job_from}
 
 -- the fault of each line, by the rows of those before it
 abbrev pub faults_behind : Bool → List Row → List (List ℕ) → List (Option JobKind)
@@ -36,19 +37,7 @@ job_by inline said = do
   lags ← said.lags
   integration ← said.integration
   epoch ← said.epoch
-  if is_whole inline said then Some (record {
-    lags = lags;
-    integration = integration;
-    epoch = epoch;
-    knot = unwrap_or said.knot 32768;
-    auto = said.auto;
-    rate = said.rate;
-    stations = said.stations;
-    products = said.products;
-    takes = said.takes;
-    scans = said.scans;
-    bands = said.bands;
-  }) else None
+  if is_whole inline said then Some (job_from said (record { lags = lags; integration = integration; epoch = epoch })) else None
 
 -- the rows of a text
 abbrev pub rows_in : List (List ℕ) → List Row

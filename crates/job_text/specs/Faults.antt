@@ -8,6 +8,8 @@ use Rattle.job_lines.specs.Words.{word_of, is_inline, needed, further, are_writt
 use Rattle.job_lines.specs.Rows.{is_clean, fields_of}
 use Rattle.job_lines.specs.declared.word.Word.{Word}
 use Rattle.job_lines.specs.declared.word.Word.TheVariants.{Lags, Integration, Epoch, Knot, Auto, Station, File, Chan, Clock, Poly, Product, Take, Rate, Scan, Band}
+use Rattle.job_text.specs.declared.part.Part.{Part}
+use Rattle.job_text.specs.declared.part.Part.TheVariants.{File as FilePart, Chan as ChanPart, Clock as ClockPart, Poly as PolyPart}
 use Rattle.job_text.specs.declared.fault.JobKind.{JobKind}
 use Rattle.job_text.specs.declared.fault.JobKind.TheVariants.{Line, Double, Unknown, Range}
 use Rattle.job_text.specs.Job.{StationFields}
@@ -46,6 +48,13 @@ clock_fault fields s = double_or_range (is_taken (λ e. e.second) (second_of (fi
 
 unfoldable pub poly_fault : List (List ℕ) → StationFields → Option JobKind
 poly_fault fields s = double_or_range (is_taken (λ e. e.second) (second_of (field fields 1)) s.polys) (poly_in fields)
+
+-- the fault of a line behind a station's others, by what it states
+abbrev pub part_fault : Part → List (List ℕ) → StationFields → Option JobKind
+part_fault FilePart fields = λ s. None
+part_fault ChanPart fields = chan_fault fields
+part_fault ClockPart fields = clock_fault fields
+part_fault PolyPart fields = poly_fault fields
 
 -- the fault of a line that names a station first, which no line may have stated
 abbrev pub station_fault : List StationFields → List (List ℕ) → (StationFields → Option JobKind) → Option JobKind

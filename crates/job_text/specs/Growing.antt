@@ -3,6 +3,8 @@ use Rattle.std.specs.Prelude.{◌≡◌, ◌⊎◌, ℕ, ◌^◌, true, List, []
 use Rattle.job_lines.specs.Rows.{Row}
 use Rattle.job_lines.specs.declared.word.Word.{Word}
 use Rattle.job_lines.specs.declared.word.Word.TheVariants.{Lags, Integration, Epoch, Knot, Auto, Station, File, Chan, Clock, Poly, Product, Take, Rate, Scan, Band}
+use Rattle.job_text.specs.declared.part.Part.{Part}
+use Rattle.job_text.specs.declared.part.Part.TheVariants.{File as FilePart, Chan as ChanPart, Clock as ClockPart, Poly as PolyPart}
 use Rattle.job_text.specs.declared.fault.JobKind.{JobKind}
 use Rattle.job_text.specs.declared.fault.JobKind.TheVariants.{Memory}
 use Rattle.job_text.specs.declared.fault.JobFault.{JobFault}
@@ -26,6 +28,19 @@ with_clock fields s = record s { clocks = s.clocks ++ option_to_list (clock_in f
 
 abbrev pub with_poly : List (List ℕ) → StationFields → StationFields
 with_poly fields s = record s { polys = s.polys ++ option_to_list (poly_in fields) }
+
+-- the word of the lines that state a part, and a station with what such a line says
+abbrev pub word_for : Part → Word
+word_for FilePart = File
+word_for ChanPart = Chan
+word_for ClockPart = Clock
+word_for PolyPart = Poly
+
+abbrev pub with_part : Part → List (List ℕ) → StationFields → StationFields
+with_part FilePart fields = with_file fields
+with_part ChanPart fields = with_chan fields
+with_part ClockPart fields = with_clock fields
+with_part PolyPart fields = with_poly fields
 
 -- a thing under its name
 abbrev pub under : {A : Type 0} → List ℕ → Option A → Option (List ℕ × A)

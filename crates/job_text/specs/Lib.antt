@@ -1,4 +1,5 @@
 pub mod Job
+pub mod Shown
 pub mod Ranges
 pub mod Values
 pub mod Said

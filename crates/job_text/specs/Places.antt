@@ -1,7 +1,9 @@
 -- The places of stations by their keys.
 use Rattle.std.specs.Prelude.{◌≡◌, ℕ, ◌<◌, List, length, slice_index_or, Some, is_some}
 use Rattle.std.specs.List.{All}
-use Rattle.named_list.specs.Named.{named}
+use Rattle.named_list.specs.Named.{named, put}
+use Rattle.job_text.specs.declared.part.Part.{Part}
+use Rattle.job_text.specs.declared.part.Part.TheVariants.{File, Chan, Clock, Poly}
 use Rattle.job_text.specs.Job.{StationFields}
 use Rattle.job_text.specs.Ranges.{IsStationOf}
 use Rattle.job_text.specs.Faults.{has_channel}
@@ -17,3 +19,10 @@ pub record AreIndexed {T : Type 0} (stations : List StationFields) (places : Lis
   pub at_places : ArePlaces stations places
   pub each : All IsStationOf stations
   pub has_names : (name : List ℕ) → is_some (named channels name) ≡ has_channel stations name
+
+-- the names of channels with that of a line, where it states a channel
+abbrev pub with_name : {T : Type 0} → Part → List ℕ → T → List (List ℕ × T) → List (List ℕ × T)
+with_name Chan name thing channels = put channels name thing
+with_name File name thing channels = channels
+with_name Clock name thing channels = channels
+with_name Poly name thing channels = channels

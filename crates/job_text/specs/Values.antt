@@ -1,40 +1,15 @@
 -- What the fields behind a word say, none where they say nothing that is in its range.
-use Rattle.std.specs.Prelude.{ℕ, ◌+◌, ◌-◌, ◌*◌, ◌%◌, ◌^◌, ℤ, pos, negsuc, unsigned_abs, Bool, ◌&&◌, ◌==◌, nat_lt, nat_le, if◌then◌else◌, List, [], ◌∷◌, length, drop, slice_index_or, codes, bytes_eq, Option, Some, None, option_and_then}
-use Rattle.std.specs.Result.{result_ok}
-use Rattle.num_time.specs.Numerals.{decimal_of}
-use Rattle.num_time.specs.Times.{vex_second_of}
+use Rattle.std.specs.Prelude.{ℕ, ◌+◌, ◌-◌, ◌*◌, ◌%◌, ◌^◌, unsigned_abs, Bool, ◌&&◌, ◌==◌, nat_lt, nat_le, if◌then◌else◌, List, [], length, drop, codes, bytes_eq, Option, Some, None}
 use Rattle.vdif_frame.specs.Shape.{head_bytes}
-use Rattle.delay_poly.specs.Nested.{magnitude}
 use Rattle.delay_poly.specs.declared.entry.PolyEntry.{PolyEntry}
 use Rattle.station_clock.specs.declared.entry.ClockEntry.{ClockEntry}
 use Rattle.job_text.specs.declared.places.ChanPlace.{ChanPlace}
 use Rattle.job_text.specs.declared.places.ScanSpan.{ScanSpan}
 use Rattle.job_text.specs.declared.places.Band.{Band}
 use Rattle.job_text.specs.Job.{StationFields}
-
-infixl 10 ◌>>=◌
-abbrev pub ◌>>=◌ : {A B : Type 0} → Option A → (A → Option B) → Option B
-o >>= f = option_and_then f o
-
--- a field by its place behind the word, counted from 0; one that is not there is empty
-abbrev pub field : List (List ℕ) → ℕ → List ℕ
-field fields i = slice_index_or fields i []
-
--- the whole number that a text says, and the second that a time names
-unfoldable pub whole_of : List ℕ → Option ℤ
-whole_of text = result_ok (decimal_of text 0)
-
-unfoldable pub second_of : List ℕ → Option ℤ
-second_of text = result_ok (vex_second_of text)
-
--- a number as one from low to high
-abbrev pub bounded : ℕ → ℕ → ℤ → Option ℕ
-bounded low high (pos n) = if nat_le low n && nat_le n high then Some n else None
-bounded low high (negsuc n) = None
-
--- a text that says a whole number from low to high
-unfoldable pub number_within : ℕ → ℕ → List ℕ → Option ℕ
-number_within low high text = whole_of text >>= bounded low high
+use Rattle.job_lines.specs.Values.{poly_from}
+pub use Rattle.job_lines.specs.Values.{◌>>=◌, field}
+unfoldable pub use Rattle.job_lines.specs.Values.{whole_of, second_of, number_within}
 
 -- a name that the records can hold
 abbrev pub name_fits : List ℕ → Bool
@@ -118,23 +93,9 @@ clock_in fields = do
   if nat_lt (unsigned_abs c0) (2 ^ 57) && nat_lt (unsigned_abs c1) (2 ^ 25)
       then Some (record { second = second; c0 = c0; c1 = c1 }) else None
 
--- the whole numbers that some texts say, none where one says none
-abbrev pub wholes_of : List (List ℕ) → Option (List ℤ)
-wholes_of [] = Some []
-wholes_of (text ∷ texts) = do
-  n ← whole_of text
-  more ← wholes_of texts
-  Some (n ∷ more)
-
--- one to six coefficients, whose magnitudes together are below 2 ^ 58
-abbrev pub is_poly : List ℤ → Bool
-is_poly coeffs = nat_lt 0 (length coeffs) && (nat_le (length coeffs) 6 && nat_lt (magnitude coeffs) (2 ^ 58))
-
+-- the polynomial from a time on
 unfoldable pub poly_in : List (List ℕ) → Option PolyEntry
-poly_in fields = do
-  second ← second_of (field fields 1)
-  coeffs ← wholes_of (drop 2 fields)
-  if is_poly coeffs then Some (record { second = second; poly = coeffs }) else None
+poly_in fields = poly_from (field fields 1) (drop 2 fields)
 
 -- a scan and its span
 unfoldable pub scan_in : List (List ℕ) → Option (List ℕ × ScanSpan)

@@ -1,19 +1,21 @@
 //! What the lines of a job so far say.
-ghost use Rattle.std.specs.Prelude.{◌≡◌, ◌&&◌, true, ◌++◌, [], map, is_some, IfSome, OnOk, option_map, option_to_list};
+ghost use Rattle.std.specs.Prelude.{◌≡◌, ◌&&◌, true, ◌++◌, [], List, Option, map, is_some, IfSome, OnOk, option_map, option_to_list};
 ghost use Rattle.std.specs.{Str.{IsUtf8}, List.{All}};
 ghost use Rattle.named_list.specs.Named.{named};
-ghost use Rattle.job_lines.specs.declared.word.Word.TheVariants.{Lags, Integration, Epoch, Knot, Auto, Station, File, Chan, Clock, Poly, Product, Take, Rate, Scan, Band as BandWord};
+ghost use Rattle.job_lines.specs.declared.word.Word.TheVariants.{Auto, Station, Product, Take, Scan, Band as BandWord};
 ghost use Rattle.job_text.specs.{Ranges.{IsName, IsSpan, IsStationOf, IsJob, AreDistinct}, Values.{field, scan_in}, Said.{said_by}, Faults.{double_or_range, has_channel, row_fault}};
-ghost use Rattle.job_text.specs.{Growing.{Takes, grown, under}, Sound.{IsSaid, IsSoundRow}, Answer.{is_whole, job_by}, Numbers.{job_from}};
+ghost use Rattle.job_text.specs.{Growing.{Takes, Grows, grown, under, word_for}, Job.{StationFields}, declared.fault.JobKind.{JobKind}, Sound.{IsSaid, IsSoundRow}, Answer.{is_whole, job_by}};
+ghost use Rattle.job_text.specs.Numbers.{job_from};
 
 use crate::fault::JobKind;
 use crate::job::Job;
 use crate::numbers::Numbers;
 use crate::pairs::Pairs;
+use crate::part::Part;
 use crate::places::{Band, ScanSpan};
 use crate::stations::Stations;
-use crate::values::{band_in, epoch_in, field, integration_in, knot_in, lags_in, rate_in, scan_in};
-use job_lines::Word;
+use crate::values::{band_in, epoch_in, integration_in, knot_in, lags_in, rate_in, scan_in};
+use job_lines::{Word, field};
 use named_list::Named;
 use std::alloc::Global;
 use std::marker::Model;
@@ -36,24 +38,11 @@ pub(crate) struct Draft {
 }
 
 impl Model for Draft {
-    ghost use Rattle.named_list.specs.Named.{names};
-    ghost use Rattle.job_text.specs.Said.{Said};
+    ghost use Rattle.job_text.specs.{Said.{Said}, Shown.{draft_shown}};
 
     ghost Value = { Said };
 
-    ghost view = { λ draft. record {
-      lags = draft.lags;
-      integration = draft.integration;
-      epoch = draft.epoch;
-      knot = draft.knot;
-      auto = draft.auto;
-      rate = draft.rate;
-      stations = draft.stations;
-      products = draft.products;
-      takes = names draft.takes;
-      scans = draft.scans;
-      bands = draft.bands;
-    } };
+    ghost view = { draft_shown };
 }
 
 // Takes what may be stated only once.
@@ -90,11 +79,12 @@ fn take_named<T: Drop>(
     Ok(())
 }
 
-// Puts something in the place of what stands there.
-fn put_back<T: Drop>(place: &mut T, thing: T)
-    ensures { place.new ≡ thing }
+// Puts the stations that took a line in their place.
+fn put_back(place: &mut Stations, taken: Result<Stations, JobKind>) -> Result<(), JobKind>
+    ensures { (fault : Option JobKind) (grown : List StationFields) → Grows fault grown taken → Takes fault grown result place.new }
 {
-    *place = thing;
+    *place = taken?;
+    Ok(())
 }
 
 // Whether stations have channels of two names.
@@ -124,36 +114,6 @@ impl Draft {
             scans: Named::new(alloc),
             bands: Named::new(alloc),
         }
-    }
-
-    fn take_lags(&mut self, fields: &[&[u8]]) -> Result<(), JobKind>
-        ensures { Takes (row_fault self.old Lags (map (λ field. field.now) fields.now)) (grown self.old Lags (map (λ field. field.now) fields.now)) result self.new }
-    {
-        take_once(&mut self.lags, lags_in(fields))
-    }
-
-    fn take_integration(&mut self, fields: &[&[u8]]) -> Result<(), JobKind>
-        ensures { Takes (row_fault self.old Integration (map (λ field. field.now) fields.now)) (grown self.old Integration (map (λ field. field.now) fields.now)) result self.new }
-    {
-        take_once(&mut self.integration, integration_in(fields))
-    }
-
-    fn take_epoch(&mut self, fields: &[&[u8]]) -> Result<(), JobKind>
-        ensures { Takes (row_fault self.old Epoch (map (λ field. field.now) fields.now)) (grown self.old Epoch (map (λ field. field.now) fields.now)) result self.new }
-    {
-        take_once(&mut self.epoch, epoch_in(fields))
-    }
-
-    fn take_knot(&mut self, fields: &[&[u8]]) -> Result<(), JobKind>
-        ensures { Takes (row_fault self.old Knot (map (λ field. field.now) fields.now)) (grown self.old Knot (map (λ field. field.now) fields.now)) result self.new }
-    {
-        take_once(&mut self.knot, knot_in(fields))
-    }
-
-    fn take_rate(&mut self, fields: &[&[u8]]) -> Result<(), JobKind>
-        ensures { Takes (row_fault self.old Rate (map (λ field. field.now) fields.now)) (grown self.old Rate (map (λ field. field.now) fields.now)) result self.new }
-    {
-        take_once(&mut self.rate, rate_in(fields))
     }
 
     fn take_auto(&mut self) -> Result<(), JobKind>
@@ -208,46 +168,15 @@ impl Draft {
         ensures { Takes (row_fault self.old Station (map (λ field. field.now) fields.now)) (grown self.old Station (map (λ field. field.now) fields.now)) result self.new }
     {
         let stations = mem::replace(&mut self.stations, Stations::new(alloc));
-        let stations = stations.take_station(alloc, fields)?;
-        put_back(&mut self.stations, stations);
-        Ok(())
+        put_back(&mut self.stations, stations.take_station(alloc, fields))
     }
 
-    fn take_file(&mut self, alloc: Global, fields: &[&[u8]]) -> Result<(), JobKind>
+    fn take_part(&mut self, alloc: Global, part: Part, fields: &[&[u8]]) -> Result<(), JobKind>
         requires { IsUtf8 (field (map (λ field. field.now) fields.now) 1) }
-        ensures { Takes (row_fault self.old File (map (λ field. field.now) fields.now)) (grown self.old File (map (λ field. field.now) fields.now)) result self.new }
+        ensures { Takes (row_fault self.old (word_for part) (map (λ field. field.now) fields.now)) (grown self.old (word_for part) (map (λ field. field.now) fields.now)) result self.new }
     {
         let stations = mem::replace(&mut self.stations, Stations::new(alloc));
-        let stations = stations.take_file(alloc, fields)?;
-        put_back(&mut self.stations, stations);
-        Ok(())
-    }
-
-    fn take_chan(&mut self, alloc: Global, fields: &[&[u8]]) -> Result<(), JobKind>
-        ensures { Takes (row_fault self.old Chan (map (λ field. field.now) fields.now)) (grown self.old Chan (map (λ field. field.now) fields.now)) result self.new }
-    {
-        let stations = mem::replace(&mut self.stations, Stations::new(alloc));
-        let stations = stations.take_chan(alloc, fields)?;
-        put_back(&mut self.stations, stations);
-        Ok(())
-    }
-
-    fn take_clock(&mut self, alloc: Global, fields: &[&[u8]]) -> Result<(), JobKind>
-        ensures { Takes (row_fault self.old Clock (map (λ field. field.now) fields.now)) (grown self.old Clock (map (λ field. field.now) fields.now)) result self.new }
-    {
-        let stations = mem::replace(&mut self.stations, Stations::new(alloc));
-        let stations = stations.take_clock(fields)?;
-        put_back(&mut self.stations, stations);
-        Ok(())
-    }
-
-    fn take_poly(&mut self, alloc: Global, fields: &[&[u8]]) -> Result<(), JobKind>
-        ensures { Takes (row_fault self.old Poly (map (λ field. field.now) fields.now)) (grown self.old Poly (map (λ field. field.now) fields.now)) result self.new }
-    {
-        let stations = mem::replace(&mut self.stations, Stations::new(alloc));
-        let stations = stations.take_poly(alloc, fields)?;
-        put_back(&mut self.stations, stations);
-        Ok(())
+        put_back(&mut self.stations, stations.take_part(alloc, part, fields))
     }
 
     /// Takes the fields behind a word.
@@ -262,19 +191,19 @@ impl Draft {
         ensures sound { OnOk result (IsSoundRow word (map (λ field. field.now) fields.now)) }
     {
         match word {
-            Word::Lags => self.take_lags(fields),
-            Word::Integration => self.take_integration(fields),
-            Word::Epoch => self.take_epoch(fields),
-            Word::Knot => self.take_knot(fields),
+            Word::Lags => take_once(&mut self.lags, lags_in(fields)),
+            Word::Integration => take_once(&mut self.integration, integration_in(fields)),
+            Word::Epoch => take_once(&mut self.epoch, epoch_in(fields)),
+            Word::Knot => take_once(&mut self.knot, knot_in(fields)),
             Word::Auto => self.take_auto(),
             Word::Station => self.take_station(alloc, fields),
-            Word::File => self.take_file(alloc, fields),
-            Word::Chan => self.take_chan(alloc, fields),
-            Word::Clock => self.take_clock(alloc, fields),
-            Word::Poly => self.take_poly(alloc, fields),
+            Word::File => self.take_part(alloc, Part::File, fields),
+            Word::Chan => self.take_part(alloc, Part::Chan, fields),
+            Word::Clock => self.take_part(alloc, Part::Clock, fields),
+            Word::Poly => self.take_part(alloc, Part::Poly, fields),
             Word::Product => self.take_product(alloc, fields),
             Word::Take => self.take_take(alloc, fields),
-            Word::Rate => self.take_rate(fields),
+            Word::Rate => take_once(&mut self.rate, rate_in(fields)),
             Word::Scan => self.take_scan(alloc, fields),
             Word::Band => self.take_band(alloc, fields),
         }
@@ -316,31 +245,18 @@ impl Draft {
         requires { IsJob (job_from self numbers) }
         ensures { result ≡ job_from self numbers }
     {
-        let Draft {
-            lags: _,
-            integration: _,
-            epoch: _,
-            knot,
-            auto,
-            rate,
-            stations,
-            products,
-            takes,
-            scans,
-            bands,
-        } = self;
         Job {
             lags: numbers.lags,
             integration: numbers.integration,
             epoch: numbers.epoch,
-            knot: knot.unwrap_or(32_768),
-            auto,
-            rate,
-            stations,
-            products,
-            takes,
-            scans,
-            bands,
+            knot: self.knot.unwrap_or(32_768),
+            auto: self.auto,
+            rate: self.rate,
+            stations: self.stations,
+            products: self.products,
+            takes: self.takes,
+            scans: self.scans,
+            bands: self.bands,
         }
     }
 }

@@ -1,46 +1,35 @@
 //! Why a text has no job.
+ghost use Rattle.std.specs.Prelude.{◌≡◌};
+ghost use Rattle.job_text.specs.{KindName.{kind_name}, declared.fault.JobKind.TheVariants.{Memory}};
+
 use std::alloc::{AllocError, AllocFailed};
 use thiserror::Error;
+use variant_name::name_of;
 
 /// What is wrong.
 #[derive(Clone, Copy, Debug, PartialEq, Eq, Error)]
+#[error("{}", self.name())]
 pub enum JobKind {
     /// A byte that no text has, another number of fields, or a field that is not written as it is to be.
-    #[error("Line")]
     Line = 1,
     /// A line says again what an earlier one says.
-    #[error("Double")]
-    Double = 2,
+    Double,
     /// A line is missing.
-    #[error("Missing")]
-    Missing = 3,
+    Missing,
     /// No word of a job, or a station or a channel that no earlier line names.
-    #[error("Unknown")]
-    Unknown = 4,
+    Unknown,
     /// A number, a time or a name is out of its range.
-    #[error("Range")]
-    Range = 5,
+    Range,
     /// Out of memory.
-    #[error("Memory")]
-    Memory = 6,
+    Memory,
 }
 
 impl JobKind {
-    ghost use Rattle.std.specs.Prelude.{◌≡◌};
-    ghost use Rattle.job_text.specs.KindName.{kind_name};
-
     /// The rule's name, as it is written above.
     pub fn name(self) -> &'static str
         ensures { result.now ≡ kind_name self }
     {
-        match self {
-            JobKind::Line => "Line",
-            JobKind::Double => "Double",
-            JobKind::Missing => "Missing",
-            JobKind::Unknown => "Unknown",
-            JobKind::Range => "Range",
-            JobKind::Memory => "Memory",
-        }
+        name_of!(self: JobKind { Line, Double, Missing, Unknown, Range, Memory })
     }
 }
 
@@ -53,9 +42,6 @@ pub struct JobFault {
 }
 
 impl<T: Drop> From<AllocFailed<T>> for JobKind {
-    ghost use Rattle.std.specs.Prelude.{◌≡◌};
-    ghost use Rattle.job_text.specs.declared.fault.JobKind.TheVariants.{Memory};
-
     ghost from_gives = { λ _ kind. kind ≡ Memory };
 
     fn from(_: AllocFailed<T>) -> Self {
@@ -64,9 +50,6 @@ impl<T: Drop> From<AllocFailed<T>> for JobKind {
 }
 
 impl From<AllocError> for JobKind {
-    ghost use Rattle.std.specs.Prelude.{◌≡◌};
-    ghost use Rattle.job_text.specs.declared.fault.JobKind.TheVariants.{Memory};
-
     ghost from_gives = { λ _ kind. kind ≡ Memory };
 
     fn from(_: AllocError) -> Self {

@@ -4,7 +4,8 @@ ghost use Rattle.sample_unpack.specs.Level.{IsWidth};
 ghost use Rattle.vdif_frame.specs.Shape.{IsShape};
 ghost use Rattle.job_text.specs.{Ranges.{IsName, shape_of}, Values.{field, station_in}, Frame.{bare}};
 
-use crate::values::{field, frame_bytes_in, log2_of, name_fits, number_within, width_in};
+use crate::values::{frame_bytes_in, log2_of, name_fits, width_in};
+use job_lines::{field, number_within};
 
 /// What the line of a station says of its frames.
 #[derive(Clone, Copy)]

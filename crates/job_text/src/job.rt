@@ -26,36 +26,11 @@ pub struct Job {
 }
 
 impl Model for Job {
-    ghost use Rattle.named_list.specs.Named.{names};
-    ghost use Rattle.job_text.specs.{Job.{JobFields}, Ranges.{IsJob}};
+    ghost use Rattle.job_text.specs.{Job.{JobFields}, Ranges.{IsJob}, Shown.{job_shown}};
 
     ghost Value = { JobFields };
 
-    ghost view = { λ job. record {
-      lags = job.lags;
-      integration = job.integration;
-      epoch = job.epoch;
-      knot = job.knot;
-      auto = job.auto;
-      rate = job.rate;
-      stations = job.stations;
-      products = job.products;
-      takes = names job.takes;
-      scans = job.scans;
-      bands = job.bands;
-    } };
+    ghost view = { job_shown };
 
-    ghost invariant = { λ job. IsJob (record {
-      lags = job.lags;
-      integration = job.integration;
-      epoch = job.epoch;
-      knot = job.knot;
-      auto = job.auto;
-      rate = job.rate;
-      stations = job.stations;
-      products = job.products;
-      takes = names job.takes;
-      scans = job.scans;
-      bands = job.bands;
-    }) };
+    ghost invariant = { λ job. IsJob (job_shown job) };
 }

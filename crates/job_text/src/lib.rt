@@ -21,6 +21,7 @@ mod job;
 pub mod laws;
 mod numbers;
 mod pairs;
+mod part;
 mod places;
 mod read;
 mod rows;

@@ -1,7 +1,7 @@
 //! A station of a job.
 ghost use Rattle.std.specs.Prelude.{◌≡◌, ◌^◌, ◌≤◌, ◌++◌, ◌∷◌, [], OnOk, IfOk, IfSome, None, Some, false, map};
-ghost use Rattle.job_text.specs.{Values.{field, station_in}, Faults.{is_taken, chan_fault, clock_fault, poly_fault}, Growing.{Takes, with_file, with_chan, with_clock, with_poly}};
-ghost use Rattle.job_text.specs.{Ranges.{IsStationOf, IsChanOf}, declared.places.ChanPlace.{ChanPlace}};
+ghost use Rattle.job_text.specs.{Values.{field, station_in}, Faults.{is_taken, chan_fault, clock_fault, poly_fault, part_fault}};
+ghost use Rattle.job_text.specs.{Growing.{Takes, with_file, with_chan, with_clock, with_poly, with_part}, Ranges.{IsStationOf, IsChanOf}};
 ghost use Rattle.named_list.specs.Named.{named};
 ghost use Rattle.num_time.specs.Times.{IsSecond};
 ghost use Rattle.std.specs.Str.{IsUtf8};
@@ -10,9 +10,11 @@ ghost use Rattle.corr_model.specs.Delay.{IsClock};
 use crate::entries::{add_entry, is_taken};
 use crate::fault::JobKind;
 use crate::frame::frame_in;
+use crate::part::Part;
 use crate::places::ChanPlace;
-use crate::values::{chan_in, clock_in, field, poly_in, second_of};
+use crate::values::{chan_in, clock_in, poly_in};
 use delay_poly::{PolyEntry, PolyList};
+use job_lines::{field, second_of};
 use named_list::Named;
 use num_time::Name;
 use station_clock::{ClockEntry, ClockList};
@@ -37,35 +39,13 @@ pub struct Station {
 }
 
 impl Model for Station {
-    ghost use Rattle.job_text.specs.{Job.{StationFields}, Ranges.{IsStationOf}};
+    ghost use Rattle.job_text.specs.{Job.{StationFields}, Ranges.{IsStationOf}, Shown.{station_shown}};
 
     ghost Value = { StationFields };
 
-    ghost view = { λ s. record {
-      key = s.key;
-      id = s.id;
-      bits = s.bits;
-      chans_log2 = s.chans_log2;
-      frame_bytes = s.frame_bytes;
-      legacy = s.legacy;
-      files = s.files.items;
-      chans = s.chans;
-      clocks = s.clocks;
-      polys = s.polys;
-    } };
+    ghost view = { station_shown };
 
-    ghost invariant = { λ s. IsStationOf (record {
-      key = s.key;
-      id = s.id;
-      bits = s.bits;
-      chans_log2 = s.chans_log2;
-      frame_bytes = s.frame_bytes;
-      legacy = s.legacy;
-      files = s.files.items;
-      chans = s.chans;
-      clocks = s.clocks;
-      polys = s.polys;
-    }) };
+    ghost invariant = { λ s. IsStationOf (station_shown s) };
 }
 
 impl Station {
@@ -102,7 +82,7 @@ impl Station {
     }
 
     // Takes the line of a file.
-    pub(crate) fn take_file(&mut self, alloc: Global, fields: &[&[u8]]) -> Result<(), JobKind>
+    fn take_file(&mut self, alloc: Global, fields: &[&[u8]]) -> Result<(), JobKind>
         requires { IsUtf8 (field (map (λ field. field.now) fields.now) 1) }
         ensures taken { Takes None (with_file (map (λ field. field.now) fields.now) self.old) result self.new }
         ensures key { self.new.key ≡ self.old.key }
@@ -127,9 +107,8 @@ impl Station {
 
     // Takes the line of a channel.
     #[tactic(auto, unfolding(crate::specs::Faults::chan_fault))]
-    pub(crate) fn take_chan(&mut self, alloc: Global, fields: &[&[u8]]) -> Result<(), JobKind>
+    fn take_chan(&mut self, alloc: Global, fields: &[&[u8]]) -> Result<(), JobKind>
         ensures taken { Takes (chan_fault (map (λ field. field.now) fields.now) self.old) (with_chan (map (λ field. field.now) fields.now) self.old) result self.new }
-        ensures chan { OnOk result ((place : ChanPlace) × (self.new.chans ≡ self.old.chans ++ (field (map (λ field. field.now) fields.now) 1, place) ∷ [])) }
         ensures key { self.new.key ≡ self.old.key }
         ensures sound { OnOk result (IsStationOf self.new) }
     {
@@ -168,7 +147,7 @@ impl Station {
 
     // Takes the line of a clock entry.
     #[tactic(auto, unfolding(crate::specs::Faults::clock_fault))]
-    pub(crate) fn take_clock(&mut self, fields: &[&[u8]]) -> Result<(), JobKind>
+    fn take_clock(&mut self, fields: &[&[u8]]) -> Result<(), JobKind>
         ensures taken { Takes (clock_fault (map (λ field. field.now) fields.now) self.old) (with_clock (map (λ field. field.now) fields.now) self.old) result self.new }
         ensures key { self.new.key ≡ self.old.key }
         ensures sound { OnOk result (IsStationOf self.new) }
@@ -185,7 +164,7 @@ impl Station {
 
     // Takes the line of a polynomial.
     #[tactic(auto, unfolding(crate::specs::Faults::poly_fault))]
-    pub(crate) fn take_poly(&mut self, alloc: Global, fields: &[&[u8]]) -> Result<(), JobKind>
+    fn take_poly(&mut self, alloc: Global, fields: &[&[u8]]) -> Result<(), JobKind>
         ensures taken { Takes (poly_fault (map (λ field. field.now) fields.now) self.old) (with_poly (map (λ field. field.now) fields.now) self.old) result self.new }
         ensures key { self.new.key ≡ self.old.key }
         ensures sound { OnOk result (IsStationOf self.new) }
@@ -198,5 +177,25 @@ impl Station {
         };
         self.add_poly(entry)?;
         Ok(())
+    }
+
+    // Takes the line of a part.
+    pub(crate) fn take_part(
+        &mut self,
+        alloc: Global,
+        part: Part,
+        fields: &[&[u8]],
+    ) -> Result<(), JobKind>
+        requires { IsUtf8 (field (map (λ field. field.now) fields.now) 1) }
+        ensures taken { Takes (part_fault part (map (λ field. field.now) fields.now) self.old) (with_part part (map (λ field. field.now) fields.now) self.old) result self.new }
+        ensures key { self.new.key ≡ self.old.key }
+        ensures sound { OnOk result (IsStationOf self.new) }
+    {
+        match part {
+            Part::File => self.take_file(alloc, fields),
+            Part::Chan => self.take_chan(alloc, fields),
+            Part::Clock => self.take_clock(fields),
+            Part::Poly => self.take_poly(alloc, fields),
+        }
     }
 }

@@ -1,12 +1,13 @@
 //! The stations of a job.
-ghost use Rattle.std.specs.Prelude.{◌≡◌, ◌≢◌, ◌<◌, ◌++◌, ◌∷◌, [], length, map, slice_get, None, IfSome, IfNone, IfOk, AllPairs, is_some, option_to_list, true};
+ghost use Rattle.std.specs.Prelude.{◌≡◌, ◌≢◌, ◌<◌, ◌++◌, ◌∷◌, [], length, map, slice_get, None, IfSome, IfNone, IfOk, OnOk, AllPairs, is_some, option_to_list, true};
 ghost use Rattle.std.specs.{List.{All}, Str.{IsUtf8}};
-ghost use Rattle.job_text.specs.{Ranges.{IsName, IsStationOf}, Values.{field, station_in}, Faults.{station_with, has_channel, station_fault, double_or_range, chan_fault, clock_fault, poly_fault}};
-ghost use Rattle.job_text.specs.Growing.{Grows, changed, with_file, with_chan, with_clock, with_poly};
+ghost use Rattle.job_text.specs.{Ranges.{IsName, IsStationOf}, Values.{field, station_in}, Faults.{station_with, has_channel, station_fault, double_or_range, part_fault}};
+ghost use Rattle.job_text.specs.{Growing.{Grows, changed, with_part}, Places.{with_name}};
 
 use crate::fault::JobKind;
+use crate::part::Part;
 use crate::station::Station;
-use crate::values::field;
+use job_lines::field;
 use named_list::Named;
 use std::alloc::{AllocError, Global};
 use std::marker::Model;
@@ -28,6 +29,21 @@ impl Model for Stations {
     ghost view = { λ stations. stations.list.items };
 
     ghost invariant = { λ stations. AreIndexed stations.list.items stations.places stations.channels };
+}
+
+// Puts the name of a line that states a channel among those of the channels.
+fn put_name(
+    alloc: Global,
+    channels: &mut Named<()>,
+    part: Part,
+    name: &[u8],
+) -> Result<(), AllocError>
+    ensures { OnOk result (channels.new ≡ with_name part name.now tt channels.old) }
+{
+    if let Part::Chan = part {
+        channels.put(alloc, name, ())?;
+    }
+    Ok(())
 }
 
 impl Stations {
@@ -103,32 +119,16 @@ impl Stations {
         Ok(self.add(alloc, station)?)
     }
 
-    // Takes the line of a file.
-    pub(crate) fn take_file(self, alloc: Global, fields: &[&[u8]]) -> Result<Self, JobKind>
+    // Takes the line of a station's part.
+    pub(crate) fn take_part(
+        self,
+        alloc: Global,
+        part: Part,
+        fields: &[&[u8]],
+    ) -> Result<Self, JobKind>
         requires { IsUtf8 (field (map (λ field. field.now) fields.now) 1) }
-        ensures { Grows (station_fault self (map (λ field. field.now) fields.now) (λ s. None))
-            (changed self (field (map (λ field. field.now) fields.now) 0) (with_file (map (λ field. field.now) fields.now))) result }
-    {
-        let Some(i) = self.place(field(fields, 0)) else {
-            return Err(JobKind::Unknown);
-        };
-        let Stations {
-            mut list,
-            places,
-            channels,
-        } = self;
-        list[i].take_file(alloc, fields)?;
-        Ok(Stations {
-            list,
-            places,
-            channels,
-        })
-    }
-
-    // Takes the line of a channel.
-    pub(crate) fn take_chan(self, alloc: Global, fields: &[&[u8]]) -> Result<Self, JobKind>
-        ensures { Grows (station_fault self (map (λ field. field.now) fields.now) (chan_fault (map (λ field. field.now) fields.now)))
-            (changed self (field (map (λ field. field.now) fields.now) 0) (with_chan (map (λ field. field.now) fields.now))) result }
+        ensures { Grows (station_fault self (map (λ field. field.now) fields.now) (part_fault part (map (λ field. field.now) fields.now)))
+            (changed self (field (map (λ field. field.now) fields.now) 0) (with_part part (map (λ field. field.now) fields.now))) result }
     {
         let Some(i) = self.place(field(fields, 0)) else {
             return Err(JobKind::Unknown);
@@ -138,50 +138,8 @@ impl Stations {
             places,
             mut channels,
         } = self;
-        list[i].take_chan(alloc, fields)?;
-        channels.put(alloc, field(fields, 1), ())?;
-        Ok(Stations {
-            list,
-            places,
-            channels,
-        })
-    }
-
-    // Takes the line of a clock entry.
-    pub(crate) fn take_clock(self, fields: &[&[u8]]) -> Result<Self, JobKind>
-        ensures { Grows (station_fault self (map (λ field. field.now) fields.now) (clock_fault (map (λ field. field.now) fields.now)))
-            (changed self (field (map (λ field. field.now) fields.now) 0) (with_clock (map (λ field. field.now) fields.now))) result }
-    {
-        let Some(i) = self.place(field(fields, 0)) else {
-            return Err(JobKind::Unknown);
-        };
-        let Stations {
-            mut list,
-            places,
-            channels,
-        } = self;
-        list[i].take_clock(fields)?;
-        Ok(Stations {
-            list,
-            places,
-            channels,
-        })
-    }
-
-    // Takes the line of a polynomial.
-    pub(crate) fn take_poly(self, alloc: Global, fields: &[&[u8]]) -> Result<Self, JobKind>
-        ensures { Grows (station_fault self (map (λ field. field.now) fields.now) (poly_fault (map (λ field. field.now) fields.now)))
-            (changed self (field (map (λ field. field.now) fields.now) 0) (with_poly (map (λ field. field.now) fields.now))) result }
-    {
-        let Some(i) = self.place(field(fields, 0)) else {
-            return Err(JobKind::Unknown);
-        };
-        let Stations {
-            mut list,
-            places,
-            channels,
-        } = self;
-        list[i].take_poly(alloc, fields)?;
+        list[i].take_part(alloc, part, fields)?;
+        put_name(alloc, &mut channels, part, field(fields, 1))?;
         Ok(Stations {
             list,
             places,

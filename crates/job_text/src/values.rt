@@ -1,68 +1,18 @@
 //! What the fields behind a word say.
-ghost use Rattle.std.specs.Prelude.{◌≡◌, ◌≤◌, ◌<◌, ◌-◌, ◌*◌, ◌%◌, ◌^◌, ◌+◌, ◌++◌, map, length, drop, IfSome, IfOk, option_map, Some, true};
+ghost use Rattle.std.specs.Prelude.{◌≡◌, ◌≤◌, ◌<◌, ◌-◌, ◌*◌, ◌%◌, ◌^◌, ◌+◌, ◌++◌, map, length, IfSome, IfOk, option_map, Some, true};
 ghost use Rattle.corr_model.specs.Delay.{IsClock};
 ghost use Rattle.job_text.specs.Ranges.{IsName, IsSpan};
-ghost use Rattle.job_text.specs.Values.{field, whole_of, second_of, bounded, number_within, name_fits, chan_in, lags_in, integration_in, epoch_in, knot_in, rate_in, log2_of, width_of, width_in, frame_bytes_in, clock_in, wholes_of, poly_in, scan_in, band_in};
+ghost use Rattle.job_lines.specs.Values.{field, second_of};
+ghost use Rattle.job_text.specs.Values.{name_fits, chan_in, lags_in, integration_in, epoch_in, knot_in, rate_in, log2_of, width_of, width_in, frame_bytes_in, clock_in, poly_in, scan_in, band_in};
 ghost use Rattle.num_time.specs.Times.{IsSecond};
 ghost use Rattle.sample_unpack.specs.Level.{IsWidth};
 ghost use Rattle.vdif_frame.specs.Shape.{head_bytes};
 
 use crate::places::{Band, ChanPlace, ScanSpan};
-use delay_poly::{Poly, PolyEntry};
-use num_time::{decimal, vex_second};
+use delay_poly::PolyEntry;
+use job_lines::{behind, field, number_within, poly_from, second_of, whole_of};
 use station_clock::ClockEntry;
 use std::alloc::{AllocError, Global};
-
-/// A field by its place behind the word, counted from 0; one that is not there is empty.
-pub(crate) fn field<'a>(fields: &[&'a [u8]], i: usize) -> &'a [u8]
-    ensures { result.now ≡ field (map (λ field. field.now) fields.now) i }
-{
-    match fields.get(i) {
-        Some(field) => field,
-        None => &[],
-    }
-}
-
-/// The whole number that a text says.
-#[tactic(auto, unfolding(crate::specs::Values::whole_of))]
-pub(crate) fn whole_of(text: &[u8]) -> Option<i64>
-    ensures { result ≡ whole_of text.now }
-{
-    decimal(text, 0).ok()
-}
-
-/// The second that a time names.
-#[tactic(auto, unfolding(crate::specs::Values::second_of))]
-pub(crate) fn second_of(text: &[u8]) -> Option<i64>
-    ensures value { result ≡ second_of text.now }
-    ensures years { IfSome result IsSecond }
-{
-    vex_second(text).ok()
-}
-
-fn bounded(low: u64, high: u64, number: i64) -> Option<u64>
-    ensures value { result ≡ bounded low high number }
-    ensures range { IfSome result (λ n. (low ≤ n) × (n ≤ high)) }
-{
-    if number < 0 {
-        return None;
-    }
-    let number = number as u64;
-    if low <= number && number <= high {
-        Some(number)
-    } else {
-        None
-    }
-}
-
-/// A text that says a whole number from `low` to `high`.
-#[tactic(auto, unfolding(crate::specs::Values::number_within))]
-pub(crate) fn number_within(low: u64, high: u64, text: &[u8]) -> Option<u64>
-    ensures value { result ≡ number_within low high text.now }
-    ensures range { IfSome result (λ n. (low ≤ n) × (n ≤ high)) }
-{
-    bounded(low, high, whole_of(text)?)
-}
 
 /// Whether the records can hold a name.
 pub(crate) fn name_fits(name: &[u8]) -> bool
@@ -213,27 +163,6 @@ pub(crate) fn clock_in(fields: &[&[u8]]) -> Option<ClockEntry>
     }
 }
 
-// The whole numbers that some texts say, none where one says none.
-fn wholes_of(alloc: Global, texts: &[&[u8]]) -> Result<Option<Vec<i64>>, AllocError>
-    ensures { IfOk result (λ numbers. option_map (λ numbers. numbers.items) numbers ≡ wholes_of (map (λ text. text.now) texts.now)) }
-{
-    let mut numbers = Vec::new(alloc);
-    for text in texts {
-        let Some(number) = whole_of(text) else {
-            return Ok(None);
-        };
-        numbers.push(number)?;
-    }
-    Ok(Some(numbers))
-}
-
-// The fields from the third on.
-fn behind_two<'a, 'b>(fields: &'b [&'a [u8]]) -> &'b [&'a [u8]]
-    ensures { map (λ field. field.now) result.now ≡ drop 2 (map (λ field. field.now) fields.now) }
-{
-    if fields.len() < 2 { &[] } else { &fields[2..] }
-}
-
 /// A polynomial of one to six coefficients.
 #[tactic(auto, unfolding(crate::specs::Values::poly_in))]
 pub(crate) fn poly_in(alloc: Global, fields: &[&[u8]]) -> Result<Option<PolyEntry>, AllocError>
@@ -241,16 +170,7 @@ pub(crate) fn poly_in(alloc: Global, fields: &[&[u8]]) -> Result<Option<PolyEntr
     ensures years { IfOk result (λ entry. IfSome entry (λ entry. IsSecond entry.second)) }
     ensures second { IfOk result (λ entry. IfSome entry (λ entry. second_of (field (map (λ field. field.now) fields.now) 1) ≡ Some entry.second)) }
 {
-    let Some(second) = second_of(field(fields, 1)) else {
-        return Ok(None);
-    };
-    let Some(numbers) = wholes_of(alloc, behind_two(fields))? else {
-        return Ok(None);
-    };
-    match Poly::new(&numbers) {
-        Some(poly) => Ok(Some(PolyEntry { second, poly })),
-        None => Ok(None),
-    }
+    poly_from(alloc, field(fields, 1), behind(fields, 2))
 }
 
 /// A scan's span.

@@ -1,5 +1,5 @@
 -- A time's text.
-use Rattle.std.proofs.Common.{◌≡◌, ◌==◌, refl, subst, ◌≤ℤ◌, ℕ, ◌-◌, ◌^◌, ◌≤◌, ◌<◌, min, Bool, true, false, ◌&&◌, nat_le, List, length, drop, arith, ap, ◌∙◌, length-take, length-drop, ℤ, pos, ◌+ℤ◌, ◌*ℤ◌, FitsSigned, w32, w64, to_z, of_z}
+use Rattle.std.proofs.Common.{◌≡◌, ◌==◌, refl, subst, ◌≤ℤ◌, ℕ, ◌-◌, ◌^◌, ◌≤◌, ◌<◌, min, Bool, true, false, List, length, drop, arith, ap, ◌∙◌, length-take, length-drop, ℤ, pos, ◌+ℤ◌, ◌*ℤ◌, FitsSigned, w32, w64, to_z, of_z}
 use Rattle.std.proofs.lemmas.Int.{ints, to_z-of_z}
 use Rattle.std.proofs.lemmas.Int.Digits.{digits_value-lt}
 use Rattle.std.proofs.Math.Nat.{pow-le-pow_right}
@@ -12,8 +12,8 @@ use Rattle.jiff_core.proofs.DateLemmas.{epoch_day-ordinal}
 use Rattle.jiff_core.proofs.MarchLemmas.{day_count-early}
 use Rattle.jiff_core.proofs.CalendarLemmas.{day_count-later_year}
 use Rattle.std.specs.List.{slice_range}
-use Rattle.num_time.specs.Times.{digits_at, number_at, has_form, is_end, is_time, is_time_year, year_of, day_second}
-use Rattle.num_time.proofs.DigitLemmas.{AllDigits-are_digits, and_first, and_second}
+use Rattle.num_time.specs.Times.{digits_at, number_at, day_second}
+use Rattle.num_time.proofs.DigitLemmas.{AllDigits-are_digits}
 
 -- some digits write less than their power of ten
 pub number_at-lt : (text : List ℕ) (a b : ℕ) → a ≤ b → b ≤ length text → digits_at text a b ≡ true → number_at text a b < 10 ^ (b - a)
@@ -28,58 +28,6 @@ pub read_four : (r n k : ℕ) → r ≡ min n (2 ^ 64 - 1) → n < 10 ^ k → k 
 read_four r n k e h f =
     let most : 10 ^ k ≤ 10 ^ 4 = let ten : 0 < 10 = omega arith in pow-le-pow_right ten f in
     (omega (arith, e, h, most), omega (arith, e, h, most))
-
--- where the form has digits
-pub record HasDigits (text : List ℕ) : Type 0 where
-  pub year : digits_at text 0 4 ≡ true
-  pub day : digits_at text 5 8 ≡ true
-  pub hour : digits_at text 9 11 ≡ true
-  pub minute : digits_at text 12 14 ≡ true
-  pub second : digits_at text 15 17 ≡ true
-
-pub HasDigits-has_form : (text : List ℕ) → has_form text ≡ true → HasDigits text
-unfolding has_form
-HasDigits-has_form text h =
-    let h8 = and_first _ _ h in
-    let h7 = and_first _ _ h8 in
-    let h6 = and_first _ _ h7 in
-    let h5 = and_first _ _ h6 in
-    let h4 = and_first _ _ h5 in
-    let h3 = and_first _ _ h4 in
-    let h2 = and_first _ _ h3 in
-    let h1 = and_first _ _ h2 in
-    record {
-      year = h1;
-      day = and_second _ _ h3;
-      hour = and_second _ _ h5;
-      minute = and_second _ _ h7;
-      second = and_second _ _ h;
-    }
-
--- what a time's text has
-pub record HasTime (text : List ℕ) : Type 0 where
-  pub long : 17 ≤ length text
-  pub digits : HasDigits text
-  pub first : 1970 ≤ year_of text
-  pub last : year_of text ≤ 2099
-
-pub HasTime-is_time : (text : List ℕ) → is_time text ≡ true → HasTime text
-unfolding is_time
-HasTime-is_time text h =
-    let front : Bool = nat_le 17 (length text) && has_form text in
-    let whole : Bool = front && is_end (drop 17 text) in
-    let h3 : whole ≡ true = and_first whole (is_time_year (year_of text)) h in
-    let h2 : front ≡ true = and_first front (is_end (drop 17 text)) h3 in
-    let y : is_time_year (year_of text) ≡ true = and_second whole (is_time_year (year_of text)) h in
-    let y1 : nat_le 1970 (year_of text) ≡ true = and_first _ (nat_le (year_of text) 2099) y in
-    let y2 : nat_le (year_of text) 2099 ≡ true = and_second (nat_le 1970 (year_of text)) _ y in
-    let h1 : nat_le 17 (length text) ≡ true = and_first _ (has_form text) h2 in
-    record {
-      long = grind (arith, nat_tests, h1);
-      digits = HasDigits-has_form text (and_second _ _ h2);
-      first = grind (arith, nat_tests, y1);
-      last = grind (arith, nat_tests, y2);
-    }
 
 -- a year has the days from 1 to its number of days
 pub has_day-from : (year day days : ℕ) → 1 ≤ day → day ≤ days → is_in_range 1 days day ≡ true

@@ -60,6 +60,7 @@ fn is_end(rest: &[u8]) -> bool
 }
 
 // Whether a text of the form is of the years 1970 to 2099.
+#[tactic(auto, unfolding(crate::specs::Times::has_form))]
 fn has_year(text: &[u8]) -> bool
     requires long { 17 ≤ length text.now }
     requires form { has_form text.now ≡ true }
@@ -118,7 +119,7 @@ fn second_at(year: u32, day: u32, hour: u32, minute: u32, second: u32) -> Result
 
 /// The second, counted from 1970-01-01 00:00 with days of 86,400, of a time in VEX: `2010y113d20h29m00s`,
 /// where a point and zeros may stand before the `s`. The years are 1970 to 2099.
-#[tactic(auto, unfolding(crate::specs::Times::vex_second_of))]
+#[tactic(auto, unfolding(crate::specs::Times::vex_second_of, crate::specs::Times::is_time, crate::specs::Times::has_form))]
 pub fn vex_second(text: &[u8]) -> Result<i64, TimeFault>
     ensures value { result ≡ vex_second_of text.now }
     ensures years { IfOk result IsSecond }

@@ -1,8 +1,8 @@
 -- The edges of a bin, and the samples on one side of an edge.
-use Rattle.std.proofs.Common.{◌≡◌, ℕ, zero, suc, ◌-◌, ◌*◌, ◌/◌, ◌%◌, ◌^◌, ◌≤◌, ◌<◌, ℤ, pos, negsuc, neg_ℤ, ◌+ℤ◌, ◌-ℤ◌, ◌*ℤ◌, ◌≤ℤ◌, ◌<ℤ◌, unsigned_abs, ⊎_elim, refl, sym, ap, ◌∙◌, arith}
+use Rattle.std.proofs.Common.{◌≡◌, ℕ, zero, suc, ◌-◌, ◌*◌, ◌/◌, ◌%◌, ◌^◌, ◌≤◌, ◌<◌, ℤ, pos, negsuc, neg_ℤ, ◌+ℤ◌, ◌-ℤ◌, ◌*ℤ◌, ◌≤ℤ◌, ◌<ℤ◌, unsigned_abs, w64, of_z, to_z, ⊎_elim, refl, sym, ap, ◌∙◌, arith}
 use Rattle.std.specs.Int.{int_div_euclid, int_rem_euclid}
 use Rattle.std.proofs.Math.Nat.{mul_comm}
-use Rattle.std.proofs.lemmas.Int.{ints}
+use Rattle.std.proofs.lemmas.Int.{ints, to_z-of_z}
 use Rattle.std.proofs.lemmas.Nat.{div_below, le-div, mul-le}
 use Rattle.std.proofs.lemmas.Bool.{cases_lt}
 use Rattle.corr_model.specs.Delay.{between}
@@ -141,20 +141,42 @@ behind-falling first next edge fall gap k n some e g behind =
     past low high = omega (arith, ints, g)
 
 -- a line that does not fall rises, and one that does not rise falls
-pub between-rises : (first next : ℤ) (k m n : ℕ) → 0 < k → first ≤ℤ next → m ≤ n → between first next m k ≤ℤ between first next n k
-between-rises first next k m n some up order = goes (unsigned_abs (next -ℤ first)) (omega (arith, ints))
-  where
-    goes : (rise : ℕ) → pos rise ≡ next -ℤ first → between first next m k ≤ℤ between first next n k
-    goes rise e =
-        let more : rise * m ≤ rise * n = mul-le rise m rise n (omega arith) order in
-        let high = le-div (rise * m / k) (rise * n) k some (omega arith) in
-        rw (rising first next rise k m e, rising first next rise k n e) (omega (arith, ints, high))
+between-rises : (first next : ℤ) (rise k m n : ℕ) → 0 < k → pos rise ≡ next -ℤ first → m ≤ n → between first next m k ≤ℤ between first next n k
+between-rises first next rise k m n some e order =
+    let more : rise * m ≤ rise * n = mul-le rise m rise n (omega arith) order in
+    let high = le-div (rise * m / k) (rise * n) k some (omega arith) in
+    rw (rising first next rise k m e, rising first next rise k n e) (omega (arith, ints, high))
 
-pub between-falls : (first next : ℤ) (k m n : ℕ) → 0 < k → next ≤ℤ first → m ≤ n → between first next n k ≤ℤ between first next m k
-between-falls first next k m n some down order = goes (unsigned_abs (next -ℤ first)) (omega (arith, ints))
-  where
-    goes : (fall : ℕ) → pos fall ≡ first -ℤ next → between first next n k ≤ℤ between first next m k
-    goes fall e =
-        let more : fall * m ≤ fall * n = mul-le fall m fall n (omega arith) order in
-        let low = floor_neg-falls (fall * m) (fall * n) k some more in
-        rw (falling first next fall k m e, falling first next fall k n e) (omega (arith, ints, low))
+between-falls : (first next : ℤ) (fall k m n : ℕ) → 0 < k → pos fall ≡ first -ℤ next → m ≤ n → between first next n k ≤ℤ between first next m k
+between-falls first next fall k m n some e order =
+    let more : fall * m ≤ fall * n = mul-le fall m fall n (omega arith) order in
+    let low = floor_neg-falls (fall * m) (fall * n) k some more in
+    rw (falling first next fall k m e, falling first next fall k n e) (omega (arith, ints, low))
+
+-- what a word of 64 bits holds of a number
+abbrev pub held : ℤ → ℤ
+held x = to_z w64 (of_z w64 x)
+
+-- it holds a phase, and an edge that is near it
+record AreHeld (phase edge : ℤ) : Type 0 where
+  phase_is : held phase ≡ phase
+  edge_is : held edge ≡ edge
+
+AreHeld-near : (phase edge : ℤ) → unsigned_abs phase < 2 ^ 59 → (held phase -ℤ pos (2 ^ 32)) ≤ℤ edge → edge ≤ℤ (held phase +ℤ pos (2 ^ 32)) → AreHeld phase edge
+AreHeld-near phase edge small low high =
+    let is = to_z-of_z w64 phase (omega (arith, ints, small)) in
+    record { phase_is = is; edge_is = to_z-of_z w64 edge (omega (arith, ints, is, small, low, high)) }
+
+-- So a line stays in the bin of its phase at a sample until it comes to the bin's edge.
+module _ (count : ℕ) (first next phase edge : ℤ) (k m n : ℕ) (some : 0 < k) (small : unsigned_abs phase < 2 ^ 59) (is : phase ≡ between first next m k) (order : m ≤ n) where
+  pub same-rising : first <ℤ next → held phase <ℤ edge → edge ≤ℤ (held phase +ℤ pos (2 ^ 32)) → ((y : ℤ) → held phase ≤ℤ y → y <ℤ edge → bin_of count y ≡ bin_of count (held phase))
+      → between first next n k <ℤ held edge → bin_of count (between first next n k) ≡ bin_of count (between first next m k)
+  same-rising up after near same before =
+      let words = AreHeld-near phase edge small (omega (arith, ints, after)) near in
+      (rw (words.phase_is, is) at same) (between first next n k) (between-rises first next (unsigned_abs (next -ℤ first)) k m n some (omega (arith, ints, up)) order) (rw words.edge_is at before)
+
+  pub same-falling : next ≤ℤ first → edge ≤ℤ held phase → held phase <ℤ (edge +ℤ pos (2 ^ 32)) → ((y : ℤ) → edge ≤ℤ y → y ≤ℤ held phase → bin_of count y ≡ bin_of count (held phase))
+      → held edge ≤ℤ between first next n k → bin_of count (between first next n k) ≡ bin_of count (between first next m k)
+  same-falling down begun near same behind =
+      let words = AreHeld-near phase edge small (omega (arith, ints, near)) (omega (arith, ints, begun)) in
+      (rw (words.phase_is, is) at same) (between first next n k) (rw words.edge_is at behind) (between-falls first next (unsigned_abs (next -ℤ first)) k m n some (omega (arith, ints, down)) order)

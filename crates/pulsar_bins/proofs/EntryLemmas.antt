@@ -1,25 +1,17 @@
 -- Whether a phase begins at a second, by the one in force at it.
-use Rattle.std.proofs.Common.{◌≡◌, ◌≢◌, Bool, true, false, List, get_or, refl, sym, ◌∙◌, ap, arith, IsTrue, Decides, FitsSigned, eqb}
-use Rattle.std.specs.Prelude.{Option, Some, ℤ, ◌<ℤ◌, ◌≤ℤ◌, if◌then◌else◌}
+use Rattle.std.proofs.Common.{◌≡◌, ◌≢◌, Bool, true, false, List, get_or, refl, sym, ◌∙◌, ap, arith}
+use Rattle.std.specs.Prelude.{Option, Some, ℤ, ◌<ℤ◌, ◌≤ℤ◌}
 use Rattle.std.specs.List.{All, list_any}
 use Rattle.std.specs.Ordering.{int_eq}
-use Rattle.std.proofs.lemmas.Int.{ints, to_z-of_z}
-use mir.Val.{of_z, to_z}
-use mir.Syntax.{w64}
-use Rattle.std.proofs.lemmas.Bool.Decides.{Decides-int_eq, Decides-eqb, same_from_decides}
+use Rattle.std.proofs.lemmas.Int.{ints}
+use Rattle.std.proofs.lemmas.Bool.Decides.{Decides-int_eq}
 use Rattle.std.proofs.lemmas.List.Folds.{list_any_none, list_any_at}
 use Rattle.std.proofs.lemmas.List.Elements.{All-weaker}
 use Rattle.entry_list.specs.Latest.{IsLatest}
 use Rattle.delay_poly.specs.declared.entry.PolyEntry.{PolyEntry}
 use Rattle.corr_model.specs.Delay.{poly_second}
+use Rattle.job_lines.proofs.SecondLemmas.{fails, differs}
 use Rattle.pulsar_bins.specs.Faults.{is_taken}
-
-fails : (b : Bool) (P : Type 0) → Decides b P → (P → ⊥) → b ≡ false
-fails true P d lacks = absurd (lacks (d.0 refl))
-fails false P d lacks = refl
-
-differs : (b : Bool) (P : Type 0) → Decides b P → b ≡ false → P → ⊥
-differs b P d off p = let on : b ≡ true = d.1 p in let odd : true ≡ false = sym on ∙ off in cc
 
 module _ (entries : List PolyEntry) (t : ℤ) where
   abbrev at : PolyEntry → Bool
@@ -60,17 +52,3 @@ module _ (entries : List PolyEntry) (t : ℤ) where
 
     pub none_by : All (λ (x : PolyEntry). t <ℤ x.second) entries → false ≡ is_taken o entries
     none_by later = sym (later-none later) ∙ ap (λ p. is_taken p entries) (sym is)
-
--- whether two seconds of the machine are one
-pub same_second : (x y : ℤ) → FitsSigned w64 x → FitsSigned w64 y → eqb (of_z w64 x) (of_z w64 y) ≡ int_eq x y
-same_second x y f g =
-    let one : to_z w64 (of_z w64 x) ≡ x = to_z-of_z w64 x f in
-    let two : to_z w64 (of_z w64 y) ≡ y = to_z-of_z w64 y g in
-    same_from_decides (eqb (of_z w64 x) (of_z w64 y)) (int_eq x y)
-    (λ e. sym one ∙ ap (to_z w64) ((Decides-eqb (of_z w64 x) (of_z w64 y)).0 e) ∙ two, λ e. (Decides-eqb (of_z w64 x) (of_z w64 y)).1 (ap (of_z w64) e))
-    (Decides-int_eq x y)
-
--- the first of two things, where the test holds
-pub chosen : {A : Type 0} (b : Bool) (new x y : A) → IsTrue b → new ≡ (if b then x else y) → new ≡ x
-chosen true new x y on h = h
-chosen false new x y on h = absurd cc

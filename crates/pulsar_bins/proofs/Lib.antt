@@ -2,5 +2,4 @@ pub mod BinLemmas
 pub mod CellLemmas
 pub mod EdgeLemmas
 pub mod EntryLemmas
-pub mod FirstLemmas
 pub mod ReadLemmas

@@ -1,11 +1,11 @@
 -- The lines of a text read one behind the other, and the answer for the text.
-use Rattle.std.proofs.Common.{◌≡◌, ◌⊎◌, inl, inr, ◌==◌, ℕ, ◌+◌, ◌≤◌, Bool, true, false, cond, List, [], ◌∷◌, ◌++◌, length, filter_map, Option, Some, None, Err, ok_or, option_to_list, refl, sym, ap, ◌∙◌, arith, append_assoc}
-use Rattle.std.specs.List.{cons_option, slice_split, onto_first}
+use Rattle.std.proofs.Common.{◌≡◌, ◌⊎◌, inl, inr, ℕ, ◌+◌, List, [], ◌∷◌, ◌++◌, length, filter_map, Option, Some, None, Err, ok_or, option_to_list, refl, sym, ap, ◌∙◌, arith, append_assoc}
 use Rattle.std.specs.Option.{option_or}
-use Rattle.std.specs.Str.Lines.{lines, lines_of_parts}
+use Rattle.std.specs.Str.Lines.{lines}
 use Rattle.std.proofs.lemmas.List.{append-nil}
 use Rattle.std.proofs.lemmas.List.Elements.{filter_map-append, All-nil}
 use Rattle.std.proofs.lemmas.List.Sums.{fold-append}
+use Rattle.job_lines.proofs.RowLemmas.{filter_map-cons}
 use Rattle.num_time.specs.Times.{IsSecond}
 use Rattle.delay_poly.specs.declared.entry.PolyEntry.{PolyEntry}
 use Rattle.pulsar_bins.specs.declared.word.Word.{Word}
@@ -21,32 +21,6 @@ use Rattle.pulsar_bins.specs.Growing.{grown, grown_by}
 use Rattle.pulsar_bins.specs.Bins.{BinsFields, IsSaid}
 use Rattle.pulsar_bins.specs.Answer.{faults_behind, first_fault, rows_in, bins_by, bins_in, out_of_memory}
 
--- one byte more in the first part makes at most one line more
-single : (x : List ℕ) → length (lines_of_parts (x ∷ [])) ≤ 1
-single x = by (length x == 0)
-  where
-    by : (b : Bool) → length (cond b [] (x ∷ [])) ≤ 1
-    by true = omega arith
-    by false = omega arith
-
-first-more : (x : ℕ) (parts : List (List ℕ)) → length (lines_of_parts (onto_first x parts)) ≤ 1 + length (lines_of_parts parts)
-first-more x [] = omega (arith, single (x ∷ []))
-first-more x (y ∷ []) = omega (arith, single (x ∷ y))
-first-more x (y ∷ z ∷ more) = omega arith
-
-empty-more : (parts : List (List ℕ)) → length (lines_of_parts ([] ∷ parts)) ≤ 1 + length (lines_of_parts parts)
-empty-more [] = omega (arith, single [])
-empty-more (y ∷ more) = omega arith
-
--- there are at most as many lines as bytes
-pub length-lines : (text : List ℕ) → length (lines text) ≤ length text
-length-lines [] = omega arith
-length-lines (x ∷ xs) = by (x == 10) (length-lines xs)
-  where
-    by : (b : Bool) → length (lines xs) ≤ length xs → length (lines_of_parts (cond b ([] ∷ slice_split (λ b. b == 10) xs) (onto_first x (slice_split (λ b. b == 10) xs)))) ≤ length (x ∷ xs)
-    by true h = omega (arith, h, empty-more (slice_split (λ b. b == 10) xs))
-    by false h = omega (arith, h, first-more x (slice_split (λ b. b == 10) xs))
-
 abbrev count_of : Row → Option ℕ
 count_of row = count_by row.word row.fields
 
@@ -58,11 +32,7 @@ same_said c d p q a b = cc
 
 -- what the rows say with one more
 kept-more : {A B : Type 0} (f : A → Option B) (xs : List A) (x : A) → filter_map f (xs ++ x ∷ []) ≡ filter_map f xs ++ option_to_list (f x)
-kept-more {A} {B} f xs x = filter_map-append f xs (x ∷ []) ∙ ap (λ ys. filter_map f xs ++ ys) (one (f x))
-  where
-    one : (o : Option B) → cons_option o [] ≡ option_to_list o
-    one None = refl
-    one (Some y) = refl
+kept-more f xs x = filter_map-append f xs (x ∷ []) ∙ ap (λ ys. filter_map f xs ++ ys) (filter_map-cons f x [] ∙ append-nil (option_to_list (f x)))
 
 last-more : {B : Type 0} (ys : List B) (o : Option B) → last (ys ++ option_to_list o) ≡ option_or o (last ys)
 last-more ys None = ap last (append-nil ys)
@@ -81,16 +51,9 @@ said-more : (rows : List Row) (o : Option Row) → said_by (rows ++ option_to_li
 said-more rows None = ap said_by (append-nil rows)
 said-more rows (Some row) = said-row rows row.word row.fields
 
-pub IsSaid-none : IsSaid (said_by [])
+IsSaid-none : IsSaid (said_by [])
 unfolding said_by
 IsSaid-none = record { count = tt; seconds = All-nil (λ (e : PolyEntry). IsSecond e.second) }
-
-rows-cons : (line : List ℕ) (more : List (List ℕ)) → rows_in (line ∷ more) ≡ option_to_list (row_of line) ++ rows_in more
-rows-cons line more = by (row_of line)
-  where
-    by : (o : Option Row) → cons_option o (rows_in more) ≡ option_to_list o ++ rows_in more
-    by None = refl
-    by (Some row) = refl
 
 -- so many lines of a text were read, and these are left
 pub record IsReading (all : List (List ℕ)) (said : Said) (number : ℕ) (left : List (List ℕ)) : Type 0 where
@@ -99,22 +62,24 @@ pub record IsReading (all : List (List ℕ)) (said : Said) (number : ℕ) (left 
   pub faults : first_fault 1 (faults_behind [] all) ≡ first_fault (number + 1) (faults_behind rows left)
   pub all_rows : rows_in all ≡ rows ++ rows_in left
   pub count : number + length left ≡ length all
+  pub sound : IsSaid said
 
 pub reading-starts : (all : List (List ℕ)) (said : Said) → said ≡ said_by [] → IsReading all said 0 all
-reading-starts all said is = record { rows = []; says = is; faults = refl; all_rows = refl; count = omega arith }
+reading-starts all said is = record { rows = []; says = is; faults = refl; all_rows = refl; count = omega arith; sound = rw is IsSaid-none }
 
 module _ {all : List (List ℕ)} {said : Said} {number : ℕ} {left : List (List ℕ)} (h : IsReading all said number left) where
   pub reading-next : (line : List ℕ) (more : List (List ℕ)) (new : Said) → left ≡ line ∷ more
-      → (line_fault said line ≡ None) × (new ≡ grown_by said (row_of line)) → IsReading all new (number + 1) more
-  reading-next line more new is taken =
+      → (line_fault said line ≡ None) × (new ≡ grown_by said (row_of line)) → (IsSaid said → IsSaid new) → IsReading all new (number + 1) more
+  reading-next line more new is taken keeps =
       let free : line_fault (said_by h.rows) line ≡ None = ap (λ s. line_fault s line) (sym h.says) ∙ taken.0 in
       record {
         rows = h.rows ++ option_to_list (row_of line);
         says = taken.1 ∙ ap (λ s. grown_by s (row_of line)) h.says ∙ sym (said-more h.rows (row_of line));
         faults = h.faults ∙ ap (λ xs. first_fault (number + 1) (faults_behind h.rows xs)) is
             ∙ (λ i. first_fault (number + 1) (free i ∷ faults_behind (h.rows ++ option_to_list (row_of line)) more));
-        all_rows = h.all_rows ∙ ap (λ xs. h.rows ++ rows_in xs) is ∙ ap (λ xs. h.rows ++ xs) (rows-cons line more) ∙ (let e : (h.rows ++ option_to_list (row_of line)) ++ rows_in more ≡ h.rows ++ (option_to_list (row_of line) ++ rows_in more) = simp append_assoc in sym e);
+        all_rows = h.all_rows ∙ ap (λ xs. h.rows ++ rows_in xs) is ∙ ap (λ xs. h.rows ++ xs) (filter_map-cons row_of line more) ∙ (let e : (h.rows ++ option_to_list (row_of line)) ++ rows_in more ≡ h.rows ++ (option_to_list (row_of line) ++ rows_in more) = simp append_assoc in sym e);
         count = omega (arith, h.count, ap length is);
+        sound = keeps h.sound;
       }
 
 -- a text one of whose lines was refused

@@ -11,7 +11,8 @@ use Rattle.pulsar_bins.specs.declared.word.Word.TheVariants.{Count, Phase}
 use Rattle.pulsar_bins.specs.declared.said.Said.{Said}
 use Rattle.pulsar_bins.specs.declared.fault.BinsKind.{BinsKind}
 use Rattle.pulsar_bins.specs.declared.fault.BinsKind.TheVariants.{Line, Double, Range}
-use Rattle.pulsar_bins.specs.Values.{field, second_of, count_in, phase_in}
+use Rattle.job_lines.specs.Values.{field, second_of}
+use Rattle.pulsar_bins.specs.Values.{count_in, phase_in}
 use Rattle.pulsar_bins.specs.Words.{word_of, needed, further}
 
 -- a phase begins at this second; a time that names no second is not among them

@@ -1,8 +1,8 @@
 -- The lines that a text of phases may have: the word that begins each, and how the fields behind it are written.
-use Rattle.std.specs.Prelude.{ℕ, List, [], ◌∷◌, codes, bytes_eq, Option, Some, None, option_map, if◌then◌else◌}
+use Rattle.std.specs.Prelude.{ℕ, List, [], ◌∷◌, codes, bytes_eq, Option, Some, None, if◌then◌else◌}
 use Rattle.job_lines.specs.declared.word.FieldKind.{FieldKind}
 use Rattle.job_lines.specs.declared.word.FieldKind.TheVariants.{Number, Time}
-use Rattle.job_lines.specs.Rows.{fields_of}
+use Rattle.job_lines.specs.Rows.{RowBy, row_by, fields_of}
 use Rattle.pulsar_bins.specs.declared.word.Word.{Word}
 use Rattle.pulsar_bins.specs.declared.word.Word.TheVariants.{Count, Phase}
 
@@ -23,14 +23,9 @@ further Count = []
 further Phase = Number ∷ Number ∷ Number ∷ Number ∷ Number ∷ []
 
 -- a line by its word, and the fields behind it
-pub record Row : Type 0 where
-  pub word : Word
-  pub fields : List (List ℕ)
-
-abbrev pub row_from : List (List ℕ) → Option Row
-row_from [] = None
-row_from (first ∷ fields) = option_map (λ word. record { word = word; fields = fields }) (word_of first)
+abbrev pub Row : Type 0
+Row = RowBy Word
 
 -- the row of a line, none where it has no field or begins with no word
 abbrev pub row_of : List ℕ → Option Row
-row_of line = row_from (fields_of line)
+row_of line = row_by word_of (fields_of line)

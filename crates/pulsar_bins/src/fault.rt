@@ -1,43 +1,34 @@
 //! Why a text has no bins, and why a scan has no phase.
-use std::alloc::{AllocError, AllocFailed};
+ghost use Rattle.std.specs.Prelude.{◌≡◌};
+ghost use Rattle.pulsar_bins.specs.{KindName.{kind_name}, declared.fault.BinsKind.TheVariants.{Memory}};
+
+use std::alloc::AllocError;
 use thiserror::Error;
+use variant_name::name_of;
 
 /// What is wrong.
 #[derive(Clone, Copy, Debug, PartialEq, Eq, Error)]
+#[error("{}", self.name())]
 pub enum BinsKind {
     /// A byte that no text has, no word of a text of phases, another number of fields, or a field that is not written as
     /// it is to be.
-    #[error("Line")]
     Line = 1,
     /// A line says again what an earlier one says.
-    #[error("Double")]
-    Double = 2,
+    Double,
     /// A line is missing.
-    #[error("Missing")]
-    Missing = 3,
+    Missing,
     /// A number or a time is out of its range.
-    #[error("Range")]
-    Range = 4,
+    Range,
     /// Out of memory.
-    #[error("Memory")]
     Memory = 6,
 }
 
 impl BinsKind {
-    ghost use Rattle.std.specs.Prelude.{◌≡◌};
-    ghost use Rattle.pulsar_bins.specs.KindName.{kind_name};
-
     /// The kind's name, as it is written above.
     pub fn name(self) -> &'static str
         ensures { result.now ≡ kind_name self }
     {
-        match self {
-            BinsKind::Line => "Line",
-            BinsKind::Double => "Double",
-            BinsKind::Missing => "Missing",
-            BinsKind::Range => "Range",
-            BinsKind::Memory => "Memory",
-        }
+        name_of!(self: BinsKind { Line, Double, Missing, Range, Memory })
     }
 }
 
@@ -57,21 +48,7 @@ pub struct NoPhase {
     pub scan: usize,
 }
 
-impl<T: Drop> From<AllocFailed<T>> for BinsKind {
-    ghost use Rattle.std.specs.Prelude.{◌≡◌};
-    ghost use Rattle.pulsar_bins.specs.declared.fault.BinsKind.TheVariants.{Memory};
-
-    ghost from_gives = { λ _ kind. kind ≡ Memory };
-
-    fn from(_: AllocFailed<T>) -> Self {
-        BinsKind::Memory
-    }
-}
-
 impl From<AllocError> for BinsKind {
-    ghost use Rattle.std.specs.Prelude.{◌≡◌};
-    ghost use Rattle.pulsar_bins.specs.declared.fault.BinsKind.TheVariants.{Memory};
-
     ghost from_gives = { λ _ kind. kind ≡ Memory };
 
     fn from(_: AllocError) -> Self {

@@ -1,6 +1,7 @@
 //! The lines of a text of phases, each taken behind the others.
 ghost use Rattle.std.specs.Prelude.{◌≡◌, map, OnOk};
-ghost use Rattle.pulsar_bins.specs.{Words.{row_from, row_of}, Faults.{word_fault, fields_fault, line_fault}, Growing.{Takes, TakesAt, grown, grown_by, fault_in}, Bins.{IsSaid}};
+ghost use Rattle.job_lines.specs.Rows.{row_by};
+ghost use Rattle.pulsar_bins.specs.{Words.{word_of, row_of}, Faults.{word_fault, fields_fault, line_fault}, Growing.{Takes, TakesAt, grown, grown_by, fault_in}, Bins.{IsSaid}};
 
 use crate::fault::{BinsFault, BinsKind};
 use crate::said::Said;
@@ -33,7 +34,7 @@ fn take_word(alloc: Global, said: &mut Said, word: Word, fields: &[&[u8]]) -> Re
 // Takes the fields of a line.
 #[tactic(auto, unfolding(crate::specs::Faults::fields_fault))]
 fn take_fields(alloc: Global, said: &mut Said, fields: &[&[u8]]) -> Result<(), BinsKind>
-    ensures taken { Takes (fields_fault said.old (map (λ field. field.now) fields.now)) (grown_by said.old (row_from (map (λ field. field.now) fields.now))) result said.new }
+    ensures taken { Takes (fields_fault said.old (map (λ field. field.now) fields.now)) (grown_by said.old (row_by word_of (map (λ field. field.now) fields.now))) result said.new }
     ensures sound { OnOk result (IsSaid said.old → IsSaid said.new) }
 {
     let Some((first, fields)) = fields.split_first() else {

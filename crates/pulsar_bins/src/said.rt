@@ -4,9 +4,10 @@ ghost use Rattle.pulsar_bins.specs.{declared.word.Word.TheVariants.{Count, Phase
 
 use crate::bins::Bins;
 use crate::fault::BinsKind;
-use crate::values::{count_in, field, phase_in, second_of};
+use crate::values::count_in;
 use crate::word::Word;
 use delay_poly::{PolyEntry, PolyList};
+use job_lines::{behind, field, poly_from, second_of};
 use std::alloc::{AllocError, Global};
 
 /// What the lines so far say: the number of bins, and the phase's entries.
@@ -65,15 +66,16 @@ impl Said {
         Ok(())
     }
 
-    #[tactic(auto, unfolding(crate::specs::Faults::row_fault, crate::specs::Growing::grown))]
+    #[tactic(auto, unfolding(crate::specs::Faults::row_fault, crate::specs::Growing::grown, crate::specs::Values::phase_in))]
     fn take_phase(&mut self, alloc: Global, fields: &[&[u8]]) -> Result<(), BinsKind>
         ensures taken { Takes (row_fault self.old Phase (map (λ field. field.now) fields.now)) (grown self.old Phase (map (λ field. field.now) fields.now)) result self.new }
         ensures sound { OnOk result (IsSaid self.old → IsSaid self.new) }
     {
-        if is_taken(&self.phases, second_of(field(fields, 0))) {
+        let time = field(fields, 0);
+        if is_taken(&self.phases, second_of(time)) {
             return Err(BinsKind::Double);
         }
-        let Some(entry) = phase_in(alloc, fields)? else {
+        let Some(entry) = poly_from(alloc, time, behind(fields, 1))? else {
             return Err(BinsKind::Range);
         };
         add_phase(&mut self.phases, entry)?;

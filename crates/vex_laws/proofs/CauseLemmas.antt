@@ -100,15 +100,13 @@ module _ (file : VexFile) where
         by : (stay : Stay) → stay_in s.values ≡ Some stay → (t o : Bool) → list_any (λ (other : Stay). bytes_eq other.key stay.key) so_far ≡ t → is_in_order stay ≡ o
             → IfErr (cond t (Err (fault StationTwice s.at)) (cond (not o) (Err (fault BadRange s.at)) (Ok stay))) Caused
         by stay says true o twice order = record {
-          name = name;
-          scan = scan;
-          there = there;
+          of = record { name = name; scan = scan; there = there };
           statement = s;
           again = says_again stay_of stay_in (λ stay. stay.key) stay-says (filter (has_key (codes "station")) scan.statements) front s behind so_far stay cut told says twice;
           place = refl;
         }
         by stay says false false new order =
-            record { name = name; scan = scan; there = there; statement = s; among = among; order = ap (option_map is_in_order) says ∙ ap Some order; place = refl }
+            record { of = record { name = name; scan = scan; there = there }; statement = s; among = among; order = ap (option_map is_in_order) says ∙ ap Some order; place = refl }
         by stay says false true new order = tt
 
     stays-caused : IfErr (stays_of scan) Caused
@@ -202,7 +200,7 @@ module _ (file : VexFile) where
 
       by : (b : Bool) → is_name name ≡ b → IfErr (cond b (start_of scan) (Err (fault BadValue scan.at))) Caused
       by true e = start-caused name scan there
-      by false e = inl (record { name = name; scan = scan; there = there; bad = e; place = refl })
+      by false e = inl (record { of = record { name = name; scan = scan; there = there }; bad = e; place = refl })
 
   schedule-caused : IfErr (schedule_of file) Caused
   unfolding schedule_of scans_of

@@ -16,7 +16,7 @@ use Rattle.vex_schedule.specs.Statements.{has_key, only, covers, is_some_text, i
 use Rattle.vex_schedule.specs.Values.{is_name, word_at, only_word, start_in, rate_in}
 use Rattle.vex_schedule.specs.Schedule.{def_of, start_of, mode_of, stay_of, stays_of, setup_rate, chan_of, chans_of, setup_in, setup_at, setup_of, pass_of, passes_of, scan_of, scans_of, schedule_of}
 use Rattle.vex_laws.proofs.Steps.{Stay, with_chans, mode_named, mode_said, setup_named, with_setup, with_passes, with_stays, with_mode, with_second}
-use Rattle.vex_laws.specs.Counting.{counts_in_scan, counts_in_mode, counts_in_setup, only_with, counted_block, counted, HaveSameItems, IsOfWhatCounts, HaveOneSchedule}
+use Rattle.vex_laws.specs.Counting.{counts_in_scan, counts_in_mode, counts_in_setup, only_with, each_with, counted_defs, counted_block, counted, HaveSameItems, IsOfWhatCounts, HaveOneSchedule}
 
 -- two steps that give the same, one after the other
 bind-same : {A B : Type 0} (r : Result A SchedFault) (f g : A → Result B SchedFault) → ((x : A) → f x ≡ g x) → (r >>= f) ≡ (r >>= g)
@@ -117,27 +117,24 @@ stays-same scan = ap (in_turn stay_of []) (filter-within (has_key (codes "statio
 
 module _ (file : VexFile) where
   -- the defs that count
-  mode-def : (name : List ℕ) → def_of (counted file) (codes "$MODE") name ≡ option_map (only_with counts_in_mode) (def_of file (codes "$MODE") name)
+  counted-def : (key : List ℕ) (counts : Statement → Bool) (name : List ℕ)
+      → ((defs : List (List ℕ × Item)) → counted_defs key defs ≡ each_with counts defs)
+      → def_of (counted file) key name ≡ option_map (only_with counts) (def_of file key name)
   unfolding def_of
-  mode-def name =
-      ap (λ block. named (option_map_or (λ (b : Block). b.defs) block []) name) (named-map counted_block file.blocks (codes "$MODE"))
-      ∙ by (named file.blocks (codes "$MODE"))
+  counted-def key counts name are =
+      ap (λ block. named (option_map_or (λ (b : Block). b.defs) block []) name) (named-map counted_block file.blocks key)
+      ∙ by (named file.blocks key)
     where
-      by : (block : Option Block) → named (option_map_or (λ (b : Block). b.defs) (option_map (counted_block (codes "$MODE")) block) []) name
-          ≡ option_map (only_with counts_in_mode) (named (option_map_or (λ (b : Block). b.defs) block []) name)
+      by : (block : Option Block) → named (option_map_or (λ (b : Block). b.defs) (option_map (counted_block key) block) []) name
+          ≡ option_map (only_with counts) (named (option_map_or (λ (b : Block). b.defs) block []) name)
       by None = refl
-      by (Some block) = named-map (λ _. only_with counts_in_mode) block.defs name
+      by (Some block) = ap (λ defs. named defs name) (are block.defs) ∙ named-map (λ _. only_with counts) block.defs name
+
+  mode-def : (name : List ℕ) → def_of (counted file) (codes "$MODE") name ≡ option_map (only_with counts_in_mode) (def_of file (codes "$MODE") name)
+  mode-def name = counted-def (codes "$MODE") counts_in_mode name (λ _. refl)
 
   setup-def : (name : List ℕ) → def_of (counted file) (codes "$FREQ") name ≡ option_map (only_with counts_in_setup) (def_of file (codes "$FREQ") name)
-  unfolding def_of
-  setup-def name =
-      ap (λ block. named (option_map_or (λ (b : Block). b.defs) block []) name) (named-map counted_block file.blocks (codes "$FREQ"))
-      ∙ by (named file.blocks (codes "$FREQ"))
-    where
-      by : (block : Option Block) → named (option_map_or (λ (b : Block). b.defs) (option_map (counted_block (codes "$FREQ")) block) []) name
-          ≡ option_map (only_with counts_in_setup) (named (option_map_or (λ (b : Block). b.defs) block []) name)
-      by None = refl
-      by (Some block) = named-map (λ _. only_with counts_in_setup) block.defs name
+  setup-def name = counted-def (codes "$FREQ") counts_in_setup name (λ _. refl)
 
   -- the mode of a scan
   word-same : (s : Statement) (name : Result (List ℕ) SchedFault) → (name >>= mode_named (counted file) s) ≡ seen (only_with counts_in_mode) (name >>= mode_named file s)

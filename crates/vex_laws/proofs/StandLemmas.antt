@@ -91,14 +91,14 @@ module _ (file : VexFile) where
       (within cause.def (has_key (codes "chan_def")) cause.statement (a_setup cause.def cause.setup)
       (subst (λ all. Contains all cause.statement) (sym cause.again.cut) (Contains-middle cause.again.front cause.statement cause.again.behind))))
   cause_place UnknownRef at cause = inr (moved cause.statement.at at cause.place (names_place cause.statement cause.block cause.def cause.names))
-  cause_place BadValue at (inl cause) = inr (moved cause.scan.at at cause.place (item_place cause.scan (a_scan cause.name cause.scan cause.there)))
+  cause_place BadValue at (inl cause) = inr (moved cause.of.scan.at at cause.place (item_place cause.of.scan (a_scan cause.of.name cause.of.scan cause.of.there)))
   cause_place BadValue at (inr cause) = inr (moved cause.statement.at at cause.place (form_place cause.statement false cause.bad))
   cause_place StationTwice at cause =
       inr (moved cause.statement.at at cause.place
-      (within cause.scan (has_key (codes "station")) cause.statement (a_scan cause.name cause.scan cause.there)
+      (within cause.of.scan (has_key (codes "station")) cause.statement (a_scan cause.of.name cause.of.scan cause.of.there)
       (subst (λ all. Contains all cause.statement) (sym cause.again.cut) (Contains-middle cause.again.front cause.statement cause.again.behind))))
   cause_place BadRange at cause =
-      inr (moved cause.statement.at at cause.place (within cause.scan (has_key (codes "station")) cause.statement (a_scan cause.name cause.scan cause.there) cause.among))
+      inr (moved cause.statement.at at cause.place (within cause.of.scan (has_key (codes "station")) cause.statement (a_scan cause.of.name cause.of.scan cause.of.there) cause.among))
   cause_place Memory at cause = absurd cause
 
   pub placed_fault : HasPlace file

@@ -112,13 +112,17 @@ pub record IsUnknown (file : VexFile) (at : ℕ) : Type 0 where
   pub none : def_of file block def ≡ None
   pub place : statement.at ≡ at
 
--- a scan's name is none
-pub record IsBadName (file : VexFile) (at : ℕ) : Type 0 where
+-- a scan of a file, under its name
+pub record NamedScan (file : VexFile) : Type 0 where
   pub name : List ℕ
   pub scan : Item
   pub there : HasScan file name scan
-  pub bad : is_name name ≡ false
-  pub place : scan.at ≡ at
+
+-- a scan's name is none
+pub record IsBadName (file : VexFile) (at : ℕ) : Type 0 where
+  pub of : NamedScan file
+  pub bad : is_name of.name ≡ false
+  pub place : of.scan.at ≡ at
 
 -- the values of a statement have another form
 pub record IsBadForm (file : VexFile) (at : ℕ) : Type 0 where
@@ -128,20 +132,16 @@ pub record IsBadForm (file : VexFile) (at : ℕ) : Type 0 where
 
 -- a station of a scan is that of a `station` before it
 pub record IsStationTwice (file : VexFile) (at : ℕ) : Type 0 where
-  pub name : List ℕ
-  pub scan : Item
-  pub there : HasScan file name scan
+  pub of : NamedScan file
   pub statement : Statement
-  pub again : SaysAgain stay_in (λ stay. stay.key) (filter (has_key (codes "station")) scan.statements) statement
+  pub again : SaysAgain stay_in (λ stay. stay.key) (filter (has_key (codes "station")) of.scan.statements) statement
   pub place : statement.at ≡ at
 
 -- a station of a scan starts before the scan, or stops before it starts
 pub record IsBadRange (file : VexFile) (at : ℕ) : Type 0 where
-  pub name : List ℕ
-  pub scan : Item
-  pub there : HasScan file name scan
+  pub of : NamedScan file
   pub statement : Statement
-  pub among : Contains (filter (has_key (codes "station")) scan.statements) statement
+  pub among : Contains (filter (has_key (codes "station")) of.scan.statements) statement
   pub order : option_map is_in_order (stay_in statement.values) ≡ Some false
   pub place : statement.at ≡ at
 

@@ -1,38 +1,31 @@
 // Why a text has no tokens.
+ghost use Rattle.std.specs.Prelude.{◌≡◌};
+ghost use Rattle.vex_lex.specs.{KindName.{kind_name}, Grammar.{out_of_memory}};
+
 use std::alloc::AllocFailed;
 use thiserror::Error;
+use variant_name::name_of;
 
 /// Which rule a text breaks.
 #[derive(Clone, Copy, Debug, PartialEq, Eq, Error)]
+#[error("{}", self.name())]
 pub enum LexKind {
     /// A quoted text with no end.
-    #[error("OpenQuote")]
     OpenQuote = 1,
     /// A literal whose tag or end is missing.
-    #[error("OpenLiteral")]
-    OpenLiteral = 2,
+    OpenLiteral,
     /// A control character.
-    #[error("BadByte")]
-    BadByte = 3,
+    BadByte,
     /// Out of memory.
-    #[error("Memory")]
-    Memory = 4,
+    Memory,
 }
 
 impl LexKind {
-    ghost use Rattle.std.specs.Prelude.{◌≡◌};
-    ghost use Rattle.vex_lex.specs.KindName.{kind_name};
-
     /// The rule's name, as it is written above.
     pub fn name(self) -> &'static str
         ensures { result.now ≡ kind_name self }
     {
-        match self {
-            LexKind::OpenQuote => "OpenQuote",
-            LexKind::OpenLiteral => "OpenLiteral",
-            LexKind::BadByte => "BadByte",
-            LexKind::Memory => "Memory",
-        }
+        name_of!(self: LexKind { OpenQuote, OpenLiteral, BadByte, Memory })
     }
 }
 
@@ -46,9 +39,6 @@ pub struct LexFault {
 }
 
 impl<T: Drop> From<AllocFailed<T>> for LexFault {
-    ghost use Rattle.std.specs.Prelude.{◌≡◌};
-    ghost use Rattle.vex_lex.specs.Grammar.{out_of_memory};
-
     ghost from_gives = { λ _ fault. fault ≡ out_of_memory };
 
     fn from(_: AllocFailed<T>) -> Self {

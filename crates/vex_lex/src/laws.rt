@@ -2,24 +2,11 @@
 ghost use Rattle.std.specs.Prelude.{ℕ, List, All};
 ghost use Rattle.vex_lex.specs.{declared.token.Token.{Token}, Grammar.{Lexes}, Laws.{HasOneReading, HasOneBreak, HasTokensOrBreak, DoesNotBoth, CoverText, BeginsAsItsKind}};
 
-/// A text has at most one list of tokens.
-pub fn one_reading()
-    ensures { (text : List ℕ) → HasOneReading text }
-{}
-
-/// A text breaks a rule at most at one place, and there one rule.
-pub fn one_break()
-    ensures { (text : List ℕ) → HasOneBreak text }
-{}
-
-/// A text has tokens or breaks a rule.
+/// A text has one list of tokens, or breaks one rule at one place, and never does both.
 pub fn tokens_or_break()
-    ensures { (text : List ℕ) → HasTokensOrBreak text }
-{}
-
-/// It does not do both.
-pub fn not_both()
-    ensures { (text : List ℕ) → DoesNotBoth text }
+    ensures one_reading { (text : List ℕ) → HasOneReading text }
+    ensures one_break { (text : List ℕ) → HasOneBreak text }
+    ensures one_of_both { (text : List ℕ) → HasTokensOrBreak text × DoesNotBoth text }
 {}
 
 /// The tokens of a text and the gaps between them, put together, are the text.

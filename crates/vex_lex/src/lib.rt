@@ -1,6 +1,6 @@
 //! The tokens of a VEX text, the schedule language of VLBI (VEX 1.5, the section on its syntax):
 //! words, quoted texts, literals and the signs `=`, `:` and `;`, between white space and comments.
-//! It stands on std and `thiserror`.
+//! It stands on std, `thiserror` and `variant_name`.
 //!
 //! `specs/Grammar.antt` says which tokens a text has and where a text breaks a rule. A text has one
 //! list of tokens or breaks one rule at one place, and never does both (`laws`). `tokens` answers

@@ -100,90 +100,77 @@ fn is_ref(word: &[u8], target: &[u8], values: &[Token]) -> bool
     word == b"ref".as_slice() && is_block_name(target) && are_values(values)
 }
 
-// A statement of a word, `=` and these tokens.
-fn assignment_shape(
+// Where a statement is read: the text, and the byte at which it begins.
+#[derive(Clone, Copy)]
+struct Source<'a> {
     alloc: Global,
-    text: &[u8],
+    text: &'a [u8],
     at: u64,
-    word: &[u8],
-    values: &[Token],
-) -> Result<Shape, AllocError>
-    requires { All (λ token. token.at + token.len ≤ length text.now) values.now }
-    ensures { IfOk result (λ shape. shape ≡ assignment_shape at word.now (map (mark_of text.now) values.now)) }
+}
+
+// A statement of a word, `=` and these tokens.
+fn assignment_shape(from: &Source, word: &[u8], values: &[Token]) -> Result<Shape, AllocError>
+    requires { All (λ token. token.at + token.len ≤ length from.now.text.now) values.now }
+    ensures { IfOk result (λ shape. shape ≡ assignment_shape from.now.at word.now (map (mark_of from.now.text.now) values.now)) }
 {
     if !is_assignment(word, values) {
         return Ok(unshaped(word));
     }
     Ok(Shape::Entry(Statement {
-        at,
-        key: Name::new(alloc, word)?,
+        at: from.at,
+        key: Name::new(from.alloc, word)?,
         target: None,
-        values: values_of(alloc, text, values)?,
+        values: values_of(from.alloc, from.text, values)?,
     }))
 }
 
 // A statement of two words, `=` and these tokens.
 fn ref_shape(
-    alloc: Global,
-    text: &[u8],
-    at: u64,
+    from: &Source,
     word: &[u8],
     target: &[u8],
     values: &[Token],
 ) -> Result<Shape, AllocError>
-    requires { All (λ token. token.at + token.len ≤ length text.now) values.now }
-    ensures { IfOk result (λ shape. shape ≡ ref_shape at word.now target.now (map (mark_of text.now) values.now)) }
+    requires { All (λ token. token.at + token.len ≤ length from.now.text.now) values.now }
+    ensures { IfOk result (λ shape. shape ≡ ref_shape from.now.at word.now target.now (map (mark_of from.now.text.now) values.now)) }
 {
     if !is_ref(word, target, values) {
         return Ok(unshaped(word));
     }
     Ok(Shape::Entry(Statement {
-        at,
-        key: Name::new(alloc, word)?,
-        target: Some(Name::new(alloc, target)?),
-        values: values_of(alloc, text, values)?,
+        at: from.at,
+        key: Name::new(from.alloc, word)?,
+        target: Some(Name::new(from.alloc, target)?),
+        values: values_of(from.alloc, from.text, values)?,
     }))
 }
 
 // The shape of a statement that begins with two words.
-fn named_shape(
-    alloc: Global,
-    text: &[u8],
-    at: u64,
-    word: &[u8],
-    name: &[u8],
-    rest: &[Token],
-) -> Result<Shape, AllocError>
-    requires { All (λ token. token.at + token.len ≤ length text.now) rest.now }
-    ensures { IfOk result (λ shape. shape ≡ word_shape at word.now ((TokenKind.Word, name.now) ∷ map (mark_of text.now) rest.now)) }
+fn named_shape(from: &Source, word: &[u8], name: &[u8], rest: &[Token]) -> Result<Shape, AllocError>
+    requires { All (λ token. token.at + token.len ≤ length from.now.text.now) rest.now }
+    ensures { IfOk result (λ shape. shape ≡ word_shape from.now.at word.now ((TokenKind.Word, name.now) ∷ map (mark_of from.now.text.now) rest.now)) }
 {
     let Some((third, values)) = rest.split_first() else {
-        return item_shape(alloc, word, name);
+        return item_shape(from.alloc, word, name);
     };
     if third.kind == TokenKind::Equals {
-        ref_shape(alloc, text, at, word, name, values)
+        ref_shape(from, word, name, values)
     } else {
         Ok(unshaped(word))
     }
 }
 
 // The shape of a statement by its first word and what is behind it.
-fn word_shape(
-    alloc: Global,
-    text: &[u8],
-    at: u64,
-    word: &[u8],
-    rest: &[Token],
-) -> Result<Shape, AllocError>
-    requires { All (λ token. token.at + token.len ≤ length text.now) rest.now }
-    ensures { IfOk result (λ shape. shape ≡ word_shape at word.now (map (mark_of text.now) rest.now)) }
+fn word_shape(from: &Source, word: &[u8], rest: &[Token]) -> Result<Shape, AllocError>
+    requires { All (λ token. token.at + token.len ≤ length from.now.text.now) rest.now }
+    ensures { IfOk result (λ shape. shape ≡ word_shape from.now.at word.now (map (mark_of from.now.text.now) rest.now)) }
 {
     let Some((second, behind)) = rest.split_first() else {
-        return lone_shape(alloc, word);
+        return lone_shape(from.alloc, word);
     };
     match second.kind {
-        TokenKind::Word => named_shape(alloc, text, at, word, second.text(text), behind),
-        TokenKind::Equals => assignment_shape(alloc, text, at, word, behind),
+        TokenKind::Word => named_shape(from, word, second.text(from.text), behind),
+        TokenKind::Equals => assignment_shape(from, word, behind),
         _ => Ok(unshaped(word)),
     }
 }
@@ -197,7 +184,10 @@ pub fn read_shape(alloc: Global, text: &[u8], tokens: &[Token]) -> Result<Shape,
         return Ok(Shape::Blank);
     };
     match first.kind {
-        TokenKind::Word => word_shape(alloc, text, first.at, first.text(text), rest),
+        TokenKind::Word => {
+            let at = first.at;
+            word_shape(&Source { alloc, text, at }, first.text(text), rest)
+        }
         TokenKind::Literal if rest.is_empty() => Ok(Shape::Blank),
         _ => Ok(Shape::Other),
     }

@@ -1,8 +1,14 @@
--- Names that differ, and the names beside a list of things.
-use Rattle.std.proofs.Common.{◌≡◌, ◌≢◌, ℕ, ◌<◌, true, false, List, [], ◌∷◌, ◌++◌, length, map, get_or, AllPairs, bytes_eq, is_some, None, Some, cond, Bool, ◌||◌, arith, sym, ap, refl, ◌∙◌}
+-- Names that differ, and the names beside a list of things, as the statements under a key give them one after another.
+use Rattle.std.proofs.Common.{◌≡◌, ◌≢◌, ℕ, ◌<◌, true, false, List, [], ◌∷◌, ◌++◌, length, map, get_or, filter, All, AllPairs, bytes_eq, is_some, None, Some, Result, Ok, cond, Bool, ◌||◌, arith, sym, ap, refl, ◌∙◌}
+use Rattle.vex_reader.specs.declared.file.Statement.{Statement}
 use Rattle.named_list.specs.Named.{named, names, put}
+use Rattle.read_steps.specs.Steps.{in_turn}
+use Rattle.read_steps.proofs.StepLemmas.{in_turn-read}
+use Rattle.vex_schedule.specs.declared.fault.SchedFault.{SchedFault}
+use Rattle.vex_schedule.specs.Statements.{has_key}
 use Rattle.std.specs.List.{list_any}
 use Rattle.std.proofs.lemmas.List.{map_push, get_or-map, length-map}
+use Rattle.std.proofs.lemmas.List.Elements.{All-push}
 use Rattle.std.proofs.lemmas.List.Folds.{list_any_at}
 use Rattle.std.proofs.lemmas.List.Quantifiers.{all_pairs_push}
 use Rattle.std.proofs.lemmas.Slice.Eq.{bytes_eq-Decides}
@@ -56,3 +62,25 @@ pub beside-push : {A T : Type 0} (name_of : A → List ℕ) (ones : List A) (a :
     → ys ≡ put xs (name_of a) thing → names ys ≡ map name_of (ones ++ a ∷ [])
 beside-push name_of ones a xs ys thing same new puts =
     ap names puts ∙ names-put xs (name_of a) thing new ∙ ap (λ front. front ++ name_of a ∷ []) same ∙ sym (map_push name_of ones a)
+
+-- What the statements under a key gave so far: it and those that are left give all; the names differ, and stand beside.
+abbrev pub AreGiven : {A T : Type 0} → (List A → Statement → Result A SchedFault) → (A → List ℕ) → (A → Type 0) → List ℕ → Result (List A) SchedFault
+    → List (List ℕ × T) → List Statement → List A → Type 0
+AreGiven read name_of IsSound key whole xs rest ones = record {
+  so_far : in_turn read ones (filter (has_key key) rest) ≡ whole;
+  sound : All IsSound ones;
+  beside : names xs ≡ map name_of ones;
+  distinct : AllPairs (λ x y. x ≢ y) (map name_of ones);
+}
+
+-- and so behind one more
+pub given-more : {A T : Type 0} (read : List A → Statement → Result A SchedFault) (name_of : A → List ℕ) (IsSound : A → Type 0) (key : List ℕ) (whole : Result (List A) SchedFault)
+    (xs ys : List (List ℕ × T)) (thing : T) (rest behind : List Statement) (s : Statement) (ones more : List A) (a : A)
+    → AreGiven read name_of IsSound key whole xs rest ones → filter (has_key key) rest ≡ s ∷ filter (has_key key) behind → read ones s ≡ Ok a → IsSound a
+    → named xs (name_of a) ≡ None → ys ≡ put xs (name_of a) thing → more ≡ ones ++ a ∷ [] → AreGiven read name_of IsSound key whole ys behind more
+given-more read name_of IsSound key whole xs ys thing rest behind s ones more a given is one sound new puts pushed = record {
+  so_far = in_turn-read read ones more (filter (has_key key) rest) (filter (has_key key) behind) s a whole is one pushed given.so_far;
+  sound = rw pushed (All-push IsSound ones a given.sound sound);
+  beside = rw pushed (beside-push name_of ones a xs ys thing given.beside new puts);
+  distinct = rw pushed (names-push name_of ones a given.distinct (beside name_of ones xs (name_of a) given.beside ∙ ap is_some new));
+}

@@ -1,54 +1,39 @@
 //! Why a file has no schedule.
+ghost use Rattle.std.specs.Prelude.{◌≡◌};
+ghost use Rattle.vex_schedule.specs.{KindName.{kind_name}, Answers.{fault, out_of_memory}};
+
 use std::alloc::{AllocError, AllocFailed};
 use thiserror::Error;
+use variant_name::name_of;
 
 /// What is wrong.
 #[derive(Clone, Copy, Debug, PartialEq, Eq, Error)]
+#[error("{}", self.name())]
 pub enum SchedKind {
     /// There is no block `$SCHED`.
-    #[error("NoSched")]
     NoSched = 1,
     /// A statement is missing.
-    #[error("MissingStatement")]
-    MissingStatement = 2,
+    MissingStatement,
     /// A statement stands twice.
-    #[error("DoubleStatement")]
-    DoubleStatement = 3,
+    DoubleStatement,
     /// There is no such def.
-    #[error("UnknownRef")]
-    UnknownRef = 4,
+    UnknownRef,
     /// A value is not what its place asks for.
-    #[error("BadValue")]
-    BadValue = 5,
+    BadValue,
     /// A station stands twice.
-    #[error("StationTwice")]
-    StationTwice = 6,
+    StationTwice,
     /// A station stops before it starts, or starts before the scan.
-    #[error("BadRange")]
-    BadRange = 7,
+    BadRange,
     /// Out of memory.
-    #[error("Memory")]
-    Memory = 8,
+    Memory,
 }
 
 impl SchedKind {
-    ghost use Rattle.std.specs.Prelude.{◌≡◌};
-    ghost use Rattle.vex_schedule.specs.KindName.{kind_name};
-
     /// The rule's name, as it is written above.
     pub fn name(self) -> &'static str
         ensures { result.now ≡ kind_name self }
     {
-        match self {
-            SchedKind::NoSched => "NoSched",
-            SchedKind::MissingStatement => "MissingStatement",
-            SchedKind::DoubleStatement => "DoubleStatement",
-            SchedKind::UnknownRef => "UnknownRef",
-            SchedKind::BadValue => "BadValue",
-            SchedKind::StationTwice => "StationTwice",
-            SchedKind::BadRange => "BadRange",
-            SchedKind::Memory => "Memory",
-        }
+        name_of!(self: SchedKind { NoSched, MissingStatement, DoubleStatement, UnknownRef, BadValue, StationTwice, BadRange, Memory })
     }
 }
 
@@ -62,9 +47,6 @@ pub struct SchedFault {
 }
 
 impl SchedFault {
-    ghost use Rattle.std.specs.Prelude.{◌≡◌};
-    ghost use Rattle.vex_schedule.specs.Answers.{fault};
-
     pub(crate) fn new(kind: SchedKind, at: u64) -> Self
         ensures { result ≡ fault kind at }
     {
@@ -73,29 +55,17 @@ impl SchedFault {
 }
 
 impl From<AllocError> for SchedFault {
-    ghost use Rattle.std.specs.Prelude.{◌≡◌};
-    ghost use Rattle.vex_schedule.specs.Answers.{out_of_memory};
-
     ghost from_gives = { λ _ fault. fault ≡ out_of_memory };
 
     fn from(_: AllocError) -> Self {
-        SchedFault {
-            kind: SchedKind::Memory,
-            at: 0,
-        }
+        SchedFault::new(SchedKind::Memory, 0)
     }
 }
 
 impl<T: Drop> From<AllocFailed<T>> for SchedFault {
-    ghost use Rattle.std.specs.Prelude.{◌≡◌};
-    ghost use Rattle.vex_schedule.specs.Answers.{out_of_memory};
-
     ghost from_gives = { λ _ fault. fault ≡ out_of_memory };
 
     fn from(_: AllocFailed<T>) -> Self {
-        SchedFault {
-            kind: SchedKind::Memory,
-            at: 0,
-        }
+        SchedFault::new(SchedKind::Memory, 0)
     }
 }

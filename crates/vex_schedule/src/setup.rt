@@ -141,6 +141,16 @@ pub(crate) fn setups_of(
     Ok(setups)
 }
 
+// What a def gives, or its fault.
+fn kept(answer: &Result<Setup, SchedFault>) -> Result<&Setup, SchedFault>
+    ensures { seen (λ setup. part_of setup.now) result ≡ seen part_of answer.now }
+{
+    match answer {
+        Ok(setup) => Ok(setup),
+        Err(fault) => Err(*fault),
+    }
+}
+
 /// What a mode gives a station.
 #[tactic(auto, unfolding(crate::specs::Schedule::setup_of, crate::specs::Schedule::setup_at))]
 pub(crate) fn setup_of<'a>(
@@ -159,8 +169,5 @@ pub(crate) fn setup_of<'a>(
     let name = word_at(statement.values.items(), 0).ok_or(bad)?;
     let unknown = SchedFault::new(SchedKind::UnknownRef, statement.at);
     let place = def_place(file, b"$FREQ", name).ok_or(unknown)?;
-    match &setups[place] {
-        Ok(setup) => Ok(setup),
-        Err(fault) => Err(*fault),
-    }
+    kept(&setups[place])
 }

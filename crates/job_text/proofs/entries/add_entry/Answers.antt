@@ -1,5 +1,6 @@
 use Rattle.std.proofs.Common.{◌++◌, ◌∷◌, []}
-use Rattle.job_text.proofs.EntryLemmas.{free-differs, chosen}
+use Rattle.job_lines.proofs.SecondLemmas.{chosen}
+use Rattle.job_text.proofs.EntryLemmas.{free-differs}
 use Rattle.job_text.proofs.entries.add_entry.Goals as goal
 
 pub returns-clause-added : goal.returns-clause-added

@@ -1,6 +1,7 @@
 use Rattle.std.proofs.Common.{FitsSigned, w64, rules}
 use Rattle.std.proofs.lemmas.Int.{to_z-of_z}
-use Rattle.job_text.proofs.EntryLemmas.{same_second, taken_by, none_by}
+use Rattle.job_lines.proofs.SecondLemmas.{same_second}
+use Rattle.job_text.proofs.EntryLemmas.{taken_by, none_by}
 use Rattle.job_text.proofs.entries.is_taken.Goals as goal
 
 pub returns-in-Some-entry_for : goal.returns-in-Some-entry_for

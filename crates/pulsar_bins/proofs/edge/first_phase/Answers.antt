@@ -7,10 +7,9 @@ pub returns-clause-same : goal.returns-clause-same
 returns-clause-same c =
     let x = c.args in
     let part = c.in_phase.ensures in
-    let phase : FitsSigned w64 x.phase = c.ranges.phase in
     let fits : FitsSigned w64 c.in_phase.result = omega (arith, ints, part.value, part.bound) in
     let less : FitsSigned w64 (x.phase -ℤ c.in_phase.result) = omega (arith, ints, c.requires.small, part.value, part.bound) in
-    let rest = simp to_z-of_z at c.past_edge.ensures.value in
+    let rest = simp (to_z-of_z, c.ranges.phase) at c.past_edge.ensures.value in
     let first : x.phase -ℤ c.in_phase.result ≡ x.phase -ℤ pos (c.past_edge.result / x.count) = ap (λ z. x.phase -ℤ z) part.value in
-    rw (to_z-of_z w64 x.phase phase, to_z-of_z w64 c.in_phase.result fits, to_z-of_z w64 (x.phase -ℤ c.in_phase.result) less)
+    rw (to_z-of_z w64 x.phase c.ranges.phase, to_z-of_z w64 c.in_phase.result fits, to_z-of_z w64 (x.phase -ℤ c.in_phase.result) less)
     (same-before x.count x.phase (x.phase -ℤ c.in_phase.result) c.past_edge.result c.requires.some c.past_edge.ensures.bound rest first)

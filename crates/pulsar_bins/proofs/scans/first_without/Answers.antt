@@ -4,7 +4,7 @@ use Rattle.job_plan.specs.declared.plan.Plan.{Plan}
 use Rattle.job_plan.specs.declared.plan.ScanPlan.{ScanPlan}
 use Rattle.pulsar_bins.specs.Bins.{BinsFields}
 use Rattle.pulsar_bins.specs.Scans.{has_phase}
-use Rattle.pulsar_bins.proofs.FirstLemmas.{first-start, first-found, first-none}
+use Rattle.job_plan.proofs.FirstLemmas.{first-start, first-found, first-none}
 use Rattle.pulsar_bins.proofs.scans.first_without.Goals as goal
 
 abbrev lacks : Plan → BinsFields → ScanPlan → Bool

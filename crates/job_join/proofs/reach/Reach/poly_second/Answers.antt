@@ -1,6 +1,6 @@
 use Rattle.std.proofs.Common.{rules, ◌≡◌, [], Some, option_map, w64, FitsSigned, sym, ap, ◌∙◌, arith}
 use Rattle.std.proofs.lemmas.Int.{ints, to_z-of_z}
-use Rattle.corr_model.specs.Delay.{poly_second, poly_at}
+use Rattle.corr_model.specs.Delay.{poly_second}
 use Rattle.entry_list.specs.Latest.{in_force}
 use Rattle.delay_track.proofs.Polynomials.{poly_at-none}
 use Rattle.job_join.specs.Reach.{reach_model}
@@ -18,18 +18,15 @@ returns-then-is_empty c =
 pub returns-in-None : goal.returns-in-None
 returns-in-None c =
     let m = reach_model c.args.self.now in
-    let some : m.polys ≡ [] → ⊥ = search rules in
     let fits : FitsSigned w64 c.second_near.result = search rules in
     let near : c.entry_for.result ≡ in_force poly_second m.polys c.second_near.result = simp to_z-of_z at c.entry_for.ensures.same in
-    let found : c.entry_for.result ≡ poly_at m c.args.n = near ∙ ap (in_force poly_second m.polys) c.second_near.ensures ∙ poly_at-near m c.args.n c.args.self.now.is_model some in
-    ap (option_map poly_second) (sym c.in-None.is ∙ found)
+    ap (option_map poly_second) (sym c.in-None.is ∙ poly_at-near m c.args.n c.second_near.result c.entry_for.result c.args.self.now.is_model (search rules) c.second_near.ensures near)
 
 pub returns-in-Some : goal.returns-in-Some
 returns-in-Some c =
     let m = reach_model c.args.self.now in
-    let some : m.polys ≡ [] → ⊥ = search rules in
     let fits : FitsSigned w64 c.second_near.result = search rules in
     let near : c.entry_for.result ≡ in_force poly_second m.polys c.second_near.result = simp to_z-of_z at c.entry_for.ensures.same in
-    let found : c.entry_for.result ≡ poly_at m c.args.n = near ∙ ap (in_force poly_second m.polys) c.second_near.ensures ∙ poly_at-near m c.args.n c.args.self.now.is_model some in
     let second : FitsSigned w64 c.in-Some.e.second = search rules in
-    ap Some (to_z-of_z w64 c.in-Some.e.second second) ∙ ap (option_map poly_second) (sym c.in-Some.is ∙ found)
+    ap Some (to_z-of_z w64 c.in-Some.e.second second)
+    ∙ ap (option_map poly_second) (sym c.in-Some.is ∙ poly_at-near m c.args.n c.second_near.result c.entry_for.result c.args.self.now.is_model (search rules) c.second_near.ensures near)

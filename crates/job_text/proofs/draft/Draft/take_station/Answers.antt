@@ -1,15 +1,8 @@
 use Rattle.std.proofs.Common.{map}
-use Rattle.std.proofs.lemmas.Result.{err_from_is_err_and}
-use Rattle.job_text.proofs.DraftLemmas.{grown-Station, refused-Station}
+use Rattle.job_text.proofs.DraftLemmas.{taken-rows}
 use Rattle.job_text.proofs.draft.Draft.take_station.Goals as goal
 
 pub returns : goal.returns
 returns c =
-    let taken = rw c.replace-stations.ensures.value at c.in_ok-stations.ensures in
-    rw (← c.self.view_is, c.put_back.ensures) (grown-Station _ (map (λ field. field.now) c.args.fields.now) c.in_ok-stations.stations taken)
-
-pub returns-in_err-stations : goal.returns-in_err-stations
-returns-in_err-stations c =
-    let p = err_from_is_err_and c.from_residual.result c.from_residual.ensures.1 in
-    let refused = rw c.replace-stations.ensures.value at c.in_err-stations.ensures in
-    rw (← c.self.view_is, p.1, p.2) (refused-Station _ (map (λ field. field.now) c.args.fields.now) _ refused)
+    let grown = rw c.replace-stations.ensures.value at c.take_station.ensures in
+    rw (← c.self.view_is) ((taken-rows _ (map (λ field. field.now) c.args.fields.now) c.put_back.result).stations c.put_back.new.place (c.put_back.ensures _ _ grown))

@@ -1,8 +1,0 @@
-use Rattle.std.proofs.Common.{map}
-use Rattle.job_text.proofs.DraftLemmas.{taken-Integration}
-use Rattle.job_text.proofs.draft.Draft.take_integration.Goals as goal
-
-pub returns : goal.returns
-returns c =
-    let taken = rw c.integration_in.ensures at c.take_once.ensures in
-    rw (← c.self.view_is) (taken-Integration _ (map (λ field. field.now) c.args.fields.now) c.take_once.result c.take_once.new.kept taken)

@@ -59,43 +59,39 @@ falling-le first next fall k m n h e order =
     let low = floor_neg-falls (fall * m) (fall * n) k h more in
     rw (falling first next fall k m e, falling first next fall k n e) (omega (arith, ints, low))
 
+-- where a line that has left does not come back, it leaves behind the first sample
+exit_of : (P : ℕ → Type 0) (from to end : ℕ) → from < to → P from → end ≤ to → ((n : ℕ) → from ≤ n → n < end → P n) → (end < to → (n : ℕ) → end ≤ n → ¬ (P n))
+    → IsExit P from to end
+exit_of P from to end order begin within holds out = record {
+  after = ⊎_elim (λ less. less) (λ past. absurd (out (omega arith) from past begin)) (cases_lt from end);
+  within = within;
+  holds = holds;
+  ends = λ less. out less end (omega arith);
+}
+
 pub rising_exit : (first next least until : ℤ) (rise gap k from to end : ℕ) → 0 < k → next -ℤ first ≡ pos rise → until -ℤ first ≡ pos gap
     → from < to → IsIn least until (between first next from k) → end ≤ to
     → ((n : ℕ) → n < end → rise * n < gap * k) → (end < to → (n : ℕ) → end ≤ n → gap * k ≤ rise * n)
     → IsExit (λ n. IsIn least until (between first next n k)) from to end
-rising_exit first next least until rise gap k from to end h e g order begin within below above = record {
-  after = ⊎_elim (λ less. less) (λ past. absurd (out (omega arith) from past begin)) (cases_lt from end);
-  within = within;
-  holds = λ n p q. record {
-    not_before = omega (arith, ints, begin.not_before, rising-le first next rise k from n h e p);
-    before_end = rising-below first next until rise gap k n h e g (below n q);
-  };
-  ends = λ less. out less end (omega arith);
-}
-  where
-    out : end < to → (n : ℕ) → end ≤ n → ¬ (IsIn least until (between first next n k))
-    out less n past there =
-        let high = rising-above first next until rise gap k n h e g (above less n past) in
-        omega (arith, ints, high, there.before_end)
+rising_exit first next least until rise gap k from to end h e g order begin within below above =
+    exit_of (λ n. IsIn least until (between first next n k)) from to end order begin within
+    (λ n p q. record {
+      not_before = omega (arith, ints, begin.not_before, rising-le first next rise k from n h e p);
+      before_end = rising-below first next until rise gap k n h e g (below n q);
+    })
+    (λ less n past there. let high = rising-above first next until rise gap k n h e g (above less n past) in omega (arith, ints, high, there.before_end))
 
 pub falling_exit : (first next least until : ℤ) (fall gap k from to end : ℕ) → 0 < k → next -ℤ first ≡ neg_ℤ (pos fall) → first -ℤ least ≡ pos gap
     → from < to → IsIn least until (between first next from k) → end ≤ to
     → ((n : ℕ) → n < end → fall * n ≤ gap * k) → (end < to → (n : ℕ) → end ≤ n → gap * k < fall * n)
     → IsExit (λ n. IsIn least until (between first next n k)) from to end
-falling_exit first next least until fall gap k from to end h e g order begin within below above = record {
-  after = ⊎_elim (λ less. less) (λ past. absurd (out (omega arith) from past begin)) (cases_lt from end);
-  within = within;
-  holds = λ n p q. record {
-    not_before = falling-above first next least fall gap k n h e g (below n q);
-    before_end = omega (arith, ints, begin.before_end, falling-le first next fall k from n h e p);
-  };
-  ends = λ less. out less end (omega arith);
-}
-  where
-    out : end < to → (n : ℕ) → end ≤ n → ¬ (IsIn least until (between first next n k))
-    out less n past there =
-        let low = falling-below first next least fall gap k n h e g (above less n past) in
-        omega (arith, ints, low, there.not_before)
+falling_exit first next least until fall gap k from to end h e g order begin within below above =
+    exit_of (λ n. IsIn least until (between first next n k)) from to end order begin within
+    (λ n p q. record {
+      not_before = falling-above first next least fall gap k n h e g (below n q);
+      before_end = omega (arith, ints, begin.before_end, falling-le first next fall k from n h e p);
+    })
+    (λ less n past there. let low = falling-below first next least fall gap k n h e g (above less n past) in omega (arith, ints, low, there.not_before))
 
 -- a level line never leaves
 pub level_exit : (first next least until : ℤ) (k from to : ℕ) → 0 < k → next -ℤ first ≡ pos 0 → from < to → IsIn least until (between first next from k)

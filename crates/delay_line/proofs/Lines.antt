@@ -1,5 +1,5 @@
 -- The size of a part of a number, and of the delay on a line.
-use Rattle.std.proofs.Common.{◌≡◌, ℕ, zero, suc, ◌+◌, ◌-◌, ◌*◌, ◌≤◌, ◌<◌, ◌⊎◌, ⊎_elim, inl, inr, ℤ, pos, negsuc, ◌-ℤ◌, ◌*ℤ◌, ◌≤ℤ◌, unsigned_abs, arith}
+use Rattle.std.proofs.Common.{◌≡◌, ℕ, zero, suc, ◌+◌, ◌-◌, ◌*◌, ◌^◌, ◌≤◌, ◌<◌, ◌⊎◌, ⊎_elim, inl, inr, ℤ, pos, negsuc, ◌+ℤ◌, ◌-ℤ◌, ◌*ℤ◌, ◌≤ℤ◌, unsigned_abs, ap, ◌∙◌, arith}
 use Rattle.std.specs.Int.{int_div_euclid}
 use Rattle.std.proofs.Math.IntN.{*ℤ-zero}
 use Rattle.std.proofs.Math.Nat.{mul-pos}
@@ -50,3 +50,12 @@ unsigned_abs-part part first next past knot h is =
     (λ up. omega (arith, ints, is, up.0, up.1))
     (λ down. omega (arith, ints, is, down.0, down.1))
     (part_within (next -ℤ first) past knot h)
+
+-- the part that is added to the first delay gives the delay on the line
+pub part_on : (first next rise part : ℤ) (past knot : ℕ) → past < knot → unsigned_abs first < 2 ^ 59 → unsigned_abs next < 2 ^ 59
+    → part ≡ int_div_euclid (rise *ℤ pos past) (pos knot) → rise ≡ next -ℤ first
+    → (unsigned_abs part ≤ unsigned_abs first + unsigned_abs next) × (first +ℤ part ≡ between first next past knot) × (unsigned_abs (first +ℤ part) < 2 ^ 59)
+part_on first next rise part past knot h a b is e =
+    let of_line : part ≡ int_div_euclid ((next -ℤ first) *ℤ pos past) (pos knot) = is ∙ ap (λ (z : ℤ). int_div_euclid (z *ℤ pos past) (pos knot)) e in
+    let sum : first +ℤ part ≡ between first next past knot = ap (λ (z : ℤ). first +ℤ z) of_line in
+    (unsigned_abs-part part first next past knot h of_line, sum, rw sum (unsigned_abs-between first next past knot (2 ^ 59) h a b))

@@ -1,12 +1,27 @@
 -- The samples of so many seconds, and those from a polynomial's second to a sample.
-use Rattle.std.proofs.Common.{◌≡◌, ℕ, suc, ◌+◌, ◌*◌, ◌/◌, ◌^◌, ◌≤◌, ◌<◌, ℤ, pos, negsuc, ◌+ℤ◌, ◌-ℤ◌, ◌*ℤ◌, ◌≤ℤ◌, unsigned_abs, ap, arith}
+use Rattle.std.proofs.Common.{◌≡◌, ℕ, suc, ◌+◌, ◌*◌, ◌/◌, ◌^◌, ◌≤◌, ◌<◌, ℤ, pos, negsuc, ◌+ℤ◌, ◌-ℤ◌, ◌*ℤ◌, ◌≤ℤ◌, unsigned_abs, w64, of_z, to_z, FitsSigned, ap, arith}
 use borrow.Author.Differences.{up, down}
 use Rattle.std.proofs.Math.Nat.{div-mul-le_self}
-use Rattle.std.proofs.lemmas.Int.{ints}
+use Rattle.std.proofs.lemmas.Int.{ints, to_z-of_z}
 use Rattle.std.proofs.lemmas.Nat.{mul-le}
+use Rattle.num_time.specs.Times.{IsSecond}
 use Rattle.delay_poly.specs.declared.entry.PolyEntry.{PolyEntry}
 use Rattle.corr_model.specs.Delay.{DelayModel, IsDelayModel, samples_since}
 use Rattle.delay_track.proofs.Polynomials.{IsBegun}
+
+-- the seconds from one to another, in words of 64 bits
+pub record IsPassed (start second : ℤ) : Type 0 where
+  pub fits : FitsSigned w64 (to_z w64 (of_z w64 second) -ℤ to_z w64 (of_z w64 start))
+  pub value : to_z w64 (of_z w64 (to_z w64 (of_z w64 second) -ℤ to_z w64 (of_z w64 start))) ≡ second -ℤ start
+
+pub IsPassed-seconds : (start second : ℤ) → IsSecond start → IsSecond second → IsPassed start second
+IsPassed-seconds start second before after =
+    let from : FitsSigned w64 start = omega (arith, ints, before) in
+    let at : FitsSigned w64 second = omega (arith, ints, after) in
+    let fits : FitsSigned w64 (second -ℤ start) = omega (arith, ints, before, after) in
+    let first = to_z-of_z w64 start from in
+    let last = to_z-of_z w64 second at in
+    record { fits = rw (first, last) fits; value = rw (first, last) (to_z-of_z w64 (second -ℤ start) fits) }
 
 -- the samples of some seconds and of others
 pub product_sum : (a b : ℤ) (rate : ℕ) → (a +ℤ b) *ℤ pos rate ≡ a *ℤ pos rate +ℤ b *ℤ pos rate

@@ -9,25 +9,25 @@ use Rattle.std.proofs.lemmas.List.Elements.{All-head, All-tail}
 use Rattle.std.proofs.lemmas.List.FromFn.{length-range_with_len, get_or-range_with_len, length-map-range_with_len, get_or-map-range_with_len}
 use Rattle.corr_model.specs.declared.cell.Cell.{Cell}
 use Rattle.corr_model.specs.declared.cell.Pair.{Pair}
-use Rattle.corr_model.specs.Cell.{Samples, no_cell, cell_plus, is_inside, product_of, product_at, sum_from, cell_in}
+use Rattle.corr_model.specs.Cell.{Samples, no_cell, cell_plus, is_inside, product_of, product_at, sum_from, cell_in, IsProduct}
 use Rattle.corr_model.specs.Lags.{lag_of}
-use Rattle.corr_model.proofs.CellLemmas.{cell_plus-none, cell_in-sum, sum_from-same, sum_from-split}
+use Rattle.corr_model.proofs.CellLemmas.{IsGrown, cell_plus-none, cell_in-sum, no_cell-small, sum_from-same, sum_from-split, sum_from-grown}
 use Rattle.piece_plan.specs.declared.epoch.EpochPlan.{EpochPlan}
 use Rattle.piece_plan.proofs.Quotients.{quotient_is}
 use Rattle.piece_plan.proofs.PieceLemmas.{quotient-lt}
 use Rattle.pulsar_bins.specs.Cells.{of_bin, bin_cell_in}
 use Rattle.epoch_run.specs.Binned.{lag_cells, bin_cells, bin_cells_in_epoch}
-use Rattle.epoch_run.specs.Levelled.{AllLevelled, IsWithin}
+use Rattle.epoch_run.specs.Levelled.{AllLevelled}
 use Rattle.epoch_run.specs.Sums.{pair_cells, cells_in_epoch}
 use Rattle.epoch_run.specs.Planes.{IsNumbered}
 use Rattle.epoch_run.proofs.Rows.{get_or-rows, length-rows}
-use Rattle.epoch_run.proofs.Within.{IsWithin-none, IsWithin-product_at, IsWithin-sum_from}
+use Rattle.epoch_run.proofs.Within.{IsProduct-product_at}
 
 -- the cells of ranges that add up, where each sample adds a small one
 pub record AddsUp (over : ℕ → ℕ → Cell) : Type 0 where
   pub split : (from middle to : ℕ) → from ≤ middle → middle ≤ to → over from to ≡ cell_plus (over from middle) (over middle to)
   pub none : (from : ℕ) → over from from ≡ no_cell
-  pub within : (from to : ℕ) → IsWithin (over from to) (to - from)
+  pub within : (from to : ℕ) → IsGrown (over from to) (to - from)
 
 -- a sample adds to its own bin, and nothing to another
 of_bin-same : (j b : ℕ) (c : Cell) → j ≡ b → (if j == b then c else no_cell) ≡ c
@@ -62,16 +62,16 @@ module _ (bins : ℕ → ℕ) (b : ℕ) (z : Samples) (pair : Pair) (samples : �
       let parts : from - from ≡ 0 = omega arith in
       ap (sum_from adds from) parts
 
-  pub IsWithin-bin_cell_in : AllLevelled z → (from to : ℕ) → IsWithin (cell from to) (to - from)
+  pub IsGrown-bin_cell_in : AllLevelled z → (from to : ℕ) → IsGrown (cell from to) (to - from)
   unfolding bin_cell_in
-  IsWithin-bin_cell_in all from to = IsWithin-sum_from adds from (to - from) (λ n. by n (bins n == b))
+  IsGrown-bin_cell_in all from to = sum_from-grown adds from (to - from) (λ n. by n (bins n == b))
     where
-      by : (n : ℕ) (t : Bool) → IsWithin (if t then product_at z pair samples lag n else no_cell) 1
-      by n true = IsWithin-product_at z pair samples lag n all
-      by n false = IsWithin-none 1
+      by : (n : ℕ) (t : Bool) → IsProduct (if t then product_at z pair samples lag n else no_cell)
+      by n true = IsProduct-product_at z pair samples lag n all
+      by n false = no_cell-small
 
   pub AddsUp-bin_cell_in : AllLevelled z → AddsUp (bin_cell_in bins b z pair samples lag)
-  AddsUp-bin_cell_in all = record { split = bin_cell_in-split; none = bin_cell_in-none; within = IsWithin-bin_cell_in all }
+  AddsUp-bin_cell_in all = record { split = bin_cell_in-split; none = bin_cell_in-none; within = IsGrown-bin_cell_in all }
 
   -- where all samples are of the bin, its cell is that of all
   pub bin_cell_in-same : (from to : ℕ) → ((n : ℕ) → from ≤ n → n < to → bins n ≡ b) → cell from to ≡ cell_in z pair samples lag from to
@@ -147,10 +147,10 @@ module _ (bins : ℕ → ℕ) (count : ℕ) (z : Samples) (samples lags from to 
       ∙ get_or-map-range_with_len (λ l. bin_cell_in bins b z pair samples (lag_of lags l) from to) 0 lags i i d lag (omega arith)
 
   -- they are small
-  pub All-bin_cells : 0 < lags → AllLevelled z → All (λ c. IsWithin c (to - from)) cells
+  pub All-bin_cells : 0 < lags → AllLevelled z → All (λ c. IsGrown c (to - from)) cells
   All-bin_cells some all k d h =
-      subst (λ (c : Cell). IsWithin c (to - from)) (sym (get_or-bin_cells k d some (omega (arith, h, length-bin_cells))))
-      (IsWithin-bin_cell_in bins (k / lags) z pair samples (lag_of lags (k % lags)) all from to)
+      subst (λ (c : Cell). IsGrown c (to - from)) (sym (get_or-bin_cells k d some (omega (arith, h, length-bin_cells))))
+      (IsGrown-bin_cell_in bins (k / lags) z pair samples (lag_of lags (k % lags)) all from to)
 
   -- cells that are these one by one
   pub are-bin_cells : (xs : List Cell) → 0 < lags → length xs ≡ count * lags

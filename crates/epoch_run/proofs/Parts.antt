@@ -3,12 +3,11 @@ use Rattle.std.proofs.Common.{◌≡◌, ℕ, zero, suc, ◌+◌, ◌-◌, ◌*�
 use Rattle.std.proofs.lemmas.Int.{ints}
 use Rattle.corr_model.specs.declared.cell.Cell.{Cell}
 use Rattle.corr_model.specs.Cell.{no_cell, cell_plus}
-use Rattle.corr_model.proofs.CellLemmas.{same_cell}
+use Rattle.corr_model.proofs.CellLemmas.{IsGrown, same_cell}
 use Rattle.piece_claim.specs.State.{sum_below}
 use Rattle.piece_plan.specs.Parts.{part_at, part_count}
 use Rattle.piece_plan.proofs.Quotients.{below_ceil, ceil_covers}
 use Rattle.epoch_run.specs.Amounts.{amounts_in, bias_of}
-use Rattle.epoch_run.specs.Levelled.{IsWithin}
 use Rattle.epoch_run.proofs.BinnedCells.{AddsUp}
 
 -- number r of the amounts of a cell
@@ -19,7 +18,7 @@ biased-plus : (x y : ℤ) (n m : ℕ) → neg_ℤ (pos (450 * n)) ≤ℤ x → n
     → unsigned_abs (x +ℤ pos (450 * n)) + unsigned_abs (y +ℤ pos (450 * m)) ≡ unsigned_abs ((x +ℤ y) +ℤ pos (450 * (n + m)))
 biased-plus x y n m h k = omega (arith, ints)
 
-amount_in-plus : (r : ℕ) (c d : Cell) (n m : ℕ) → IsWithin c n → IsWithin d m
+amount_in-plus : (r : ℕ) (c d : Cell) (n m : ℕ) → IsGrown c n → IsGrown d m
     → amount_in r (bias_of n) c + amount_in r (bias_of m) d ≡ amount_in r (bias_of (n + m)) (cell_plus c d)
 amount_in-plus zero c d n m h k = biased-plus c.re d.re n m h.re_low k.re_low
 amount_in-plus (suc zero) c d n m h k = biased-plus c.im d.im n m h.im_low k.im_low
@@ -36,7 +35,7 @@ biased-most : (x : ℤ) (n : ℕ) → neg_ℤ (pos (450 * n)) ≤ℤ x → x ≤
 biased-most x n h k = omega (arith, ints)
 
 -- no amount is greater than twice the bias
-pub amount_in-most : (r : ℕ) (c : Cell) (n : ℕ) → IsWithin c n → amount_in r (bias_of n) c ≤ 900 * n
+pub amount_in-most : (r : ℕ) (c : Cell) (n : ℕ) → IsGrown c n → amount_in r (bias_of n) c ≤ 900 * n
 amount_in-most zero c n h = biased-most c.re n h.re_low h.re_high
 amount_in-most (suc zero) c n h = biased-most c.im n h.im_low h.im_high
 amount_in-most (suc (suc zero)) c n h = omega (arith, h.count)
@@ -46,7 +45,7 @@ unbiased-sum : (x : ℤ) (a n : ℕ) → neg_ℤ (pos (450 * n)) ≤ℤ x → a 
 unbiased-sum x a n h e = omega (arith, ints)
 
 -- a cell from its amounts
-pub cell-amounts : (c : Cell) (n a b e : ℕ) → IsWithin c n → a ≡ amount_in 0 (bias_of n) c → b ≡ amount_in 1 (bias_of n) c
+pub cell-amounts : (c : Cell) (n a b e : ℕ) → IsGrown c n → a ≡ amount_in 0 (bias_of n) c → b ≡ amount_in 1 (bias_of n) c
     → e ≡ amount_in 2 (bias_of n) c
     → ◌≡◌ {A = Cell} (record { re = pos a -ℤ pos (bias_of n); im = pos b -ℤ pos (bias_of n); count = e }) c
 cell-amounts c n a b e h p q s =

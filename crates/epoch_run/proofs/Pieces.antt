@@ -8,13 +8,14 @@ use Rattle.std.proofs.lemmas.Option.{same_Some}
 use Rattle.std.proofs.lemmas.List.Elements.{All-from_get_or}
 use Rattle.corr_model.specs.declared.cell.Cell.{Cell}
 use Rattle.corr_model.specs.declared.cell.Pair.{Pair}
+use Rattle.corr_model.proofs.CellLemmas.{IsGrown}
 use Rattle.piece_plan.specs.declared.piece.Piece.{Piece}
 use Rattle.piece_plan.specs.Parts.{part_at}
 use Rattle.piece_plan.specs.Pieces.{IsCut, per_group, piece_of, pieces_of}
 use Rattle.piece_plan.proofs.Quotients.{quotient_is}
 use Rattle.piece_plan.proofs.PieceLemmas.{length-groups, piece-IsPiece, quotient-lt}
 use Rattle.epoch_run.specs.Amounts.{WorkFields, amounts_in, amounts_of, bias_of, cells_of, cells_over, cut_of, pair_amounts, piece_amounts}
-use Rattle.epoch_run.specs.Levelled.{IsWithin, IsWork}
+use Rattle.epoch_run.specs.Levelled.{IsWork}
 use Rattle.epoch_run.specs.Part.{IsPart}
 use Rattle.epoch_run.proofs.Parts.{amount_in, amount_in-most, part_amount}
 use Rattle.epoch_run.proofs.Rows.{get_or-rows, length-rows}
@@ -68,7 +69,7 @@ three : (bias : ℕ) (c : Cell) → length (amounts_in bias c) ≡ 3
 three bias c = refl
 
 -- they are small
-pub amounts-within : (w : WorkFields) (p : Piece) (cells : List Cell) → IsPart w p → All (λ c. IsWithin c (p.to - p.from)) cells
+pub amounts-within : (w : WorkFields) (p : Piece) (cells : List Cell) → IsPart w p → All (λ c. IsGrown c (p.to - p.from)) cells
     → All (λ a. a ≤ 900 * w.piece) (flat_map (amounts_in (bias_of (p.to - p.from))) cells)
 amounts-within w p cells part within =
     All-from_get_or (λ a. a ≤ 900 * w.piece) (flat_map (amounts_in (bias_of (p.to - p.from))) cells) 0 each

@@ -6,6 +6,7 @@ use Rattle.corr_model.specs.declared.cell.Cell.{Cell}
 use Rattle.corr_model.specs.declared.cell.Pair.{Pair}
 use Rattle.corr_model.specs.Cell.{Value, Samples}
 use Rattle.corr_model.specs.Lags.{lag_of}
+use Rattle.corr_model.proofs.CellLemmas.{IsGrown}
 use Rattle.bit_planes.specs.Planes.{PlanesFields, plane_value}
 use Rattle.lag_kernel.specs.Planes.{plane_samples}
 use Rattle.station_stream.specs.Stream.{AreLevelled}
@@ -13,7 +14,7 @@ use Rattle.pulsar_bins.specs.Cells.{bin_cell_in}
 use Rattle.epoch_run.specs.Binned.{PhaseFields, IsPhase, bins_of, bin_by}
 use Rattle.epoch_run.specs.Planes.{planed}
 use Rattle.epoch_run.specs.Amounts.{WorkFields, cells_of, cells_over}
-use Rattle.epoch_run.specs.Levelled.{AllLevelled, IsWithin, IsWork}
+use Rattle.epoch_run.specs.Levelled.{AllLevelled, IsWork}
 use Rattle.epoch_run.proofs.BinnedCells.{AddsUp, AddsUp-bin_cell_in, All-bin_cells, get_or-bin_cells, length-bin_cells}
 
 -- there is a bin, and there are few
@@ -66,6 +67,6 @@ module _ (w : WorkFields) (is : IsWork w) where
     get_or-cells_over from to k d h =
         get_or-bin_cells (bin_by w.phase) (bins_of w.phase) (planed w.planes) w.samples w.epoch.lags from to pair k d lags-some h
 
-    pub All-cells_over : (from to : ℕ) → All (λ c. IsWithin c (to - from)) (cells_over w from to pair)
+    pub All-cells_over : (from to : ℕ) → All (λ c. IsGrown c (to - from)) (cells_over w from to pair)
     All-cells_over from to =
         All-bin_cells (bin_by w.phase) (bins_of w.phase) (planed w.planes) w.samples w.epoch.lags from to pair lags-some is.levelled

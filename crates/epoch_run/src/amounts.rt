@@ -1,7 +1,8 @@
 //! The amounts of cells.
 ghost use Rattle.std.specs.Prelude.{◌≡◌, ◌+◌, ◌*◌, ◌≤◌, ◌≤ℤ◌, ◌+ℤ◌, ◌++◌, pos, neg_ℤ, unsigned_abs, length, take, flat_map};
 ghost use Rattle.std.specs.List.{All};
-ghost use Rattle.epoch_run.specs.{Amounts.{amounts_in, bias_of}, Levelled.{IsWithin}};
+ghost use Rattle.corr_model.proofs.CellLemmas.{IsGrown};
+ghost use Rattle.epoch_run.specs.Amounts.{amounts_in, bias_of};
 
 use corr_model::Cell;
 
@@ -10,7 +11,7 @@ pub(crate) fn write_amounts(cells: &[Cell], samples: u64, amounts: &mut [u64])
     requires room { length amounts.old ≡ 3 * length cells.now }
     requires few { length cells.now ≤ 65536 }
     requires most { samples ≤ 4194304 }
-    requires within { All (λ c. IsWithin c samples) cells.now }
+    requires within { All (λ c. IsGrown c samples) cells.now }
     ensures { amounts.new ≡ flat_map (amounts_in (bias_of samples)) cells.now }
 {
     for (i, cell) in cells.iter().enumerate() {
@@ -22,7 +23,7 @@ pub(crate) fn write_amounts(cells: &[Cell], samples: u64, amounts: &mut [u64])
 fn write_cell(cell: Cell, samples: u64, at: usize, amounts: &mut [u64])
     requires room { at + 3 ≤ length amounts.old }
     requires most { samples ≤ 4194304 }
-    requires within { IsWithin cell samples }
+    requires within { IsGrown cell samples }
     ensures { take (at + 3) amounts.new ≡ take at amounts.old ++ amounts_in (bias_of samples) cell }
 {
     let bias = 450 * samples;

@@ -5,7 +5,8 @@ ghost use Rattle.corr_model.specs.{declared.cell.Cell.{Cell}, Cell.{cell_plus, n
 ghost use Rattle.delay_track.specs.Track.{model_of};
 ghost use Rattle.lag_kernel.specs.Planes.{plane_pair, plane_samples};
 ghost use Rattle.pulsar_bins.specs.Bin.{bin_at};
-ghost use Rattle.epoch_run.specs.{Binned.{bin_cells}, Levelled.{AllLevelled, IsWithin}};
+ghost use Rattle.corr_model.proofs.CellLemmas.{IsGrown};
+ghost use Rattle.epoch_run.specs.{Binned.{bin_cells}, Levelled.{AllLevelled}};
 
 use bit_planes::Planes;
 use corr_model::Cell;
@@ -65,8 +66,8 @@ fn clear(cells: &mut [Cell])
 fn add_cells(more: &[Cell], at: usize, cells: &mut [Cell])
     requires room { at + length more.now ≤ length cells.old }
     requires few { length cells.old ≤ 65536 }
-    requires more { All (λ c. IsWithin c 4194304) more.now }
-    requires cells { All (λ c. IsWithin c 4194304) cells.old }
+    requires more { All (λ c. IsGrown c 4194304) more.now }
+    requires cells { All (λ c. IsGrown c 4194304) cells.old }
     ensures before { (k : ℕ) (d : Cell) → k < at → slice_index_or cells.new k d ≡ slice_index_or cells.old k d }
     ensures here { (k : ℕ) (d : Cell) → k < length more.now
         → slice_index_or cells.new (at + k) d ≡ cell_plus (slice_index_or cells.old (at + k) d) (slice_index_or more.now k d) }
@@ -80,8 +81,8 @@ fn add_cells(more: &[Cell], at: usize, cells: &mut [Cell])
 // Adds a cell to that at a place.
 fn add_cell(more: Cell, at: usize, cells: &mut [Cell])
     requires room { at < length cells.old }
-    requires more { IsWithin more 4194304 }
-    requires cell { (d : Cell) → IsWithin (slice_index_or cells.old at d) 4194304 }
+    requires more { IsGrown more 4194304 }
+    requires cell { (d : Cell) → IsGrown (slice_index_or cells.old at d) 4194304 }
     ensures here { (d : Cell) → slice_index_or cells.new at d ≡ cell_plus (slice_index_or cells.old at d) more }
     ensures beside { (k : ℕ) (d : Cell) → k ≢ at → slice_index_or cells.new k d ≡ slice_index_or cells.old k d }
 {

@@ -6,8 +6,9 @@ ghost use Rattle.atomic_sums.specs.Seats.{seat_of};
 ghost use Rattle.lag_kernel.specs.Planes.{plane_pair, plane_samples};
 ghost use Rattle.piece_plan.specs.Pieces.{per_group, pieces_of};
 ghost use Rattle.delay_track.specs.Track.{model_of};
+ghost use Rattle.corr_model.proofs.CellLemmas.{IsGrown};
 ghost use Rattle.epoch_run.specs.{Sums.{IsSummed, pieces_in_epoch}, Binned.{bin_by, bin_cells, bins_of, stretch_of}};
-ghost use Rattle.epoch_run.specs.{Amounts.{IsBoardOf, HaveAmounts, amounts_of, cells_of, cells_over, cut_of, work_cells}, Levelled.{AllLevelled, IsWithin}, Part.{IsPart}};
+ghost use Rattle.epoch_run.specs.{Amounts.{IsBoardOf, HaveAmounts, amounts_of, cells_of, cells_over, cut_of, work_cells}, Levelled.{AllLevelled}, Part.{IsPart}};
 
 use crate::amounts::write_amounts;
 use crate::phase::{Phase, bin_lags};
@@ -226,7 +227,7 @@ impl<'a> Work<'a> {
         requires cells { length cells.old ≡ cells_of self.now }
         ensures cells { cells.new ≡ cells_over self.now piece.now.from piece.now.to pair.now }
         ensures few { length cells.new ≤ 65536 }
-        ensures within { All (λ c. IsWithin c (piece.now.to - piece.now.from)) cells.new }
+        ensures within { All (λ c. IsGrown c (piece.now.to - piece.now.from)) cells.new }
     {
         let first = self.planes.channel(pair.a, pair.x);
         let second = self.planes.channel(pair.b, pair.y);

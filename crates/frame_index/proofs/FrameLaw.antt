@@ -21,16 +21,16 @@ use Rattle.frame_index.specs.Placed.{second_of_place, number_of_place}
 -- ---- whole seconds and what is left
 
 -- a place is its second's samples and those from there on
-floor_parts : (p : ℤ) (m : ℕ) → 0 < m → p ≡ int_div_euclid p (pos m) *ℤ pos m +ℤ pos (unsigned_abs (int_rem_euclid p (pos m)))
+pub floor_parts : (p : ℤ) (m : ℕ) → 0 < m → p ≡ int_div_euclid p (pos m) *ℤ pos m +ℤ pos (unsigned_abs (int_rem_euclid p (pos m)))
 floor_parts (pos a) m some = omega (arith, ints, div-add-mod' a m)
 floor_parts (negsuc a) m some = omega (arith, ints, div-add-mod' a m, mod_below a m some)
 
-rest_below : (p : ℤ) (m : ℕ) → 0 < m → unsigned_abs (int_rem_euclid p (pos m)) < m
+pub rest_below : (p : ℤ) (m : ℕ) → 0 < m → unsigned_abs (int_rem_euclid p (pos m)) < m
 rest_below (pos a) m some = mod_below a m some
 rest_below (negsuc a) m some = omega arith
 
 -- a later second's samples come behind all of an earlier one's
-product_step : (a b : ℤ) (m : ℕ) → a <ℤ b → (a *ℤ pos m +ℤ pos m) ≤ℤ (b *ℤ pos m)
+pub product_step : (a b : ℤ) (m : ℕ) → a <ℤ b → (a *ℤ pos m +ℤ pos m) ≤ℤ (b *ℤ pos m)
 product_step (pos a) (pos b) m h = omega (arith, ints, mul-le (a + 1) m b m (omega (arith, ints)) (omega arith))
 product_step (pos a) (negsuc b) m h = absurd (omega (arith, ints))
 product_step (negsuc a) (pos b) m h = omega (arith, ints)
@@ -48,7 +48,7 @@ int_cases : (a b : ℤ) → (a <ℤ b) ⊎ (b ≤ℤ a)
 int_cases a b = grind (arith, ints)
 
 -- a frame that begins in second d, and a place in second q that it covers
-same_second : (d q d_samples q_samples p : ℤ) (rate r spf before : ℕ)
+pub same_second : (d q d_samples q_samples p : ℤ) (rate r spf before : ℕ)
     → (d <ℤ q → (d_samples +ℤ pos rate) ≤ℤ q_samples) → (q <ℤ d → (q_samples +ℤ pos rate) ≤ℤ d_samples) → (d ≡ q → d_samples ≡ q_samples)
     → before + spf ≤ rate → r < rate → p ≡ q_samples +ℤ pos r
     → (d_samples +ℤ pos before) ≤ℤ p → p <ℤ (d_samples +ℤ pos before +ℤ pos spf)
@@ -65,11 +65,12 @@ same_second d q d_samples q_samples p rate r spf before earlier later same withi
     (int_cases q d))
     (int_cases d q)
 
-both-first : (a b : Bool) → (a && b) ≡ true → a ≡ true
+-- both tests pass
+pub both-first : (a b : Bool) → (a && b) ≡ true → a ≡ true
 both-first true b e = refl
 both-first false b e = cc
 
-both-second : (a b : Bool) → (a && b) ≡ true → b ≡ true
+pub both-second : (a b : Bool) → (a && b) ≡ true → b ≡ true
 both-second true b e = e
 both-second false b e = cc
 

@@ -112,12 +112,13 @@ pub unchanged_other : (b : BoardState) (i j : ℕ) (e x : Seat) → i ≢ j → 
 unchanged_other b i j e x differ live read = read ∙ get_or-set_other b.seats j i e x differ ∙ get_or_default b.seats i x ended_seat (live_inside b.seats i live)
 
 -- the joined seat is written after the ended one
-pub join_seats : (b : BoardState) (i j : ℕ) (e x v : Seat) → i ≢ j → (seat_at b i).ended ≡ false → e ≡ ended_seat → x ≡ get_or (slice_set b.seats j e) i x → v ≡ joined x (seat_at b j)
+pub join_seats : (b : BoardState) (i j : ℕ) (e x y v : Seat) → i ≢ j → CanJoin (seat_at b i) (seat_at b j) → e ≡ ended_seat → x ≡ get_or (slice_set b.seats j e) i x → y ≡ get_or b.seats j y → v ≡ joined x y
     → slice_set (slice_set b.seats j e) i v ≡ slice_set (slice_set b.seats i (joined (seat_at b i) (seat_at b j))) j ended_seat
-join_seats b i j e x v differ live is read new =
-    let was = unchanged_other b i j e x differ live read in
+join_seats b i j e x y v differ can is read other_read new =
+    let was = unchanged_other b i j e x differ can.live read in
+    let other = seat_read b j y can.other_live other_read in
     set_comm b.seats j i e v (λ same. differ (sym same))
-    ∙ ap (λ u. slice_set (slice_set b.seats i u) j e) (new ∙ ap (λ u. joined u (seat_at b j)) was)
+    ∙ ap (λ u. slice_set (slice_set b.seats i u) j e) (new ∙ ap (λ u. joined u y) was ∙ ap (λ u. joined (seat_at b i) u) other)
     ∙ ap (λ u. slice_set (slice_set b.seats i (joined (seat_at b i) (seat_at b j))) j u) is
 
 -- where the join found no memory, every seat is as it was

@@ -8,6 +8,7 @@ use Rattle.piece_plan.specs.declared.epoch.EpochPlan.{EpochPlan}
 use Rattle.piece_plan.specs.Epochs.{JobSizes, job_sizes, IsJob, IsScan, IsEpoch, IsOfPlan, epochs_of}
 use Rattle.piece_plan.specs.Counts.{epochs_before, AreEnds, count_in, epoch_at}
 use Rattle.piece_plan.proofs.Quotients.{below_ceil}
+use Rattle.piece_plan.proofs.RangeLemmas.{range-IsEpoch}
 use Rattle.piece_plan.proofs.CountLemmas.{length-scan_epochs, slice_get-scan_epochs, epoch-IsPlaced}
 use Rattle.piece_plan.proofs.AboveLemmas.{IsFirstAbove}
 use Rattle.piece_plan.proofs.EndLemmas.{epochs_before-none, epochs_before-more, slice_get-epochs_of}
@@ -60,18 +61,7 @@ pub epoch_at-IsEpoch : (job : JobSizes) (number : ℕ) (size : ScanSize) (j : �
 epoch_at-IsEpoch job number size j is at inside =
     let within = epoch-IsWithin size.first size.samples job.integration job.epoch j (div_ceil job.integration job.epoch)
     is.integration is.epoch inside refl in
-    record {
-      size = size;
-      scan = at;
-      products = refl;
-      baselines = refl;
-      lags = refl;
-      begins = omega arith;
-      from = omega arith;
-      some = omega (arith, within.from, is.epoch);
-      to = omega arith;
-      short = omega (arith, is.short);
-    }
+    range-IsEpoch job number size _ _ _ at (omega arith) (omega arith) (omega (arith, within.from, is.epoch)) (omega arith) (omega (arith, is.short))
 
 pub scan-IsScan : (job : JobSizes) (number : ℕ) (size : ScanSize) → IsJob job → slice_get job.scans number ≡ Some size → IsScan job.integration job.lags size
 scan-IsScan job number size is at =

@@ -1,6 +1,7 @@
 pub mod Quotients
 pub mod ListPlaces
 pub mod PartLemmas
+pub mod RangeLemmas
 pub mod SumLemmas
 pub mod CountLemmas
 pub mod AboveLemmas

@@ -12,7 +12,7 @@ use Rattle.std.proofs.lemmas.List.Sums.{sum_by-cons, sum_by_more, sum_by-take-le
 use Rattle.std.proofs.lemmas.Option.{slice_get-get_or, slice_get_within, get_or_from_slice_get}
 use Rattle.piece_plan.specs.declared.job.ScanSize.{ScanSize}
 use Rattle.piece_plan.specs.declared.epoch.EpochPlan.{EpochPlan}
-use Rattle.piece_plan.specs.Epochs.{JobSizes, job_sizes, IsJob, IsScan, IsEpoch, integration_count, scan_epochs, epochs_of}
+use Rattle.piece_plan.specs.Epochs.{JobSizes, job_sizes, IsJob, IsScan, IsEpoch, integration_at, integration_count, scan_epochs, epochs_of}
 use Rattle.piece_plan.specs.Counts.{count_in}
 use Rattle.piece_plan.specs.Order.{Place, place_of}
 use Rattle.piece_plan.specs.Limited.{integration_number, limited_scan, limited_scans, limited}
@@ -20,43 +20,39 @@ use Rattle.piece_plan.proofs.Quotients.{below_ceil, ceil_above, ceil_covers, cei
 use Rattle.piece_plan.proofs.CountLemmas.{length-scan_epochs}
 use Rattle.piece_plan.proofs.EpochLemmas.{scan-IsScan}
 
--- a scan that keeps some of its integrations
-pub record KeepsSome (job : JobSizes) (size s : ScanSize) (from to : ℕ) : Type 0 where
-  pub first : s.first ≡ size.first + from
-  pub samples : s.samples ≡ min size.samples ((size.first + to) * job.integration)
+-- a scan that has its integrations from this one on, up to so many samples
+pub record Keeps (size s : ScanSize) (from many : ℕ) : Type 0 where
+  pub first : s.first ≡ from
+  pub samples : s.samples ≡ many
   pub products : s.products ≡ size.products
   pub baselines : s.baselines ≡ size.baselines
 
+same-Keeps : (size s : ScanSize) (first samples : ℕ) → s ≡ record size { first = first; samples = samples } → Keeps size s first samples
+same-Keeps size s first samples same = record {
+  first = ap (λ (z : ScanSize). z.first) same;
+  samples = ap (λ (z : ScanSize). z.samples) same;
+  products = ap (λ (z : ScanSize). z.products) same;
+  baselines = ap (λ (z : ScanSize). z.baselines) same;
+}
+
+-- one that keeps some of its integrations
+abbrev pub KeepsSome : JobSizes → ScanSize → ScanSize → ℕ → ℕ → Type 0
+KeepsSome job size s from to = Keeps size s (size.first + from) (min size.samples ((size.first + to) * job.integration))
+
 -- and one that keeps none
-pub record KeepsNone (size s : ScanSize) : Type 0 where
-  pub first : s.first ≡ 0
-  pub samples : s.samples ≡ 0
-  pub products : s.products ≡ size.products
-  pub baselines : s.baselines ≡ size.baselines
+abbrev pub KeepsNone : ScanSize → ScanSize → Type 0
+KeepsNone size s = Keeps size s 0 0
 
 pub limited_scan-KeepsSome : (job : JobSizes) (size s : ScanSize) (from to : ℕ) → s ≡ limited_scan job size from to
     → from < min to (integration_count job size) → KeepsSome job size s from to
 limited_scan-KeepsSome job size s from to is some =
-    let same : s ≡ record size { first = size.first + from; samples = min size.samples ((size.first + to) * job.integration) } =
-    is ∙ cond-true (ltb from (min to (integration_count job size))) _ _ (lt-ltb _ _ some) in
-    record {
-      first = ap (λ (z : ScanSize). z.first) same;
-      samples = ap (λ (z : ScanSize). z.samples) same;
-      products = ap (λ (z : ScanSize). z.products) same;
-      baselines = ap (λ (z : ScanSize). z.baselines) same;
-    }
+    same-Keeps size s (size.first + from) (min size.samples ((size.first + to) * job.integration))
+    (is ∙ cond-true (ltb from (min to (integration_count job size))) _ _ (lt-ltb _ _ some))
 
 pub limited_scan-KeepsNone : (job : JobSizes) (size s : ScanSize) (from to : ℕ) → s ≡ limited_scan job size from to
     → min to (integration_count job size) ≤ from → KeepsNone size s
 limited_scan-KeepsNone job size s from to is none =
-    let same : s ≡ record size { first = 0; samples = 0 } =
-    is ∙ cond-false (ltb from (min to (integration_count job size))) _ _ (le-ltb _ _ none) in
-    record {
-      first = ap (λ (z : ScanSize). z.first) same;
-      samples = ap (λ (z : ScanSize). z.samples) same;
-      products = ap (λ (z : ScanSize). z.products) same;
-      baselines = ap (λ (z : ScanSize). z.baselines) same;
-    }
+    same-Keeps size s 0 0 (is ∙ cond-false (ltb from (min to (integration_count job size))) _ _ (le-ltb _ _ none))
 
 -- it is a scan, and has no more samples from its first integration on
 pub record IsSmaller (job : JobSizes) (size s : ScanSize) : Type 0 where
@@ -268,6 +264,23 @@ AreOfLimited-from_scan job size s from to m a b one is start some are =
       baselines = keeps.baselines;
     }
 
+-- an epoch is one of another job too, in which its scan has other integrations
+IsEpoch-by_size : (job other : JobSizes) (e : EpochPlan) (is : IsEpoch job e) (size : ScanSize) → other.lags ≡ job.lags
+    → slice_get other.scans e.scan ≡ Some size → size.products ≡ is.size.products → size.baselines ≡ is.size.baselines
+    → size.first ≤ e.m → (integration_at other size e.m).from ≤ e.from → e.to ≤ (integration_at other size e.m).to → IsEpoch other e
+IsEpoch-by_size job other e is size lags at products baselines begins low high = record {
+  size = size;
+  scan = at;
+  products = is.products ∙ sym products;
+  baselines = is.baselines ∙ sym baselines;
+  lags = is.lags ∙ sym lags;
+  begins = begins;
+  from = low;
+  some = is.some;
+  to = high;
+  short = is.short;
+}
+
 pub IsEpoch-from_limited : (job : JobSizes) (from to : ℕ) (e : EpochPlan) → IsJob job → IsEpoch (limited job from to) e
     → IsEpoch job e × (from ≤ integration_number job (place_of e)) × (integration_number job (place_of e) < to)
 unfolding limited
@@ -277,18 +290,8 @@ IsEpoch-from_limited job from to e is inside =
     let are = AreOfScan-from_limited job was.size inside.size _ _ e.m e.from e.to is.integration was.is
     inside.begins inside.from inside.some inside.to in
     let number = integration_number-is job (place_of e) was.size was.at in
-    let epoch : IsEpoch job e = record {
-      size = was.size;
-      scan = was.at;
-      products = inside.products ∙ smaller.products;
-      baselines = inside.baselines ∙ smaller.baselines;
-      lags = inside.lags;
-      begins = are.begins;
-      from = inside.from;
-      some = inside.some;
-      to = are.within;
-      short = inside.short;
-    } in
+    let epoch : IsEpoch job e =
+    IsEpoch-by_size (limited job from to) job e inside was.size refl was.at (sym smaller.products) (sym smaller.baselines) are.begins inside.from are.within in
     (epoch, omega (arith, number, are.low), omega (arith, number, are.high))
 
 pub IsEpoch-limited : (job : JobSizes) (from to : ℕ) (e : EpochPlan) → IsJob job → IsEpoch job e
@@ -306,18 +309,8 @@ IsEpoch-limited job from to e is inside low high =
       high = omega (arith, number, high);
       within = inside.to;
     }) in
-    record {
-      size = limited_scan job inside.size (from - sum_by (integration_count job) (take e.scan job.scans)) (to - sum_by (integration_count job) (take e.scan job.scans));
-      scan = slice_get-limited_scans job job.scans from to e.scan inside.size inside.scan;
-      products = inside.products ∙ sym are.products;
-      baselines = inside.baselines ∙ sym are.baselines;
-      lags = inside.lags;
-      begins = are.begins;
-      from = inside.from;
-      some = inside.some;
-      to = are.within;
-      short = inside.short;
-    }
+    IsEpoch-by_size job (limited job from to) e inside _ refl (slice_get-limited_scans job job.scans from to e.scan inside.size inside.scan)
+    are.products are.baselines are.begins inside.from are.within
 
 -- fewer samples have no more epochs
 pub count_in-mono : (x y integration epoch : ℕ) → 0 < integration → 0 < epoch → x ≤ y → count_in x integration epoch ≤ count_in y integration epoch

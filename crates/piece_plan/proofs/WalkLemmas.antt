@@ -14,6 +14,7 @@ use Rattle.piece_plan.specs.Order.{Place, first_place, place_in, place_after, Ar
 use Rattle.piece_plan.proofs.Quotients.{below_ceil, ceil_above, ceil_covers}
 use Rattle.piece_plan.proofs.ListPlaces.{slice_get-right}
 use Rattle.piece_plan.proofs.PartLemmas.{parts-GoThrough}
+use Rattle.piece_plan.proofs.RangeLemmas.{range-IsEpoch}
 
 pub AreInOrder-append : (job : JobSizes) (a b c : Option Place) (xs ys : List EpochPlan) → AreInOrder job a xs b → AreInOrder job b ys c
     → AreInOrder job a (xs ++ ys) c
@@ -59,18 +60,8 @@ place_after-end job number m from to products baselines lags size at end =
 part-IsEpoch : (job : JobSizes) (number : ℕ) (size : ScanSize) (m k : ℕ) → IsJob job → slice_get job.scans number ≡ Some size → size.first ≤ m
     → k * job.epoch < (integration_at job size m).to - (integration_at job size m).from
     → IsEpoch job (range_of job number size m (part_at (integration_at job size m).from (integration_at job size m).to job.epoch k))
-part-IsEpoch job number size m k is at begins begun = record {
-  size = size;
-  scan = at;
-  products = refl;
-  baselines = refl;
-  lags = refl;
-  begins = begins;
-  from = omega arith;
-  some = omega (arith, begun, is.epoch);
-  to = omega arith;
-  short = omega (arith, is.short);
-}
+part-IsEpoch job number size m k is at begins begun =
+    range-IsEpoch job number size m _ _ at begins (omega arith) (omega (arith, begun, is.epoch)) (omega arith) (omega (arith, is.short))
 
 -- the epochs of an integration from the k-th on
 rest-AreInOrder : (job : JobSizes) (number : ℕ) (size : ScanSize) (m k n : ℕ) → IsJob job → slice_get job.scans number ≡ Some size → size.first ≤ m

@@ -16,6 +16,7 @@ mod piece;
 pub use epoch::EpochPlan;
 pub use job::{JobPlan, ScanSize};
 pub use limit::integrations_in;
+pub use numbering::epochs_in;
 pub use piece::{Piece, PiecePlan};
 
 #[cfg(test)]

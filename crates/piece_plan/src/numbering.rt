@@ -6,8 +6,8 @@ ghost use Rattle.piece_plan.specs.{declared.job.ScanSize.{ScanSize}, Epochs.{job
 
 use crate::{EpochPlan, ScanSize};
 
-// The number of epochs of so many samples.
-pub(crate) fn epochs_in(samples: u64, integration: u64, epoch: u64) -> u64
+/// The number of epochs of so many samples, cut into integrations of so many samples and each of these into epochs.
+pub fn epochs_in(samples: u64, integration: u64, epoch: u64) -> u64
     requires integration { 0 < integration }
     requires epoch { 0 < epoch }
     ensures count { result ≡ count_in samples integration epoch }

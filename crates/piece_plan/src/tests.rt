@@ -1,4 +1,4 @@
-ghost use Rattle.std.specs.Prelude.{◌≡◌};
+ghost use Rattle.std.specs.Prelude.{◌≡◌, ◌≤◌};
 
 use super::*;
 use std::process::Abort;
@@ -15,15 +15,29 @@ fn size(samples: u64, products: u32, baselines: u32) -> ScanSize
     }
 }
 
-fn epoch(scan: u32, m: u64, from: u64, to: u64, products: u32, baselines: u32) -> EpochPlan {
-    EpochPlan {
+// Epochs of a scan of so many products and baselines that follow each other: from this sample on, up to each of these ends.
+#[derive(Clone, Copy)]
+struct Epochs<'a> {
+    scan: u32,
+    products: u32,
+    baselines: u32,
+    from: u64,
+    ends: &'a [u64],
+}
+
+fn epochs_of<'a>(
+    scan: u32,
+    products: u32,
+    baselines: u32,
+    from: u64,
+    ends: &'a [u64],
+) -> Epochs<'a> {
+    Epochs {
         scan,
-        m,
-        from,
-        to,
         products,
         baselines,
-        lags: 2,
+        from,
+        ends,
     }
 }
 
@@ -36,14 +50,34 @@ fn piece(product: u32, baseline: u32, from: u64, to: u64) -> Piece {
     }
 }
 
-// The epochs of a plan are these, in order.
-fn has_epochs(rt: &impl Abort, plan: &JobPlan, want: &[EpochPlan]) {
-    assert_eq!(rt; plan.epochs(), want.len() as u64);
-    for (i, e) in want.iter().enumerate() {
-        let i = i as u64;
-        assert!(rt; i < plan.epochs());
-        assert_eq!(rt; plan.epoch(i), *e);
+// The one from a sample up to another, where integrations have so many samples.
+fn epoch(of: &Epochs, integration: u64, from: u64, to: u64) -> EpochPlan
+    requires { 1 ≤ integration }
+{
+    EpochPlan {
+        scan: of.scan,
+        m: from / integration,
+        from,
+        to,
+        products: of.products,
+        baselines: of.baselines,
+        lags: 2,
     }
+}
+
+// The epochs of a plan are these, in order.
+fn has_epochs(rt: &impl Abort, plan: &JobPlan, want: &[Epochs]) {
+    let mut i = 0;
+    for of in want {
+        let mut from = of.from;
+        for to in of.ends {
+            assert!(rt; i < plan.epochs());
+            assert_eq!(rt; plan.epoch(i), epoch(of, plan.integration(), from, *to));
+            from = *to;
+            i += 1;
+        }
+    }
+    assert_eq!(rt; plan.epochs(), i);
 }
 
 // The pieces of an epoch with these numbers are these.
@@ -59,15 +93,7 @@ fn has_pieces(rt: &impl Abort, pieces: &PiecePlan, want: &[(u64, Piece)]) {
 fn epochs_and_pieces_of_one_scan(rt: HostRuntime) -> Result<(), Fail> {
     let scans = [size(128, 1, 1)];
     let plan = JobPlan::new(rt.alloc(), &scans, 128, 50, 2)?;
-    has_epochs(
-        &rt,
-        &plan,
-        &[
-            epoch(0, 0, 0, 50, 1, 1),
-            epoch(0, 0, 50, 100, 1, 1),
-            epoch(0, 0, 100, 128, 1, 1),
-        ],
-    );
+    has_epochs(&rt, &plan, &[epochs_of(0, 1, 1, 0, &[50, 100, 128])]);
     assert!(rt; 0 < plan.epochs());
     assert_eq!(rt; PiecePlan::new(&plan.epoch(0), 64).count(), 1);
     let whole = JobPlan::new(rt.alloc(), &scans, 128, 128, 2)?;
@@ -96,12 +122,8 @@ fn epochs_of_several_scans(rt: HostRuntime) -> Result<(), Fail> {
         &rt,
         &plan,
         &[
-            epoch(1, 0, 0, 40, 2, 3),
-            epoch(1, 0, 40, 64, 2, 3),
-            epoch(1, 1, 64, 100, 2, 3),
-            epoch(3, 0, 0, 40, 1, 1),
-            epoch(3, 0, 40, 64, 1, 1),
-            epoch(3, 1, 64, 70, 1, 1),
+            epochs_of(1, 2, 3, 0, &[40, 64, 100]),
+            epochs_of(3, 1, 1, 0, &[40, 64, 70]),
         ],
     );
     assert!(rt; 0 < plan.epochs());
@@ -136,9 +158,8 @@ fn epochs_of_limited_jobs(rt: HostRuntime) -> Result<(), Fail> {
         &rt,
         &part,
         &[
-            epoch(0, 1, 64, 100, 2, 3),
-            epoch(2, 0, 0, 40, 1, 1),
-            epoch(2, 0, 40, 64, 1, 1),
+            epochs_of(0, 2, 3, 64, &[100]),
+            epochs_of(2, 1, 1, 0, &[40, 64]),
         ],
     );
     let whole = plan.limited(rt.alloc(), 0, 4)?;
@@ -147,12 +168,8 @@ fn epochs_of_limited_jobs(rt: HostRuntime) -> Result<(), Fail> {
         &rt,
         &whole,
         &[
-            epoch(0, 0, 0, 40, 2, 3),
-            epoch(0, 0, 40, 64, 2, 3),
-            epoch(0, 1, 64, 100, 2, 3),
-            epoch(2, 0, 0, 40, 1, 1),
-            epoch(2, 0, 40, 64, 1, 1),
-            epoch(2, 1, 64, 70, 1, 1),
+            epochs_of(0, 2, 3, 0, &[40, 64, 100]),
+            epochs_of(2, 1, 1, 0, &[40, 64, 70]),
         ],
     );
     let none = plan.limited(rt.alloc(), 2, 2)?;
@@ -170,6 +187,8 @@ fn epochs_at_the_limits(rt: HostRuntime) -> Result<(), Fail> {
     assert_eq!(rt; plan.epochs(), 1 << 40);
     let last = (1 << 40) - 1;
     assert!(rt; last < plan.epochs());
-    assert_eq!(rt; plan.epoch(last), epoch(0, last, last, last + 1, 1, 1));
+    let ends = [last + 1];
+    let of = epochs_of(0, 1, 1, last, &ends);
+    assert_eq!(rt; plan.epoch(last), epoch(&of, 1, last, last + 1));
     Ok(())
 }

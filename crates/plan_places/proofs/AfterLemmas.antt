@@ -42,33 +42,37 @@ pub first-later : (job : JobSizes) (e : EpochPlan) (q : Place) (is : IsEpoch job
 first-later job e q is end last after =
     first_place-is job.integration (e.scan + 1) (drop (e.scan + 1) job.scans) q (sym (after-scan job e is.size is.scan end last) ∙ after)
 
+same_some : (P : Place → Type 0) (o : Option Place) (p q : Place) → o ≡ Some p → o ≡ Some q → P p → P q
+same_some P o p q a b h =
+    let both : ◌≡◌ {A = Option Place} (Some p) (Some q) = sym a ∙ b in
+    let same : p ≡ q = cc in
+    subst P same h
+
+-- it is where the epoch ends, in its integration or in the next one, or the first place of a later scan
+pub after-cases : (job : JobSizes) (e : EpochPlan) (q : Place) (P : Place → Type 0) → IsEpoch job e → place_after job e ≡ Some q
+    → P (record { scan = e.scan; m = e.m; from = e.to }) → P (record { scan = e.scan; m = e.m + 1; from = e.to })
+    → (IsFirst job.integration (e.scan + 1) (drop (e.scan + 1) job.scans) q → P q) → P q
+after-cases job e q P is after here next later =
+    ⊎_elim
+    (λ inside. same_some P (place_after job e) _ q (after-inside job e is.size is.scan inside) after here)
+    (λ end.
+    ⊎_elim
+    (λ inside. same_some P (place_after job e) _ q (after-integration job e is.size is.scan end inside) after next)
+    (λ last. later (first-later job e q is end last after))
+    (cases_lt e.to is.size.samples))
+    (cases_lt e.to (integration_at job is.size e.m).to)
+
 -- it is behind the epoch's begin
 pub after-before : (job : JobSizes) (e : EpochPlan) (q : Place) → IsEpoch job e → place_after job e ≡ Some q → IsBefore (place_of e) q
 after-before job e q is after =
-    ⊎_elim
-    (λ inside.
-    let same : ◌≡◌ {A = Option Place} (Some (record { scan = e.scan; m = e.m; from = e.to })) (Some q) =
-    sym (after-inside job e is.size is.scan inside) ∙ after in
-    let place : ◌≡◌ {A = Place} (record { scan = e.scan; m = e.m; from = e.to }) q = cc in
-    subst (λ (p : Place). IsBefore (place_of e) p) place
-    (record { scan = omega arith; m = λ s. omega arith; from = λ s t. is.some }))
-    (λ end.
-    ⊎_elim
-    (λ inside.
-    let same : ◌≡◌ {A = Option Place} (Some (record { scan = e.scan; m = e.m + 1; from = e.to })) (Some q) =
-    sym (after-integration job e is.size is.scan end inside) ∙ after in
-    let place : ◌≡◌ {A = Place} (record { scan = e.scan; m = e.m + 1; from = e.to }) q = cc in
-    subst (λ (p : Place). IsBefore (place_of e) p) place
-    (record { scan = omega arith; m = λ s. omega arith; from = λ s t. is.some }))
-    (λ last.
-    let first = first-later job e q is end last after in
-    record {
+    after-cases job e q (IsBefore (place_of e)) is after
+    (record { scan = omega arith; m = λ s. omega arith; from = λ s t. is.some })
+    (record { scan = omega arith; m = λ s. omega arith; from = λ s t. is.some })
+    (λ first. record {
       scan = omega (arith, first.scan);
       m = λ s. absurd (omega (arith, first.scan, s));
       from = λ s t. absurd (omega (arith, first.scan, s));
     })
-    (cases_lt e.to is.size.samples))
-    (cases_lt e.to (integration_at job is.size e.m).to)
 
 pub same_size : (job : JobSizes) (p : Place) (e : EpochPlan) (place : IsPlace job p) (is : IsEpoch job e) → e.scan ≡ p.scan → place.size ≡ is.size
 same_size job p e place is scan =
@@ -224,17 +228,18 @@ end-IsPlace job e is inside = record {
   inside = inside;
 }
 
-next-IsPlace : (job : JobSizes) (e : EpochPlan) → IsJob job → (is : IsEpoch job e) → (integration_at job is.size e.m).to ≤ e.to
-    → e.to < is.size.samples → IsPlace job (record { scan = e.scan; m = e.m + 1; from = e.to })
-next-IsPlace job e job_is is end inside =
-    let here : e.to ≡ (e.m + 1) * job.integration = omega (arith, end, inside, is.to) in
-    let next : (e.m + 1 + 1) * job.integration ≡ (e.m + 1) * job.integration + job.integration = omega arith in
+-- where an integration ends, in the next one
+pub next-IsPlace : (job : JobSizes) (scan m to : ℕ) (size : ScanSize) → slice_get job.scans scan ≡ Some size → size.first ≤ m → 1 ≤ job.integration
+    → to ≡ (integration_at job size m).to → to < size.samples → IsPlace job (record { scan = scan; m = m + 1; from = to })
+next-IsPlace job scan m to size at begins whole end inside =
+    let here : to ≡ (m + 1) * job.integration = omega (arith, end, inside) in
+    let next : (m + 1 + 1) * job.integration ≡ (m + 1) * job.integration + job.integration = omega arith in
     record {
-      size = is.size;
-      scan = is.scan;
-      first = omega (arith, is.begins);
+      size = size;
+      scan = at;
+      first = omega (arith, begins);
       from = omega (arith, here);
-      inside = omega (arith, here, next, inside, job_is.integration);
+      inside = omega (arith, here, next, inside, whole);
     }
 
 pub some-IfSome : {A : Type 0} (o : Option A) (P : A → Type 0) → ((x : A) → o ≡ Some x → P x) → IfSome o P
@@ -247,7 +252,7 @@ after-IsPlace job e job_is is =
     (λ inside. subst (λ (o : Option Place). IfSome o (IsPlace job)) (sym (after-inside job e is.size is.scan inside)) (end-IsPlace job e is inside))
     (λ end.
     ⊎_elim
-    (λ inside. subst (λ (o : Option Place). IfSome o (IsPlace job)) (sym (after-integration job e is.size is.scan end inside)) (next-IsPlace job e job_is is end inside))
+    (λ inside. subst (λ (o : Option Place). IfSome o (IsPlace job)) (sym (after-integration job e is.size is.scan end inside)) (next-IsPlace job e.scan e.m e.to is.size is.scan is.begins job_is.integration (omega (arith, end, is.to)) inside))
     (λ last. subst (λ (o : Option Place). IfSome o (IsPlace job)) (sym (after-scan job e is.size is.scan end last))
     (some-IfSome _ (IsPlace job) (λ p first. first-IsPlace job (e.scan + 1) p job_is first)))
     (cases_lt e.to is.size.samples))

@@ -1,10 +1,11 @@
 -- The epoch that is cut from a place.
 use Rattle.std.specs.Prelude.{slice_get}
-use Rattle.std.proofs.Common.{◌≡◌, ◌∙◌, sym, ap, refl, subst, ℕ, ◌+◌, ◌<◌, ◌≤◌, min, Option, Some, arith}
+use Rattle.std.proofs.Common.{◌≡◌, ◌∙◌, sym, ap, subst, ℕ, ◌+◌, ◌<◌, ◌≤◌, min, Option, Some, arith}
 use Rattle.piece_plan.specs.declared.job.ScanSize.{ScanSize}
 use Rattle.piece_plan.specs.declared.epoch.EpochPlan.{EpochPlan}
 use Rattle.piece_plan.specs.Epochs.{JobSizes, IsEpoch, range_of, integration_at}
 use Rattle.piece_plan.specs.Order.{Place, place_of, place_after}
+use Rattle.piece_plan.proofs.RangeLemmas.{range-IsEpoch}
 use Rattle.plan_places.specs.Places.{IsPlace}
 use Rattle.plan_places.specs.Walk.{cut_in, cut_at}
 use Rattle.plan_places.specs.Search.{EndsIntegration}
@@ -21,18 +22,8 @@ cut-is job epoch p size at = ap (cut_in job p epoch) at
 
 pub cut_of-IsEpoch : (job : JobSizes) (epoch : ℕ) (p : Place) (place : IsPlace job p) → 1 ≤ epoch → epoch ≤ 4194304
     → IsEpoch job (cut_of job epoch p place.size)
-cut_of-IsEpoch job epoch p place some short = record {
-  size = place.size;
-  scan = place.scan;
-  products = refl;
-  baselines = refl;
-  lags = refl;
-  begins = place.first;
-  from = place.from;
-  some = omega (arith, some, place.inside);
-  to = omega arith;
-  short = omega (arith, short);
-}
+cut_of-IsEpoch job epoch p place some short =
+    range-IsEpoch job p.scan place.size p.m _ _ place.scan place.first place.from (omega (arith, some, place.inside)) (omega arith) (omega (arith, short))
 
 pub cut-IsEpoch : (job : JobSizes) (epoch : ℕ) (p : Place) (e : EpochPlan) → IsPlace job p → 1 ≤ epoch → epoch ≤ 4194304
     → cut_at job epoch p ≡ Some e → IsEpoch job e
@@ -50,15 +41,7 @@ size-same job p e place is scan =
 -- the same by the last epoch of the place's integration
 pub cut-by-last : (job : JobSizes) (epoch : ℕ) (p : Place) (last : EpochPlan) (to : ℕ) → IsPlace job p → EndsIntegration job p last
     → to ≡ min last.to (p.from + epoch)
-    → cut_at job epoch p ≡ Some (record {
-      scan = p.scan;
-      m = p.m;
-      from = p.from;
-      to = to;
-      products = last.products;
-      baselines = last.baselines;
-      lags = last.lags;
-    })
+    → cut_at job epoch p ≡ Some (record last { scan = p.scan; m = p.m; from = p.from; to = to })
 cut-by-last job epoch p last to place ends is =
     let size = size-same job p last place ends.is ends.scan in
     let samples : ends.is.size.samples ≡ place.size.samples = ap (λ (s : ScanSize). s.samples) size in

@@ -1,5 +1,5 @@
 -- The order of places.
-use Rattle.std.proofs.Common.{◌≡◌, ◌⊎◌, inl, inr, ⊎_elim, arith}
+use Rattle.std.proofs.Common.{◌≡◌, ◌≤◌, ◌⊎◌, inl, inr, ⊎_elim, arith}
 use Rattle.std.proofs.lemmas.Bool.{cases_lt}
 use Rattle.piece_plan.specs.Order.{Place}
 use Rattle.plan_places.specs.Places.{IsUpTo, IsBefore}
@@ -7,20 +7,31 @@ use Rattle.plan_places.specs.Places.{IsUpTo, IsBefore}
 pub up_to-refl : (p : Place) → IsUpTo p p
 up_to-refl p = record { scan = omega arith; m = λ s. omega arith; from = λ s t. omega arith }
 
-pub up_to-trans : (p q r : Place) → IsUpTo p q → IsUpTo q r → IsUpTo p r
-up_to-trans p q r h k = record {
+-- of three places in order: where the first and the last have one scan and integration, so has the one between them
+record AreThree (p q r : Place) : Type 0 where
+  scan : p.scan ≤ r.scan
+  m : p.scan ≡ r.scan → p.m ≤ r.m
+  same : p.scan ≡ r.scan → p.m ≡ r.m → (p.scan ≡ q.scan) × (p.m ≡ q.m) × (q.scan ≡ r.scan) × (q.m ≡ r.m)
+
+three : (p q r : Place) → IsUpTo p q → IsUpTo q r → AreThree p q r
+three p q r h k = record {
   scan = omega (arith, h.scan, k.scan);
-  m = λ s.
-      let one : p.scan ≡ q.scan = omega (arith, h.scan, k.scan, s) in
-      let two : q.scan ≡ r.scan = omega (arith, one, s) in
-      omega (arith, h.m one, k.m two);
-  from = λ s t.
-      let one : p.scan ≡ q.scan = omega (arith, h.scan, k.scan, s) in
-      let two : q.scan ≡ r.scan = omega (arith, one, s) in
-      let three : p.m ≡ q.m = omega (arith, h.m one, k.m two, t) in
-      let four : q.m ≡ r.m = omega (arith, three, t) in
-      omega (arith, h.from one three, k.from two four);
+  m = λ s. omega (arith, h.m (first s), k.m (second s));
+  same = λ s t.
+      let m : p.m ≡ q.m = omega (arith, h.m (first s), k.m (second s), t) in
+      (first s, m, second s, omega (arith, m, t));
 }
+  where
+    first : p.scan ≡ r.scan → p.scan ≡ q.scan
+    first s = omega (arith, h.scan, k.scan, s)
+
+    second : p.scan ≡ r.scan → q.scan ≡ r.scan
+    second s = omega (arith, h.scan, k.scan, s)
+
+pub up_to-trans : (p q r : Place) → IsUpTo p q → IsUpTo q r → IsUpTo p r
+up_to-trans p q r h k =
+    let all = three p q r h k in
+    record { scan = all.scan; m = all.m; from = λ s t. let e = all.same s t in omega (arith, h.from e.0 e.1, k.from e.2 e.3) }
 
 pub before-up_to : (p q : Place) → IsBefore p q → IsUpTo p q
 before-up_to p q h = record {
@@ -71,31 +82,11 @@ up_to-or-before p q =
     (cases_lt p.scan q.scan)
 
 pub up_to-before : (p q r : Place) → IsUpTo p q → IsBefore q r → IsBefore p r
-up_to-before p q r h k = record {
-  scan = omega (arith, h.scan, k.scan);
-  m = λ s.
-      let one : p.scan ≡ q.scan = omega (arith, h.scan, k.scan, s) in
-      let two : q.scan ≡ r.scan = omega (arith, one, s) in
-      omega (arith, h.m one, k.m two);
-  from = λ s t.
-      let one : p.scan ≡ q.scan = omega (arith, h.scan, k.scan, s) in
-      let two : q.scan ≡ r.scan = omega (arith, one, s) in
-      let three : p.m ≡ q.m = omega (arith, h.m one, k.m two, t) in
-      let four : q.m ≡ r.m = omega (arith, three, t) in
-      omega (arith, h.from one three, k.from two four);
-}
+up_to-before p q r h k =
+    let all = three p q r h (before-up_to q r k) in
+    record { scan = all.scan; m = all.m; from = λ s t. let e = all.same s t in omega (arith, h.from e.0 e.1, k.from e.2 e.3) }
 
 pub before-up_to-trans : (p q r : Place) → IsBefore p q → IsUpTo q r → IsBefore p r
-before-up_to-trans p q r h k = record {
-  scan = omega (arith, h.scan, k.scan);
-  m = λ s.
-      let one : p.scan ≡ q.scan = omega (arith, h.scan, k.scan, s) in
-      let two : q.scan ≡ r.scan = omega (arith, one, s) in
-      omega (arith, h.m one, k.m two);
-  from = λ s t.
-      let one : p.scan ≡ q.scan = omega (arith, h.scan, k.scan, s) in
-      let two : q.scan ≡ r.scan = omega (arith, one, s) in
-      let three : p.m ≡ q.m = omega (arith, h.m one, k.m two, t) in
-      let four : q.m ≡ r.m = omega (arith, three, t) in
-      omega (arith, h.from one three, k.from two four);
-}
+before-up_to-trans p q r h k =
+    let all = three p q r (before-up_to p q h) k in
+    record { scan = all.scan; m = all.m; from = λ s t. let e = all.same s t in omega (arith, h.from e.0 e.1, k.from e.2 e.3) }

@@ -6,12 +6,13 @@ use Rattle.std.proofs.lemmas.Bool.{cases_lt}
 use Rattle.piece_plan.specs.declared.job.ScanSize.{ScanSize}
 use Rattle.piece_plan.specs.declared.epoch.EpochPlan.{EpochPlan}
 use Rattle.piece_plan.specs.Counts.{count_in}
-use Rattle.piece_plan.specs.Epochs.{JobSizes, integration_at, range_of}
+use Rattle.piece_plan.specs.Epochs.{JobSizes, IsEpoch, integration_at, range_of}
 use Rattle.piece_plan.specs.Order.{Place, first_place, place_after}
 use Rattle.plan_places.specs.Places.{IsPlace}
 use Rattle.plan_places.specs.Search.{EndsIntegration, EndsScan}
 use Rattle.plan_places.specs.Walk.{cut_at, IsWalk}
-use Rattle.plan_places.proofs.AfterLemmas.{after-inside, after-integration, after-scan, after-same}
+use Rattle.piece_plan.proofs.RangeLemmas.{range-IsEpoch}
+use Rattle.plan_places.proofs.AfterLemmas.{after-inside, after-integration, after-scan, after-same, next-IsPlace}
 use Rattle.plan_places.proofs.CutLemmas.{cut_of, cut-is, size-same}
 use Rattle.plan_places.proofs.Counts.{ceil-one, ceil-more, count-small, count-more}
 
@@ -80,39 +81,16 @@ last_of job p size =
     range_of job p.scan size p.m (record { from = (integration_at job size p.m).to - 1; to = (integration_at job size p.m).to })
 
 last_of-Ends : (job : JobSizes) (p : Place) (place : IsPlace job p) → EndsIntegration job p (last_of job p place.size)
-last_of-Ends job p place = record {
-  is = record {
-    size = place.size;
-    scan = place.scan;
-    products = refl;
-    baselines = refl;
-    lags = refl;
-    begins = place.first;
-    from = omega (arith, place.from, place.inside);
-    some = omega (arith, place.inside);
-    to = omega arith;
-    short = omega arith;
-  };
-  scan = refl;
-  m = refl;
-  to = refl;
-}
+last_of-Ends job p place =
+    let is : IsEpoch job (last_of job p place.size) =
+    range-IsEpoch job p.scan place.size p.m _ _ place.scan place.first
+    (omega (arith, place.from, place.inside)) (omega (arith, place.inside)) (omega arith) (omega arith) in
+    let same = size-same job p (last_of job p place.size) place is refl in
+    record { is = is; scan = refl; m = refl; to = ap (λ (s : ScanSize). (integration_at job s p.m).to) (sym same) }
 
 -- two stretches of a walk are one
 join : (all a b x y sum rest : ℕ) → all ≡ a + b → b ≡ y + rest → a ≡ x → sum ≡ x + y → all ≡ sum + rest
 join all a b x y sum rest h k l m = omega (arith, h, k, l, m)
-
-next-place : (job : JobSizes) (p : Place) (place : IsPlace job p) → 1 ≤ job.integration → (integration_at job place.size p.m).to < place.size.samples
-    → IsPlace job (record { scan = p.scan; m = p.m + 1; from = (integration_at job place.size p.m).to })
-next-place job p place whole inside =
-    let next : (p.m + 1 + 1) * job.integration ≡ (p.m + 1) * job.integration + job.integration = omega arith in
-    record {
-      size = place.size;
-      scan = place.scan;
-      first = omega (arith, place.first);
-      from = omega (arith, inside);
-      inside = omega (arith, inside, next, whole);
-    }
 
 -- through the rest of a scan from an integration's begin on; d is the scan's last epoch
 pub scan-walk : (n : ℕ) (job : JobSizes) (epoch : ℕ) (p : Place) (d : EpochPlan) (epochs : List EpochPlan) → 1 ≤ epoch → 1 ≤ job.integration
@@ -134,7 +112,7 @@ scan-walk (suc n) job epoch p d epochs some whole place begin ends few walk =
     let on : IsWalk job epoch (Some (record { scan = p.scan; m = p.m + 1; from = (integration_at job place.size p.m).to })) first.rest =
     subst (λ (o : Option Place). IsWalk job epoch o first.rest) after first.walk in
     let next = scan-walk n job epoch (record { scan = p.scan; m = p.m + 1; from = (integration_at job place.size p.m).to }) d first.rest some whole
-    (next-place job p place whole inside) end (record { is = ends.is; scan = ends.scan; to = ends.to }) (omega (arith, few, place.inside, all, inside)) on in
+    (next-IsPlace job p.scan p.m _ place.size place.scan place.first whole refl inside) end (record { is = ends.is; scan = ends.scan; to = ends.to }) (omega (arith, few, place.inside, all, inside)) on in
     let long : (integration_at job place.size p.m).to - p.from ≡ job.integration = omega (arith, end, begin) in
     let sum = count-more (d.to - (integration_at job place.size p.m).to) (d.to - p.from) job.integration epoch whole (omega (arith, end, begin, all, inside)) in
     record {

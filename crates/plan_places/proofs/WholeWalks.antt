@@ -1,16 +1,15 @@
 -- Walks as a whole: they go through the job, and there is one from each place.
 use Rattle.std.specs.Prelude.{slice_get, IfSome}
 use Rattle.std.specs.Int.{div_ceil}
-use Rattle.std.proofs.Common.{◌≡◌, ◌∙◌, sym, ap, refl, subst, ℕ, zero, suc, ◌+◌, ◌-◌, ◌<◌, ◌≤◌, List, [], ◌∷◌, length, drop, Option, Some, None, ⊎_elim, arith}
-use Rattle.std.proofs.lemmas.Bool.{cases_lt}
+use Rattle.std.proofs.Common.{◌≡◌, ◌∙◌, ap, refl, ℕ, zero, suc, ◌+◌, ◌-◌, ◌<◌, ◌≤◌, List, [], ◌∷◌, length, drop, Option, Some, None, arith}
 use Rattle.piece_plan.specs.declared.job.ScanSize.{ScanSize}
 use Rattle.piece_plan.specs.declared.epoch.EpochPlan.{EpochPlan}
-use Rattle.piece_plan.specs.Epochs.{JobSizes, IsJob, IsEpoch, integration_at, epochs_of}
+use Rattle.piece_plan.specs.Epochs.{JobSizes, IsJob, IsEpoch, epochs_of}
 use Rattle.piece_plan.specs.Order.{Place, place_of, job_start, place_after, AreInOrder, CoverJob}
 use Rattle.plan_places.specs.Places.{IsPlace}
 use Rattle.plan_places.specs.Walk.{IsWalk, AreLeft}
 use Rattle.plan_places.specs.Search.{begin_at, EndsIntegration}
-use Rattle.plan_places.proofs.AfterLemmas.{after-inside, after-integration, first-later, after-IsPlace, first-IsPlace, some-IfSome}
+use Rattle.plan_places.proofs.AfterLemmas.{after-cases, after-IsPlace, first-IsPlace, some-IfSome}
 use Rattle.plan_places.proofs.CutLemmas.{cut_of, cut-is, cut-IsEpoch, cut_of-IsEpoch}
 use Rattle.plan_places.proofs.WalkLemmas.{walk-first}
 use Rattle.plan_places.proofs.CountedLemmas.{left-is}
@@ -79,27 +78,12 @@ after-less : (job : JobSizes) (e : EpochPlan) (o : Option Place) → IsEpoch job
 after-less job e None is after = ahead-some job e is
 after-less job e (Some q) is after =
     let sum = ahead-at e.scan job.scans is.size is.scan in
-    ⊎_elim
-    (λ inside.
-    let both : ◌≡◌ {A = Option Place} (Some (record { scan = e.scan; m = e.m; from = e.to })) (Some q) =
-    sym (after-inside job e is.size is.scan inside) ∙ after in
-    let same : ◌≡◌ {A = Place} (record { scan = e.scan; m = e.m; from = e.to }) q = cc in
-    subst (λ (p : Place). samples_of (drop p.scan job.scans) - p.from < samples_of (drop e.scan job.scans) - e.from) same
-    (omega (arith, sum, is.some, is.to)))
-    (λ end.
-    ⊎_elim
-    (λ inside.
-    let both : ◌≡◌ {A = Option Place} (Some (record { scan = e.scan; m = e.m + 1; from = e.to })) (Some q) =
-    sym (after-integration job e is.size is.scan end inside) ∙ after in
-    let same : ◌≡◌ {A = Place} (record { scan = e.scan; m = e.m + 1; from = e.to }) q = cc in
-    subst (λ (p : Place). samples_of (drop p.scan job.scans) - p.from < samples_of (drop e.scan job.scans) - e.from) same
-    (omega (arith, sum, is.some, is.to)))
-    (λ last.
-    let first = first-later job e q is end last after in
+    after-cases job e q (λ p. samples_of (drop p.scan job.scans) - p.from < samples_of (drop e.scan job.scans) - e.from) is after
+    (omega (arith, sum, is.some, is.to))
+    (omega (arith, sum, is.some, is.to))
+    (λ first.
     let same : samples_of (drop q.scan job.scans) ≡ samples_of (drop (e.scan + 1 + first.k) job.scans) = ap (λ n. samples_of (drop n job.scans)) first.scan in
     omega (arith, sum, is.some, is.to, same, ahead-less (e.scan + 1) first.k job.scans))
-    (cases_lt e.to is.size.samples))
-    (cases_lt e.to (integration_at job is.size e.m).to)
 
 walk-by : (n : ℕ) (job : JobSizes) (epoch : ℕ) (due : Option Place) → IsJob job → 1 ≤ epoch → epoch ≤ 4194304 → IfSome due (IsPlace job)
     → ahead job due ≤ n → (epochs : List EpochPlan) × IsWalk job epoch due epochs

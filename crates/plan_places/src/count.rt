@@ -1,11 +1,11 @@
 //! How many epochs a walk has.
 ghost use Rattle.std.specs.Prelude.{◌≡◌, ◌^◌, ◌+◌, ◌*◌, ◌<◌, ◌≤◌, List, option_map, length, IfSome, Option};
-ghost use Rattle.piece_plan.specs.{declared.epoch.EpochPlan.{EpochPlan}, Epochs.{epochs_of, IsJob}, Counts.{count_in}};
+ghost use Rattle.piece_plan.specs.{declared.epoch.EpochPlan.{EpochPlan}, Epochs.{epochs_of, IsJob}};
 ghost use Rattle.plan_places.specs.{Places.{place_at, IsPlace}, Search.{begin_at, BeginsAt}, Walk.{IsWalk, AreLeft, IsScanLeft}};
 
 use crate::Place;
 use crate::search::{integration_last, scan_last};
-use piece_plan::JobPlan;
+use piece_plan::{JobPlan, epochs_in};
 
 /// The number of epochs from a place on to the end of the job, if each is cut with `epoch` samples, 1 to
 /// 4,194,304; 0 behind the end. The time grows with the number of scans, and not with that of epochs.
@@ -65,14 +65,4 @@ fn scan_left(plan: &JobPlan, i: u64, epoch: u64) -> (u64, u64)
         last + 1,
         epochs_in(end.to - e.from, first.to - e.from, epoch),
     )
-}
-
-// The number of epochs of so many samples in integrations.
-fn epochs_in(samples: u64, integration: u64, epoch: u64) -> u64
-    requires integration { 0 < integration }
-    requires epoch { 0 < epoch }
-    ensures count { result ≡ count_in samples integration epoch }
-    ensures within { result ≤ samples }
-{
-    samples / integration * integration.div_ceil(epoch) + (samples % integration).div_ceil(epoch)
 }

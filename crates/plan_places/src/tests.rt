@@ -21,10 +21,23 @@ fn place(scan: u32, m: u64, from: u64) -> Place {
     Place { scan, m, from }
 }
 
-fn epoch(scan: u32, m: u64, from: u64, to: u64) -> EpochPlan {
+// Epochs of a scan that follow each other: from this sample on, up to each of these ends.
+#[derive(Clone, Copy)]
+struct Epochs<'a> {
+    scan: u32,
+    from: u64,
+    ends: &'a [u64],
+}
+
+fn epochs_of<'a>(scan: u32, from: u64, ends: &'a [u64]) -> Epochs<'a> {
+    Epochs { scan, from, ends }
+}
+
+// The epoch between two samples, where integrations have 64.
+fn epoch(scan: u32, from: u64, to: u64) -> EpochPlan {
     EpochPlan {
         scan,
-        m,
+        m: from / 64,
         from,
         to,
         products: 2,
@@ -34,29 +47,36 @@ fn epoch(scan: u32, m: u64, from: u64, to: u64) -> EpochPlan {
 }
 
 // The walk from a place with epochs of so many samples is this one.
-fn has_walk(rt: &impl Abort, plan: &JobPlan, from: Option<Place>, samples: u64, want: &[EpochPlan])
+fn has_walk(rt: &impl Abort, plan: &JobPlan, from: Option<Place>, samples: u64, want: &[Epochs])
     requires place { IfSome from (λ p. IsPlace plan.now (place_at p)) }
     requires some { 1 ≤ samples }
     requires short { samples ≤ 4194304 }
 {
-    assert_eq!(rt; left(plan, from, samples), want.len() as u64);
+    let mut rest = left(plan, from, samples);
     let mut at = from;
-    for e in want {
-        let Some(p) = at else {
-            panic!(rt; "the walk is over");
-        };
-        assert!(rt; is_place(plan, &p));
-        let next = cut(plan, &p, samples);
-        assert_eq!(rt; next, *e);
-        at = after(plan, &next);
+    for part in want {
+        let mut begin = part.from;
+        for end in part.ends {
+            let Some(p) = at else {
+                panic!(rt; "the walk is over");
+            };
+            assert!(rt; is_place(plan, &p));
+            let next = cut(plan, &p, samples);
+            assert_eq!(rt; next, epoch(part.scan, begin, *end));
+            at = after(plan, &next);
+            begin = *end;
+            assert!(rt; 0 < rest);
+            rest -= 1;
+        }
     }
     assert_eq!(rt; at, None);
+    assert_eq!(rt; rest, 0);
 }
 
-// Whether each of these is a place.
-fn are_places(rt: &impl Abort, plan: &JobPlan, want: bool, places: &[Place]) {
-    for p in places {
-        assert_eq!(rt; is_place(plan, p), want);
+// Whether each of these samples is a place, as one of integration `m` of a scan.
+fn are_places(rt: &impl Abort, plan: &JobPlan, scan: u32, m: u64, all: &[u64], want: bool) {
+    for from in all {
+        assert_eq!(rt; is_place(plan, &place(scan, m, *from)), want);
     }
 }
 
@@ -67,38 +87,17 @@ fn places_of_a_job(rt: HostRuntime) -> Result<(), Fail> {
     let scans = [size(100), size(0), size(70)];
     let plan = JobPlan::new(rt.alloc(), &scans, 64, 40, 4)?;
     assert_eq!(rt; start(&plan), Some(place(0, 0, 0)));
-    are_places(
-        &rt,
-        &plan,
-        true,
-        &[
-            place(0, 0, 0),
-            place(0, 0, 39),
-            place(0, 0, 40),
-            place(0, 0, 63),
-            place(0, 1, 64),
-            place(0, 1, 99),
-            place(2, 0, 0),
-            place(2, 0, 63),
-            place(2, 1, 64),
-            place(2, 1, 69),
-        ],
-    );
-    are_places(
-        &rt,
-        &plan,
-        false,
-        &[
-            place(0, 0, 64),
-            place(0, 1, 63),
-            place(0, 1, 100),
-            place(0, 2, 128),
-            place(1, 0, 0),
-            place(2, 1, 70),
-            place(3, 0, 0),
-            place(u32::MAX, u64::MAX, u64::MAX),
-        ],
-    );
+    are_places(&rt, &plan, 0, 0, &[0, 39, 40, 63], true);
+    are_places(&rt, &plan, 0, 1, &[64, 99], true);
+    are_places(&rt, &plan, 2, 0, &[0, 63], true);
+    are_places(&rt, &plan, 2, 1, &[64, 69], true);
+    are_places(&rt, &plan, 0, 0, &[64], false);
+    are_places(&rt, &plan, 0, 1, &[63, 100], false);
+    are_places(&rt, &plan, 0, 2, &[128], false);
+    are_places(&rt, &plan, 1, 0, &[0], false);
+    are_places(&rt, &plan, 2, 1, &[70], false);
+    are_places(&rt, &plan, 3, 0, &[0], false);
+    are_places(&rt, &plan, u32::MAX, u64::MAX, &[u64::MAX], false);
     Ok(())
 }
 
@@ -111,12 +110,7 @@ fn walks_of_a_job(rt: HostRuntime) -> Result<(), Fail> {
         &plan,
         start(&plan),
         64,
-        &[
-            epoch(0, 0, 0, 64),
-            epoch(0, 1, 64, 100),
-            epoch(2, 0, 0, 64),
-            epoch(2, 1, 64, 70),
-        ],
+        &[epochs_of(0, 0, &[64, 100]), epochs_of(2, 0, &[64, 70])],
     );
     has_walk(
         &rt,
@@ -124,15 +118,8 @@ fn walks_of_a_job(rt: HostRuntime) -> Result<(), Fail> {
         start(&plan),
         28,
         &[
-            epoch(0, 0, 0, 28),
-            epoch(0, 0, 28, 56),
-            epoch(0, 0, 56, 64),
-            epoch(0, 1, 64, 92),
-            epoch(0, 1, 92, 100),
-            epoch(2, 0, 0, 28),
-            epoch(2, 0, 28, 56),
-            epoch(2, 0, 56, 64),
-            epoch(2, 1, 64, 70),
+            epochs_of(0, 0, &[28, 56, 64, 92, 100]),
+            epochs_of(2, 0, &[28, 56, 64, 70]),
         ],
     );
     Ok(())
@@ -151,76 +138,40 @@ fn walks_from_inside(rt: HostRuntime) -> Result<(), Fail> {
         Some(at),
         28,
         &[
-            epoch(1, 0, 50, 64),
-            epoch(1, 1, 64, 92),
-            epoch(1, 1, 92, 100),
-            epoch(3, 0, 0, 28),
-            epoch(3, 0, 28, 56),
-            epoch(3, 0, 56, 64),
-            epoch(3, 1, 64, 70),
+            epochs_of(1, 50, &[64, 92, 100]),
+            epochs_of(3, 0, &[28, 56, 64, 70]),
         ],
     );
     let last = place(3, 1, 69);
     assert!(rt; is_place(&plan, &last));
-    has_walk(&rt, &plan, Some(last), 4194304, &[epoch(3, 1, 69, 70)]);
+    has_walk(&rt, &plan, Some(last), 4194304, &[epochs_of(3, 69, &[70])]);
     has_walk(&rt, &plan, None, 64, &[]);
     Ok(())
 }
 
 // Integrations 1 and 2 of a job are the shorter one of scan 0 and the whole one of scan 2.
 #[test]
-fn places_of_a_limited_job(rt: HostRuntime) -> Result<(), Fail> {
-    let scans = [size(100), size(0), size(70)];
-    let whole = JobPlan::new(rt.alloc(), &scans, 64, 40, 4)?;
-    let plan = whole.limited(rt.alloc(), 1, 3)?;
-    assert_eq!(rt; start(&plan), Some(place(0, 1, 64)));
-    are_places(
-        &rt,
-        &plan,
-        true,
-        &[
-            place(0, 1, 64),
-            place(0, 1, 99),
-            place(2, 0, 0),
-            place(2, 0, 63),
-        ],
-    );
-    are_places(
-        &rt,
-        &plan,
-        false,
-        &[
-            place(0, 0, 0),
-            place(0, 0, 63),
-            place(0, 1, 100),
-            place(1, 0, 0),
-            place(2, 0, 64),
-            place(2, 1, 64),
-        ],
-    );
-    let none = whole.limited(rt.alloc(), 2, 2)?;
-    assert_eq!(rt; start(&none), None);
-    Ok(())
-}
-
-#[test]
 fn walk_of_a_limited_job(rt: HostRuntime) -> Result<(), Fail> {
     let scans = [size(100), size(0), size(70)];
     let whole = JobPlan::new(rt.alloc(), &scans, 64, 40, 4)?;
     let plan = whole.limited(rt.alloc(), 1, 3)?;
+    assert_eq!(rt; start(&plan), Some(place(0, 1, 64)));
+    are_places(&rt, &plan, 0, 1, &[64, 99], true);
+    are_places(&rt, &plan, 2, 0, &[0, 63], true);
+    are_places(&rt, &plan, 0, 0, &[0, 63], false);
+    are_places(&rt, &plan, 0, 1, &[100], false);
+    are_places(&rt, &plan, 1, 0, &[0], false);
+    are_places(&rt, &plan, 2, 0, &[64], false);
+    are_places(&rt, &plan, 2, 1, &[64], false);
     has_walk(
         &rt,
         &plan,
         start(&plan),
         28,
-        &[
-            epoch(0, 1, 64, 92),
-            epoch(0, 1, 92, 100),
-            epoch(2, 0, 0, 28),
-            epoch(2, 0, 28, 56),
-            epoch(2, 0, 56, 64),
-        ],
+        &[epochs_of(0, 64, &[92, 100]), epochs_of(2, 0, &[28, 56, 64])],
     );
+    let none = whole.limited(rt.alloc(), 2, 2)?;
+    assert_eq!(rt; start(&none), None);
     Ok(())
 }
 
@@ -229,12 +180,12 @@ fn walk_of_a_limited_job(rt: HostRuntime) -> Result<(), Fail> {
 fn own_epochs(rt: HostRuntime) -> Result<(), Fail> {
     let plan = JobPlan::new(rt.alloc(), &[size(100)], 64, 40, 4)?;
     for e in &[
-        epoch(0, 0, 0, 40),
-        epoch(0, 0, 10, 50),
-        epoch(0, 0, 39, 64),
-        epoch(0, 0, 63, 64),
-        epoch(0, 1, 64, 100),
-        epoch(0, 1, 70, 100),
+        epoch(0, 0, 40),
+        epoch(0, 10, 50),
+        epoch(0, 39, 64),
+        epoch(0, 63, 64),
+        epoch(0, 64, 100),
+        epoch(0, 70, 100),
     ] {
         let at = place(e.scan, e.m, e.from);
         if !is_place(&plan, &at) {

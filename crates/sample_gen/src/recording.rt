@@ -7,7 +7,7 @@ use crate::frame::{FRAMES, put_frame};
 use crate::words::words_after;
 use dev_traits::Sink;
 use sink_text::Stretch;
-use vis_records::SinkFault;
+use vis_records::{SinkFault, end};
 
 /// Appends the recording of station 0 to 3 in a job of 1 to 60 seconds, in stretches of up to 8,192 bytes. The station's
 /// words follow those of the stations before it, which are drawn and dropped. Where the sink fails, what was appended
@@ -29,8 +29,5 @@ pub fn generate<S: Sink>(
     for k in 0..frames {
         put_frame(station, k, &mut words, &mut slots, out);
     }
-    match slots.finish(out) {
-        Ok(()) => Ok(()),
-        Err(_) => Err(SinkFault::Sink),
-    }
+    end(slots, out)
 }

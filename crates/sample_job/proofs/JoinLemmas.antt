@@ -27,21 +27,13 @@ rate : (n : ℕ) → rate_of (job_with n) (scans_of (job_with n)) ≡ 160000
 unfolding rate_of taken stands_in
 rate n = refl
 
-rates : (n : ℕ) → rate_differs (job_with n) (scans_of (job_with n)) ≡ None
-unfolding rate_differs rate_of taken stands_in
-rates n = refl
+rates : (n : ℕ) → (rate_differs (job_with n) (scans_of (job_with n)) ≡ None) × (frame_rate (job_with n) (scans_of (job_with n)) ≡ None)
+unfolding rate_differs frame_rate rate_of taken stands_in
+rates n = (refl, refl)
 
-channels : (n : ℕ) → channel_differs (job_with n) (scans_of (job_with n)) ≡ None
-unfolding channel_differs channels_of chans_in stands_in
-channels n = refl
-
-products : (n : ℕ) → product_differs (job_with n) (scans_of (job_with n)) ≡ None
-unfolding product_differs channels_of chans_in stands_in
-products n = refl
-
-frames : (n : ℕ) → frame_rate (job_with n) (scans_of (job_with n)) ≡ None
-unfolding frame_rate rate_of taken stands_in
-frames n = refl
+channels : (n : ℕ) → (channel_differs (job_with n) (scans_of (job_with n)) ≡ None) × (product_differs (job_with n) (scans_of (job_with n)) ≡ None)
+unfolding channel_differs product_differs channels_of chans_in stands_in
+channels n = (refl, refl)
 
 -- ---- each station has a model and a clock
 
@@ -82,7 +74,7 @@ pub joined-is : (n : ℕ) → n ≤ 9600000 → limit (job_with n) 50000 (scans_
     → joined (job_with n) 50000 (scans_of (job_with n)) ≡ Ok (plan_of (job_with n) (scans_of (job_with n)))
 joined-is n few sizes =
     plan-unless (job_with n) 50000 (scans_of (job_with n))
-    (refusal-none (job_with n) 50000 (scans_of (job_with n)) (known-scan n) (known-station n) (rates n) (channels n) (products n) (frames n) (models n few) (clocks n) sizes)
+    (refusal-none (job_with n) 50000 (scans_of (job_with n)) (known-scan n) (known-station n) (rates n).0 (channels n).0 (channels n).1 (rates n).1 (models n few) (clocks n) sizes)
 
 -- its stations
 abbrev pub station_at : StationFields → StationPlan

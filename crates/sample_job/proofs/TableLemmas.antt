@@ -1,5 +1,5 @@
 -- What holds of each number of seconds, one by one.
-use Rattle.std.proofs.Common.{◌≡◌, ◌*◌, ◌+◌, ◌≤◌, ◌<◌, ⊎_elim, ℕ, zero, suc, None, refl, subst, arith}
+use Rattle.std.proofs.Common.{◌≡◌, ◌*◌, ◌+◌, ◌≤◌, ◌<◌, ⊎_elim, ℕ, zero, suc, List, [], ◌∷◌, None, refl, subst, arith}
 use Rattle.std.specs.Fmt.{digits}
 use Rattle.std.proofs.lemmas.Bool.{cases_lt}
 use Rattle.num_time.specs.Numerals.{decimal_of, is_number, moved_digits, scaled}
@@ -12,52 +12,31 @@ use Rattle.job_join.specs.Limits.{baselines_in, measures, limit}
 use Rattle.sample_job.proofs.Said.{job_with}
 use Rattle.sample_job.proofs.TextLemmas.{seen_of, wanted_of}
 
--- P holds of n numbers from a on
-abbrev AreAll : (ℕ → Type 0) → ℕ → ℕ → Type 0
-AreAll P a zero = Unit {0}
-AreAll P a (suc n) = P a × AreAll P (a + 1) n
+-- what a function gives at n numbers from a on
+abbrev values : {A : Type 0} → (ℕ → A) → ℕ → ℕ → List A
+values f a zero = []
+values f a (suc n) = f a ∷ values f (a + 1) n
 
-one-of : (P : ℕ → Type 0) (a n k : ℕ) → AreAll P a n → a ≤ k → k < a + n → P k
-one-of P a zero k all from to = absurd (omega arith)
-one-of P a (suc n) k all from to = ⊎_elim
-    (λ (more : a < k). one-of P (a + 1) n k all.1 (omega arith) (omega arith))
-    (λ (here : k ≤ a). let same : a ≡ k = omega arith in subst P same all.0)
+heads : {A : Type 0} (x y : A) (xs ys : List A) → x ∷ xs ≡ y ∷ ys → (x ≡ y) × (xs ≡ ys)
+heads x y xs ys same = (cc, cc)
+
+-- two functions that give the same at each of them
+at-one : {A : Type 0} (f g : ℕ → A) (a n k : ℕ) → values f a n ≡ values g a n → a ≤ k → k < a + n → f k ≡ g k
+at-one f g a zero k same from to = absurd (omega arith)
+at-one f g a (suc n) k same from to =
+    let both = heads (f a) (g a) (values f (a + 1) n) (values g (a + 1) n) same in
+    ⊎_elim
+    (λ (more : a < k). at-one f g (a + 1) n k both.1 (omega arith) (omega arith))
+    (λ (here : k ≤ a). let is : a ≡ k = omega arith in subst (λ (i : ℕ). f i ≡ g i) is both.0)
     (cases_lt a k)
 
--- one fact and those behind it
-infixr 5 ◌&◌
-◌&◌ : {P Q : Type 0} → P → Q → P × Q
-p & q = (p, q)
-
--- what the text of so many seconds shows, and that its sizes are within their limits
-abbrev IsSeen : ℕ → Type 0
-IsSeen seconds = seen_of seconds ≡ wanted_of seconds
-
-abbrev IsWithin : ℕ → Type 0
-IsWithin seconds = limit (job_with (160000 * seconds)) 50000 (scans_of (job_with (160000 * seconds))) ≡ None
-
-all-seen : AreAll IsSeen 1 60
+-- what the text of so many seconds shows
+pub seen : (seconds : ℕ) → 1 ≤ seconds → seconds ≤ 60 → seen_of seconds ≡ wanted_of seconds
 unfolding job_of digits decimal_of is_number scaled moved_digits
-all-seen =
-    refl & refl & refl & refl & refl & refl & refl & refl & refl & refl &
-    refl & refl & refl & refl & refl & refl & refl & refl & refl & refl &
-    refl & refl & refl & refl & refl & refl & refl & refl & refl & refl &
-    refl & refl & refl & refl & refl & refl & refl & refl & refl & refl &
-    refl & refl & refl & refl & refl & refl & refl & refl & refl & refl &
-    refl & refl & refl & refl & refl & refl & refl & refl & refl & refl & tt
+seen seconds some few = at-one seen_of wanted_of 1 60 seconds refl some (omega arith)
 
-pub seen : (seconds : ℕ) → 1 ≤ seconds → seconds ≤ 60 → IsSeen seconds
-seen seconds some few = one-of IsSeen 1 60 seconds all-seen some (omega arith)
-
-all-within : AreAll IsWithin 1 60
+-- that the sizes of its job are within their limits
+pub within : (seconds : ℕ) → 1 ≤ seconds → seconds ≤ 60 → limit (job_with (160000 * seconds)) 50000 (scans_of (job_with (160000 * seconds))) ≡ None
 unfolding limit measures rate_of taken stands_in channels_of baselines_in samples_of end_sample
-all-within =
-    refl & refl & refl & refl & refl & refl & refl & refl & refl & refl &
-    refl & refl & refl & refl & refl & refl & refl & refl & refl & refl &
-    refl & refl & refl & refl & refl & refl & refl & refl & refl & refl &
-    refl & refl & refl & refl & refl & refl & refl & refl & refl & refl &
-    refl & refl & refl & refl & refl & refl & refl & refl & refl & refl &
-    refl & refl & refl & refl & refl & refl & refl & refl & refl & refl & tt
-
-pub within : (seconds : ℕ) → 1 ≤ seconds → seconds ≤ 60 → IsWithin seconds
-within seconds some few = one-of IsWithin 1 60 seconds all-within some (omega arith)
+within seconds some few =
+    at-one (λ (s : ℕ). limit (job_with (160000 * s)) 50000 (scans_of (job_with (160000 * s)))) (λ _. None) 1 60 seconds refl some (omega arith)

@@ -181,25 +181,12 @@ front-right more rest =
 abbrev rows_of : ℕ → List Row
 rows_of seconds = rows_in front ++ scan_row seconds ∷ rows_in back
 
-lags-are : (seconds : ℕ) → last (each Lags lags_in (rows_of seconds)) ≡ Some 32
+-- the lines of one number
+numbers-are : (seconds : ℕ) → (last (each Lags lags_in (rows_of seconds)) ≡ Some 32) × (last (each Integration integration_in (rows_of seconds)) ≡ Some 160000)
+    × (last (each Epoch epoch_in (rows_of seconds)) ≡ Some 50000) × (last (each Knot knot_in (rows_of seconds)) ≡ Some 1000)
+    × (last (each Rate rate_in (rows_of seconds)) ≡ Some 160000)
 unfolding each lags_in number_within whole_of decimal_of is_number scaled moved_digits
-lags-are seconds = refl
-
-integration-is : (seconds : ℕ) → last (each Integration integration_in (rows_of seconds)) ≡ Some 160000
-unfolding each number_within whole_of decimal_of is_number scaled moved_digits
-integration-is seconds = refl
-
-epoch-is : (seconds : ℕ) → last (each Epoch epoch_in (rows_of seconds)) ≡ Some 50000
-unfolding each number_within whole_of decimal_of is_number scaled moved_digits
-epoch-is seconds = refl
-
-knot-is : (seconds : ℕ) → last (each Knot knot_in (rows_of seconds)) ≡ Some 1000
-unfolding each number_within whole_of decimal_of is_number scaled moved_digits
-knot-is seconds = refl
-
-rate-is : (seconds : ℕ) → last (each Rate rate_in (rows_of seconds)) ≡ Some 160000
-unfolding each number_within whole_of decimal_of is_number scaled moved_digits
-rate-is seconds = refl
+numbers-are seconds = (refl, refl, refl, refl, refl)
 
 bare-stations : (seconds : ℕ) → each Station station_in (rows_of seconds) ≡ map bare_of stations
 unfolding each station_in frame_bytes_in number_within whole_of decimal_of is_number scaled moved_digits
@@ -305,12 +292,12 @@ job-said samples = refl
 rows-say : (seconds : ℕ) → scan_in (scan_fields seconds) ≡ Some (codes "G", record { second = begin; samples = 160000 * seconds })
     → Say (rows_of seconds) (job_with (160000 * seconds))
 rows-say seconds scan = record {
-  lags = lags-are seconds;
-  integration = integration-is seconds;
-  epoch = epoch-is seconds;
-  knot = knot-is seconds;
+  lags = (numbers-are seconds).0;
+  integration = (numbers-are seconds).1;
+  epoch = (numbers-are seconds).2;
+  knot = (numbers-are seconds).3;
   auto = refl;
-  rate = rate-is seconds;
+  rate = (numbers-are seconds).4;
   stations_are = stations-are seconds;
   products = products-are seconds;
   takes = takes-are seconds;

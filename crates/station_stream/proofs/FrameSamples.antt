@@ -20,11 +20,11 @@ use Rattle.frame_index.specs.declared.frame.SlotAt.{SlotAt}
 use Rattle.frame_index.specs.Placed.{second_of_place, number_of_place, sample_in_frame}
 use Rattle.frame_index.specs.Indexed.{IndexFields, IsIndexOf, place_in, place_of_slot}
 use Rattle.frame_index.specs.Recording.{Shelved, bytes_on}
-use Rattle.frame_index.proofs.FrameLaw.{FillsSeconds, counted_slot-frame_slot}
+use Rattle.frame_index.proofs.FrameLaw.{FillsSeconds, counted_slot-frame_slot, floor_parts, both-first, both-second}
 use Rattle.station_stream.specs.declared.part.StationPart.{StationPart}
 use Rattle.station_stream.specs.Part.{IsIndexed, timing_of}
 use Rattle.station_stream.specs.Standing.{StandsAt, bytes_at}
-use Rattle.station_stream.proofs.PlaceLemmas.{floor_parts, start_of_frame, place_back}
+use Rattle.station_stream.proofs.PlaceLemmas.{start_of_frame, place_back}
 
 -- ---- a search through slots
 
@@ -72,15 +72,6 @@ sample_of-frame_slot t r files p fills =
     ap (option_map (level_in t r.index p)) (find-bytes (counts_for t r.thread p) slots)
     ∙ map-some (level_in t r.index p) (counted_slot t r.thread slots p)
     ∙ ap (option_map (λ (slot : Slot). level_in t r.index p slot.bytes)) (counted_slot-frame_slot t r.thread p slots fills)
-
--- both tests pass
-both-second : (a b : Bool) → (a && b) ≡ true → b ≡ true
-both-second true b e = e
-both-second false b e = cc
-
-both-first : (a b : Bool) → (a && b) ≡ true → a ≡ true
-both-first true b e = refl
-both-first false b e = cc
 
 -- a slot that holds a frame begins with the frame's first sample
 slot_place-frame : (t : Timing) (thread : ℕ) (p : ℤ) (slot : List ℕ) → FillsSeconds t

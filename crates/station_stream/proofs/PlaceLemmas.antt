@@ -9,31 +9,11 @@ use Rattle.num_time.specs.Times.{IsSecond}
 use Rattle.vdif_frame.specs.Shape.{samples_per_frame}
 use Rattle.corr_model.specs.Sample.{Timing}
 use Rattle.frame_index.specs.Placed.{second_of_place, place_in_second, number_of_place, sample_in_frame}
-use Rattle.frame_index.proofs.FrameLaw.{FillsSeconds}
+use Rattle.frame_index.proofs.FrameLaw.{FillsSeconds, floor_parts, rest_below, product_step, same_second}
 use Rattle.station_stream.specs.declared.place.FramePlace.{FramePlace}
 use Rattle.station_stream.specs.Place.{frame_place}
 
--- ---- whole seconds and what is left
-
--- a place is its second's samples and those from there on
-pub floor_parts : (p : ℤ) (m : ℕ) → 0 < m → p ≡ int_div_euclid p (pos m) *ℤ pos m +ℤ pos (unsigned_abs (int_rem_euclid p (pos m)))
-floor_parts (pos a) m some = omega (arith, ints, div-add-mod' a m)
-floor_parts (negsuc a) m some = omega (arith, ints, div-add-mod' a m, mod_below a m some)
-
-pub rest_below : (p : ℤ) (m : ℕ) → 0 < m → unsigned_abs (int_rem_euclid p (pos m)) < m
-rest_below (pos a) m some = mod_below a m some
-rest_below (negsuc a) m some = omega arith
-
--- a later second's samples come behind all of an earlier one's
-product_step : (a b : ℤ) (m : ℕ) → a <ℤ b → (a *ℤ pos m +ℤ pos m) ≤ℤ (b *ℤ pos m)
-product_step (pos a) (pos b) m h = omega (arith, ints, mul-le (a + 1) m b m (omega (arith, ints)) (omega arith))
-product_step (pos a) (negsuc b) m h = absurd (omega (arith, ints))
-product_step (negsuc a) (pos b) m h = omega (arith, ints)
-product_step (negsuc a) (negsuc b) m h = omega (arith, ints, mul-le (b + 1) m a m (omega (arith, ints)) (omega arith))
-
--- of two numbers one comes first
-int_cases : (a b : ℤ) → (a <ℤ b) ⊎ (b ≤ℤ a)
-int_cases a b = grind (arith, ints)
+-- ---- frames in a second
 
 -- whole seconds and a rest below one second are told by their sum
 same_parts : (q s q_samples s_samples : ℤ) (r u rate : ℕ)
@@ -41,18 +21,8 @@ same_parts : (q s q_samples s_samples : ℤ) (r u rate : ℕ)
     → r < rate → u < rate → (q_samples +ℤ pos r) ≡ (s_samples +ℤ pos u)
     → (q ≡ s) × (r ≡ u)
 same_parts q s q_samples s_samples r u rate earlier later within below also is =
-    ⊎_elim
-    (λ sooner. let step = earlier sooner in absurd (omega (arith, ints)))
-    (λ no_sooner. ⊎_elim
-    (λ after. let step = later after in absurd (omega (arith, ints)))
-    (λ no_later.
-    let one : q ≡ s = omega (arith, ints) in
-    let begin : q_samples ≡ s_samples = within one in
-    (one, omega (arith, ints)))
-    (int_cases s q))
-    (int_cases q s)
-
--- ---- frames in a second
+    let found = same_second q s q_samples s_samples (q_samples +ℤ pos r) rate u 1 r earlier later within (omega (arith, below)) also is (omega (arith, ints)) (omega (arith, ints)) in
+    (found.0, omega (arith, found.1, found.2))
 
 -- the last sample of a frame lies in the second of the others
 frame_last : (r frames spf rate : ℕ) → rate ≡ frames * spf → r < rate → r / spf * spf + spf ≤ rate

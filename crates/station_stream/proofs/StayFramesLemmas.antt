@@ -1,5 +1,5 @@
 -- Frames of a station's part of a scan, whichever way the part is put together.
-use Rattle.std.proofs.Common.{◌≡◌, ◌∙◌, refl, sym, ap, subst, ℕ, ℤ, ◌+◌, ◌≤◌, ◌<◌, pos, ◌+ℤ◌, ◌≤ℤ◌, ◌<ℤ◌, List, length, get_or, map, Option, Some, None}
+use Rattle.std.proofs.Common.{◌≡◌, ◌∙◌, refl, sym, ap, subst, ℕ, ℤ, ◌+◌, ◌≤◌, ◌<◌, pos, ◌+ℤ◌, ◌≤ℤ◌, ◌<ℤ◌, List, length, get_or, map, Option, Some, None, arith}
 use Rattle.std.specs.List.{slice_get}
 use Rattle.std.proofs.lemmas.List.{get_or-map}
 use Rattle.std.proofs.lemmas.Option.{slice_get_read}
@@ -22,17 +22,17 @@ use Rattle.station_stream.specs.declared.part.StationPart.{StationPart}
 use Rattle.station_stream.specs.declared.recording.Recording.{Recording}
 use Rattle.station_stream.specs.declared.thread_frames.ThreadFrames.{ThreadFrames}
 use Rattle.station_stream.specs.declared.threads.Threads.{Threads}
-use Rattle.station_stream.specs.Part.{chan_at, chan_sample, part_value, timing_of}
+use Rattle.station_stream.specs.Part.{IsIndexed, chan_at, chan_sample, part_value, timing_of}
 use Rattle.station_stream.specs.Ranges.{IsChanOf}
 use Rattle.station_stream.specs.StayParts.{IsPartOf}
 use Rattle.station_stream.specs.declared.stay_frames.StayFrames.{StayFrames}
-use Rattle.station_stream.specs.Recorded.{AreNamed}
+use Rattle.station_stream.specs.Recorded.{AreNamed, AreRecorded}
 use Rattle.station_stream.specs.StayFrames.{HoldFrames, HoldPart, HoldStay, IsPartOfStay}
 use Rattle.station_stream.specs.Swept.{IsSwept, AreSwept}
 use Rattle.station_stream.specs.ThreadFrames.{Reach, level_in_frames}
 use Rattle.station_stream.specs.Threads.{AreThreadSamples, AreFramesOf, AreThreads}
 use Rattle.station_stream.specs.Window.{AreValues}
-use Rattle.station_stream.proofs.StayPartLemmas.{part_value-stay_value}
+use Rattle.station_stream.proofs.StayPartLemmas.{IsIndexed-part, part_value-stay_value}
 
 -- ---- parts that are alike
 
@@ -145,6 +145,29 @@ HoldStay-untold told plan scan stay recordings f held = record {
 -- the item at a place of a list that is read
 pub slice_get-item : {X : Type 0} (xs ys : List X) (i : ℕ) (x : X) → xs ≡ ys → i < length ys → x ≡ get_or xs i x → slice_get ys i ≡ Some x
 slice_get-item xs ys i x same there is = slice_get_read ys (length ys) i x refl there (is ∙ ap (λ zs. get_or zs i x) same)
+
+-- the station and the recording at a place
+pub record StandAt (plan : Plan) (recordings : List Recording) (number : ℕ) (s : StationPlan) (r : Recording) : Type 0 where
+  pub station : slice_get plan.stations number ≡ Some s
+  pub recording : slice_get recordings number ≡ Some r
+
+-- as they are read
+pub StandAt-read : (plan : Plan) (recordings : List Recording) (number : ℕ) (s : StationPlan) (r : Recording) (stations : List StationPlan)
+    → stations ≡ plan.stations → number < length plan.stations → AreNamed plan.stations recordings
+    → s ≡ get_or stations number s → r ≡ get_or recordings number r → StandAt plan recordings number s r
+StandAt-read plan recordings number s r stations same there named station recording = record {
+  station = slice_get-item stations plan.stations number s same there station;
+  recording = slice_get_read recordings _ number r refl (omega (arith, named.each, there)) recording;
+}
+
+-- the index of the recording is that of the files of the station's part
+pub IsIndexed-stay : (told : Option Shelved) (plan : Plan) (scan : ScanPlan) (stay : StayPlan) (recordings : List Recording) (s : StationPlan) (r : Recording)
+    (part : StationPart) → StandAt plan recordings stay.station s r → IsPartOf plan scan s stay r part
+    → WhereTold told (λ files. AreRecorded files plan.stations recordings) → WhereTold told (λ files. IsIndexed files part r.index)
+IsIndexed-stay told plan scan stay recordings s r part at is recorded =
+    WhereTold-weaker told (λ files. AreRecorded files plan.stations recordings) (λ files. IsIndexed files part r.index)
+    (λ files are. IsIndexed-part files plan scan s stay r part (are stay.station s r at.station at.recording) is)
+    recorded
 
 pub HoldStay-of : (told : Option Shelved) (plan : Plan) (scan : ScanPlan) (stay : StayPlan) (recordings : List Recording) (f : StayFrames) (s : StationPlan) (r : Recording)
     → slice_get plan.stations stay.station ≡ Some s → slice_get recordings stay.station ≡ Some r

@@ -52,19 +52,25 @@ max_cases x y = grind (arith, ints)
 pub passed : (x : ℤ) → unsigned_abs x < 2 ^ 60 → to_z w64 (of_z w64 x) ≡ x
 passed x near = omega (arith, ints, near)
 
-near_min : (x y low : ℤ) → low ≡ int_min x y → unsigned_abs x < 2 ^ 60 → unsigned_abs y < 2 ^ 60 → (unsigned_abs low < 2 ^ 60) × ((low ≤ℤ x) × (low ≤ℤ y))
-near_min x y low is near_x near_y =
+-- one of two that is in order with both is near where both are
+near_pick : (x y picked z : ℤ) (Before : ℤ → ℤ → Type 0) → ((w : ℤ) → Before w w) → ((picked ≡ x) × Before x y) ⊎ ((picked ≡ y) × Before y x) → z ≡ picked
+    → unsigned_abs x < 2 ^ 60 → unsigned_abs y < 2 ^ 60
+    → (unsigned_abs z < 2 ^ 60) × (Before z x × Before z y)
+near_pick x y picked z Before same cases is near_x near_y =
+    let Picked : ℤ → Type 0 = λ w. (unsigned_abs w < 2 ^ 60) × (Before w x × Before w y) in
     ⊎_elim
-    (λ h. (omega (arith, ints, is, h.0, near_x), (omega (arith, ints, is, h.0), omega (arith, ints, is, h.0, h.1))))
-    (λ h. (omega (arith, ints, is, h.0, near_y), (omega (arith, ints, is, h.0, h.1), omega (arith, ints, is, h.0))))
-    (min_cases x y)
+    (λ h. subst Picked (sym (is ∙ h.0)) (near_x, (same x, h.1)))
+    (λ h. subst Picked (sym (is ∙ h.0)) (near_y, (h.1, same y)))
+    cases
+
+no_later : (x : ℤ) → x ≤ℤ x
+no_later x = omega (arith, ints)
+
+near_min : (x y low : ℤ) → low ≡ int_min x y → unsigned_abs x < 2 ^ 60 → unsigned_abs y < 2 ^ 60 → (unsigned_abs low < 2 ^ 60) × ((low ≤ℤ x) × (low ≤ℤ y))
+near_min x y low is near_x near_y = near_pick x y (int_min x y) low (λ a b. a ≤ℤ b) no_later (min_cases x y) is near_x near_y
 
 near_max : (x y high : ℤ) → high ≡ int_max x y → unsigned_abs x < 2 ^ 60 → unsigned_abs y < 2 ^ 60 → (unsigned_abs high < 2 ^ 60) × ((x ≤ℤ high) × (y ≤ℤ high))
-near_max x y high is near_x near_y =
-    ⊎_elim
-    (λ h. (omega (arith, ints, is, h.0, near_x), (omega (arith, ints, is, h.0), omega (arith, ints, is, h.0, h.1))))
-    (λ h. (omega (arith, ints, is, h.0, near_y), (omega (arith, ints, is, h.0, h.1), omega (arith, ints, is, h.0))))
-    (max_cases x y)
+near_max x y high is near_x near_y = near_pick x y (int_max x y) high (λ a b. b ≤ℤ a) no_later (max_cases x y) is near_x near_y
 
 pub grown : (first last begins ends low high begins_is ends_is : ℤ) → begins ≡ begins_is → ends ≡ ends_is → low ≡ int_min first begins → high ≡ int_max last ends → first ≤ℤ last
     → unsigned_abs first < 2 ^ 60 → unsigned_abs last < 2 ^ 60 → unsigned_abs begins_is < 2 ^ 60 → unsigned_abs ends_is < 2 ^ 60

@@ -29,21 +29,11 @@ fn find_slot(
     index.find(thread, place.second, place.number)
 }
 
-// Whether the slot of frame `i` stands `ahead` bytes behind a place.
-fn stands_behind(
-    index: &Index,
-    part: &StationPart<'_>,
-    thread: u16,
-    start: i64,
-    i: usize,
-    at: SlotAt,
-    ahead: u64,
-) -> bool
-    requires near { unsigned_abs start < 2 ^ 61 }
-    requires near_frame { unsigned_abs (start +ℤ pos (i * samples_per_frame part.now.shape)) < 2 ^ 61 }
-    ensures { IsTrue result → slot_at index.now part.now thread start i ≡ Some (record { file = at.file; at = at.at + ahead }) }
+// Whether the slot that was found stands `ahead` bytes behind a place.
+fn stands_behind(found: Option<SlotAt>, at: SlotAt, ahead: u64) -> bool
+    ensures { IsTrue result → found ≡ Some (record { file = at.file; at = at.at + ahead }) }
 {
-    let Some(found) = find_slot(index, part, thread, start, i) else {
+    let Some(found) = found else {
         return false;
     };
     if found.file != at.file {
@@ -77,7 +67,8 @@ fn run_len(
     ensures run { IsRun index.now part.now thread start i at size result }
 {
     for n in 1..most {
-        if !stands_behind(index, part, thread, start, i + n, at, (n * size) as u64) {
+        let found = find_slot(index, part, thread, start, i + n);
+        if !stands_behind(found, at, (n * size) as u64) {
             return n;
         }
     }

@@ -15,49 +15,6 @@ bit_of-is : (b : Bool) → (bit_of b == 1) ≡ b
 bit_of-is true = refl
 bit_of-is false = refl
 
--- the fields of word 0
-bit_31 : (a b s : ℕ) → a ≤ 1 → b ≤ 1 → s < 2 ^ 30 → (a * 2 ^ 31 + b * 2 ^ 30 + s) / 2 ^ 31 % 2 ^ 1 ≡ a
-bit_31 a b s p q r = omega arith
-
-bit_30 : (a b s : ℕ) → a ≤ 1 → b ≤ 1 → s < 2 ^ 30 → (a * 2 ^ 31 + b * 2 ^ 30 + s) / 2 ^ 30 % 2 ^ 1 ≡ b
-bit_30 a b s p q r = omega arith
-
-low_30 : (a b s : ℕ) → s < 2 ^ 30 → (a * 2 ^ 31 + b * 2 ^ 30 + s) / 2 ^ 0 % 2 ^ 30 ≡ s
-low_30 a b s r = omega arith
-
--- of word 1
-spare_is : (a b s : ℕ) → a < 2 ^ 2 → b < 2 ^ 6 → s < 2 ^ 24 → (a * 2 ^ 30 + b * 2 ^ 24 + s) / 2 ^ 30 % 2 ^ 2 ≡ a
-spare_is a b s p q r = omega arith
-
-epoch_is : (a b s : ℕ) → a < 2 ^ 2 → b < 2 ^ 6 → s < 2 ^ 24 → (a * 2 ^ 30 + b * 2 ^ 24 + s) / 2 ^ 24 % 2 ^ 6 ≡ b
-epoch_is a b s p q r = omega arith
-
-frame_is : (a b s : ℕ) → s < 2 ^ 24 → (a * 2 ^ 30 + b * 2 ^ 24 + s) / 2 ^ 0 % 2 ^ 24 ≡ s
-frame_is a b s r = omega arith
-
--- of word 2
-version_is : (a b s : ℕ) → a < 2 ^ 3 → b < 2 ^ 5 → s < 2 ^ 24 → (a * 2 ^ 29 + b * 2 ^ 24 + s) / 2 ^ 29 % 2 ^ 3 ≡ a
-version_is a b s p q r = omega arith
-
-chans_is : (a b s : ℕ) → a < 2 ^ 3 → b < 2 ^ 5 → s < 2 ^ 24 → (a * 2 ^ 29 + b * 2 ^ 24 + s) / 2 ^ 24 % 2 ^ 5 ≡ b
-chans_is a b s p q r = omega arith
-
-units_is : (a b s : ℕ) → s < 2 ^ 24 → (a * 2 ^ 29 + b * 2 ^ 24 + s) / 2 ^ 0 % 2 ^ 24 ≡ s
-units_is a b s r = omega arith
-
--- of word 3
-complex_is : (a b t s : ℕ) → a ≤ 1 → b < 2 ^ 5 → t < 2 ^ 10 → s < 2 ^ 16 → (a * 2 ^ 31 + b * 2 ^ 26 + t * 2 ^ 16 + s) / 2 ^ 31 % 2 ^ 1 ≡ a
-complex_is a b t s p q u r = omega arith
-
-bits_is : (a b t s : ℕ) → a ≤ 1 → b < 2 ^ 5 → t < 2 ^ 10 → s < 2 ^ 16 → (a * 2 ^ 31 + b * 2 ^ 26 + t * 2 ^ 16 + s) / 2 ^ 26 % 2 ^ 5 ≡ b
-bits_is a b t s p q u r = omega arith
-
-thread_is : (a b t s : ℕ) → t < 2 ^ 10 → s < 2 ^ 16 → (a * 2 ^ 31 + b * 2 ^ 26 + t * 2 ^ 16 + s) / 2 ^ 16 % 2 ^ 10 ≡ t
-thread_is a b t s u r = omega arith
-
-station_is : (a b t s : ℕ) → s < 2 ^ 16 → (a * 2 ^ 31 + b * 2 ^ 26 + t * 2 ^ 16 + s) / 2 ^ 0 % 2 ^ 16 ≡ s
-station_is a b t s r = omega arith
-
 -- each word fits 32 bits
 word_0-lt : (h : HeaderFields) → AreInRange h → word_0 h < 256 ^ 4
 word_0-lt h r = omega (arith, bit_of-le h.invalid, bit_of-le h.legacy, r.seconds)
@@ -114,24 +71,22 @@ fields_of-words h bytes r w0 w1 w2 w3 e =
     let li = bit_of-le h.invalid in
     let ll = bit_of-le h.legacy in
     let lc = bit_of-le h.complex in
-    let legacy : legacy_bit bytes ≡ h.legacy =
-    ap (λ n. n / 2 ^ 30 % 2 ^ 1 == 1) w0 ∙ ap (λ n. n == 1) (bit_30 _ _ _ li ll r.seconds) ∙ bit_of-is h.legacy in
-    let invalid : (field bytes 0 31 31 == 1) ≡ h.invalid =
-    ap (λ n. n / 2 ^ 31 % 2 ^ 1 == 1) w0 ∙ ap (λ n. n == 1) (bit_31 _ _ _ li ll r.seconds) ∙ bit_of-is h.invalid in
-    let seconds : field bytes 0 29 0 ≡ h.seconds = ap (λ n. n / 2 ^ 0 % 2 ^ 30) w0 ∙ low_30 _ _ _ r.seconds in
-    let spare : field bytes 1 31 30 ≡ h.spare = ap (λ n. n / 2 ^ 30 % 2 ^ 2) w1 ∙ spare_is _ _ _ r.spare r.epoch r.frame in
-    let epoch : field bytes 1 29 24 ≡ h.epoch = ap (λ n. n / 2 ^ 24 % 2 ^ 6) w1 ∙ epoch_is _ _ _ r.spare r.epoch r.frame in
-    let frame : field bytes 1 23 0 ≡ h.frame = ap (λ n. n / 2 ^ 0 % 2 ^ 24) w1 ∙ frame_is _ _ _ r.frame in
-    let version : field bytes 2 31 29 ≡ h.version = ap (λ n. n / 2 ^ 29 % 2 ^ 3) w2 ∙ version_is _ _ _ r.version r.chans_log2 r.units in
-    let chans : field bytes 2 28 24 ≡ h.chans_log2 = ap (λ n. n / 2 ^ 24 % 2 ^ 5) w2 ∙ chans_is _ _ _ r.version r.chans_log2 r.units in
-    let units : field bytes 2 23 0 ≡ h.units = ap (λ n. n / 2 ^ 0 % 2 ^ 24) w2 ∙ units_is _ _ _ r.units in
-    let below : h.bits - 1 < 2 ^ 5 = omega (arith, r.bits) in
-    let complex : (field bytes 3 31 31 == 1) ≡ h.complex =
-    ap (λ n. n / 2 ^ 31 % 2 ^ 1 == 1) w3 ∙ ap (λ n. n == 1) (complex_is _ _ _ _ lc below r.thread r.station) ∙ bit_of-is h.complex in
-    let bits_less : field bytes 3 30 26 ≡ h.bits - 1 = ap (λ n. n / 2 ^ 26 % 2 ^ 5) w3 ∙ bits_is _ _ _ _ lc below r.thread r.station in
-    let bits : field bytes 3 30 26 + 1 ≡ h.bits = omega (arith, bits_less, r.some_bits) in
-    let thread : field bytes 3 25 16 ≡ h.thread = ap (λ n. n / 2 ^ 16 % 2 ^ 10) w3 ∙ thread_is _ _ _ _ r.thread r.station in
-    let station : field bytes 3 15 0 ≡ h.station = ap (λ n. n / 2 ^ 0 % 2 ^ 16) w3 ∙ station_is _ _ _ _ r.station in
+    let legacy_is : field bytes 0 30 30 ≡ bit_of h.legacy = omega (arith, w0, li, ll, r.seconds) in
+    let legacy : legacy_bit bytes ≡ h.legacy = ap (λ n. n == 1) legacy_is ∙ bit_of-is h.legacy in
+    let invalid_is : field bytes 0 31 31 ≡ bit_of h.invalid = omega (arith, w0, li, ll, r.seconds) in
+    let invalid : (field bytes 0 31 31 == 1) ≡ h.invalid = ap (λ n. n == 1) invalid_is ∙ bit_of-is h.invalid in
+    let seconds : field bytes 0 29 0 ≡ h.seconds = omega (arith, w0, r.seconds) in
+    let spare : field bytes 1 31 30 ≡ h.spare = omega (arith, w1, r.spare, r.epoch, r.frame) in
+    let epoch : field bytes 1 29 24 ≡ h.epoch = omega (arith, w1, r.spare, r.epoch, r.frame) in
+    let frame : field bytes 1 23 0 ≡ h.frame = omega (arith, w1, r.frame) in
+    let version : field bytes 2 31 29 ≡ h.version = omega (arith, w2, r.version, r.chans_log2, r.units) in
+    let chans : field bytes 2 28 24 ≡ h.chans_log2 = omega (arith, w2, r.version, r.chans_log2, r.units) in
+    let units : field bytes 2 23 0 ≡ h.units = omega (arith, w2, r.units) in
+    let complex_is : field bytes 3 31 31 ≡ bit_of h.complex = omega (arith, w3, lc, r.bits, r.thread, r.station) in
+    let complex : (field bytes 3 31 31 == 1) ≡ h.complex = ap (λ n. n == 1) complex_is ∙ bit_of-is h.complex in
+    let bits : field bytes 3 30 26 + 1 ≡ h.bits = omega (arith, w3, lc, r.some_bits, r.bits, r.thread, r.station) in
+    let thread : field bytes 3 25 16 ≡ h.thread = omega (arith, w3, r.thread, r.station) in
+    let station : field bytes 3 15 0 ≡ h.station = omega (arith, w3, r.station) in
     let extended : (if legacy_bit bytes then replicate 16 0 else take 16 (drop 16 bytes)) ≡ h.extended =
     ap (λ b. if b then replicate 16 0 else take 16 (drop 16 bytes)) legacy ∙ extended_is h.legacy _ _ r.legacy_zero e in
     same_fields h _ _ _ _ _ _ _ _ _ _ _ _ _ _ invalid legacy seconds spare epoch frame version chans units complex bits thread station extended

@@ -32,28 +32,13 @@ samples_since_fits z r rate e h k =
     let product = samples_since z r rate e h k in
     simp to_z-of_z (fits_signed_from_abs w128 (z *ℤ r) (omega (arith, product)))
 
-pub place_fits : (z r f s : ℤ) (rate frame samples : ℕ) → r ≡ pos rate → f ≡ pos frame → s ≡ pos samples → unsigned_abs z ≤ 2 ^ 66
-    → rate < 2 ^ 32
-    → frame < 2 ^ 24
-    → samples ≤ 1048576
-    → FitsSigned w128 (to_z w128 (of_z w128 (to_z w128 (of_z w128 z) *ℤ to_z w128 (of_z w128 r))) +ℤ to_z w128 (of_z w128 (to_z w128 (of_z w128 f) *ℤ to_z w128 (of_z w128 s))))
-place_fits z r f s rate frame samples er ef es hz hr hf hs =
-    let product = samples_since z r rate er hz hr in
-    let within = samples_before f s frame samples ef es hf hs in
-    let fz : FitsSigned w128 z = fits_signed_from_abs w128 z (omega (arith, hz)) in
-    let fr : FitsSigned w128 r = omega (arith, ints) in
-    let ff : FitsSigned w128 f = omega (arith, ints) in
-    let fs : FitsSigned w128 s = omega (arith, ints) in
-    let fzr : FitsSigned w128 (z *ℤ r) = fits_signed_from_abs w128 (z *ℤ r) (omega (arith, product)) in
-    let ffs : FitsSigned w128 (f *ℤ s) = fits_signed_from_abs w128 (f *ℤ s) (omega (arith, within)) in
-    simp to_z-of_z (omega (arith, ints, product, within))
-
+-- the place of a frame's first sample, with each step at 128 bits
 pub place_is : (z r f s : ℤ) (rate frame samples : ℕ) → r ≡ pos rate → f ≡ pos frame → s ≡ pos samples → unsigned_abs z ≤ 2 ^ 66
     → rate < 2 ^ 32
     → frame < 2 ^ 24
     → samples ≤ 1048576
-    → to_z w128 (of_z w128 (to_z w128 (of_z w128 (to_z w128 (of_z w128 z) *ℤ to_z w128 (of_z w128 r))) +ℤ to_z w128 (of_z w128 (to_z w128 (of_z w128 f) *ℤ to_z w128 (of_z w128 s)))))
-    ≡ z *ℤ pos rate +ℤ pos (frame * samples)
+    → (let sum : ℤ = to_z w128 (of_z w128 (to_z w128 (of_z w128 z) *ℤ to_z w128 (of_z w128 r))) +ℤ to_z w128 (of_z w128 (to_z w128 (of_z w128 f) *ℤ to_z w128 (of_z w128 s)))
+    in FitsSigned w128 sum × (to_z w128 (of_z w128 sum) ≡ z *ℤ pos rate +ℤ pos (frame * samples)))
 place_is z r f s rate frame samples er ef es hz hr hf hs =
     let product = samples_since z r rate er hz hr in
     let within = samples_before f s frame samples ef es hf hs in
@@ -64,4 +49,4 @@ place_is z r f s rate frame samples er ef es hz hr hf hs =
     let fzr : FitsSigned w128 (z *ℤ r) = fits_signed_from_abs w128 (z *ℤ r) (omega (arith, product)) in
     let ffs : FitsSigned w128 (f *ℤ s) = fits_signed_from_abs w128 (f *ℤ s) (omega (arith, within)) in
     let sum : FitsSigned w128 (z *ℤ r +ℤ f *ℤ s) = omega (arith, ints, product, within) in
-    simp to_z-of_z (rw (er, ef, es) refl)
+    (simp to_z-of_z sum, simp to_z-of_z (rw (er, ef, es) refl))

@@ -4,6 +4,7 @@ ghost use Rattle.vdif_frame.specs.{Shape.{ShapeFields, IsShape, samples_per_fram
 
 use crate::Header;
 use std::marker::Model;
+use variant_name::name_of;
 
 /// What all frames of a station have alike. `frame_bytes` is a frame's length with its header, the
 /// number of channels is two to the power `chans_log2`, `bits` (1, 2 or 4) is the number of bits in a
@@ -66,15 +67,7 @@ impl Field {
     pub fn name(self) -> &'static str
         ensures { result.now ≡ field_name self }
     {
-        match self {
-            Field::Legacy => "Legacy",
-            Field::Length => "Length",
-            Field::Channels => "Channels",
-            Field::Complex => "Complex",
-            Field::Bits => "Bits",
-            Field::Station => "Station",
-            Field::FrameNumber => "FrameNumber",
-        }
+        name_of!(self: Field { Legacy, Length, Channels, Complex, Bits, Station, FrameNumber })
     }
 }
 

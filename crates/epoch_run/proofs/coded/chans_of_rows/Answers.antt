@@ -8,21 +8,13 @@ use Rattle.epoch_run.proofs.PlaneValues.{chans-more}
 use Rattle.epoch_run.proofs.RowPlanes.{row_value-there}
 use Rattle.epoch_run.proofs.coded.chans_of_rows.Goals as goal
 
-pub of_codes-requires-clause-start : goal.of_codes-requires-clause-start
-of_codes-requires-clause-start c =
+pub of_codes-requires : goal.of_codes-requires
+of_codes-requires c =
     let i : ℕ = c.args.first + c.loop-chan.chan in
     let row = c.take_row-row.result in
     let is : row ≡ get_or c.args.rows.now i row = c.take_row-row.ensures.row row ∙ c.loop-chan.invariant.left i row (omega arith) in
     let few : c.args.from + length row.items ≤ 2 ^ 40 = subst (IsRowOf c.args.from) (sym is) (c.requires.end i row (omega arith) (omega arith)) in
-    omega (arith, ints, few)
-
-pub of_codes-requires-clause-end : goal.of_codes-requires-clause-end
-of_codes-requires-clause-end c =
-    let i : ℕ = c.args.first + c.loop-chan.chan in
-    let row = c.take_row-row.result in
-    let is : row ≡ get_or c.args.rows.now i row = c.take_row-row.ensures.row row ∙ c.loop-chan.invariant.left i row (omega arith) in
-    let few : c.args.from + length row.items ≤ 2 ^ 40 = subst (IsRowOf c.args.from) (sym is) (c.requires.end i row (omega arith) (omega arith)) in
-    omega (arith, ints, few)
+    record { start = omega (arith, ints, few); end = omega (arith, ints, few) }
 
 pub loop-chan-preserved : goal.loop-chan-preserved
 loop-chan-preserved c =

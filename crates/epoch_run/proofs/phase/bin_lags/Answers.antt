@@ -2,14 +2,14 @@ use Rattle.std.proofs.Common.{◌≡◌, ◌+◌, ◌-◌, ◌*◌, ◌/◌, ◌
 use Rattle.std.proofs.Math.Nat.{mul-le-mul_right}
 use Rattle.corr_model.specs.declared.cell.Cell.{Cell}
 use Rattle.corr_model.specs.Lags.{lag_of}
+use Rattle.corr_model.proofs.CellLemmas.{IsGrown, IsGrown-wider}
 use Rattle.delay_track.specs.Track.{model_of}
 use Rattle.lag_kernel.specs.Planes.{plane_pair, plane_samples}
 use Rattle.pulsar_bins.specs.Bin.{bin_at}
 use Rattle.pulsar_bins.specs.Runs.{BinRunsFields}
 use Rattle.epoch_run.specs.Sums.{pair_cells}
-use Rattle.epoch_run.specs.Levelled.{IsWithin}
-use Rattle.epoch_run.proofs.Within.{IsWithin-pair_cells, IsWithin-weaker}
-use Rattle.epoch_run.proofs.BinnedCells.{IsWithin-bin_cell_in, are-bin_cells, bin_cell_in-none, cell_number, run-added}
+use Rattle.epoch_run.proofs.Within.{IsGrown-pair_cells}
+use Rattle.epoch_run.proofs.BinnedCells.{IsGrown-bin_cell_in, are-bin_cells, bin_cell_in-none, cell_number, run-added}
 use Rattle.epoch_run.proofs.BinRuns.{run-below, run-is, run-same}
 use Rattle.epoch_run.proofs.phase.bin_lags.Goals as goal
 
@@ -42,14 +42,11 @@ sums stretch lags cells long new is = is ∙ ap cells long
 pub add_cells-requires-clause-room : goal.add_cells-requires-clause-room
 add_cells-requires-clause-room c =
     let x = c.args in
-    let count = x.phase.now.count in
-    let model = model_of x.phase.now.track in
-    let runs = c.loop-run.runs in
     let run = c.in-Some.run' in
     let inv = c.loop-run.invariant in
-    let is = run-is model count x.to runs run inv.model inv.count inv.to c.in-Some.ensures.steps.0 in
-    let below : run.bin < count = run-below model count runs.at x.to run is (omega (arith, c.requires.bins.0)) in
-    let more : (run.bin + 1) * length x.stretch.now ≤ count * length x.stretch.now = mul-le-mul_right (length x.stretch.now) (omega (arith, below)) in
+    let is = run-is (model_of x.phase.now.track) x.phase.now.count x.to c.loop-run.runs run inv.model inv.count inv.to c.in-Some.ensures.steps.0 in
+    let below : run.bin < x.phase.now.count = run-below (model_of x.phase.now.track) x.phase.now.count c.loop-run.runs.at x.to run is (omega (arith, c.requires.bins.0)) in
+    let more : (run.bin + 1) * length x.stretch.now ≤ x.phase.now.count * length x.stretch.now = mul-le-mul_right (length x.stretch.now) (omega (arith, below)) in
     omega (arith, more, c.plane_lags.auto.out, c.loop-run.auto.stretch, c.loop-run.auto.cells, c.clear.auto.cells, c.requires.cells)
 
 pub add_cells-requires-clause-more : goal.add_cells-requires-clause-more
@@ -57,15 +54,13 @@ add_cells-requires-clause-more c = λ k d h.
     let x = c.args in
     let z = plane_samples x.a.now x.b.now in
     let samples = x.phase.now.track.samples in
-    let lags = length x.stretch.now in
     let run = c.in-Some.run' in
     let inv = c.loop-run.invariant in
     let is = run-is (model_of x.phase.now.track) x.phase.now.count x.to c.loop-run.runs run inv.model inv.count inv.to c.in-Some.ensures.steps.0 in
-    let new = c.plane_lags.new.out in
-    let cells : new ≡ pair_cells z samples lags run.from run.to plane_pair =
-    sums c.loop-run.stretch lags (λ n. pair_cells z samples n run.from run.to plane_pair) c.loop-run.auto.stretch new c.plane_lags.ensures in
-    IsWithin-weaker (get_or new k d) (run.to - run.from) 4194304
-    (IsWithin-pair_cells z plane_pair samples lags run.from run.to new c.requires.levelled cells k d h)
+    let cells : c.plane_lags.new.out ≡ pair_cells z samples (length x.stretch.now) run.from run.to plane_pair =
+    sums c.loop-run.stretch _ (λ n. pair_cells z samples n run.from run.to plane_pair) c.loop-run.auto.stretch _ c.plane_lags.ensures in
+    IsGrown-wider (get_or c.plane_lags.new.out k d) (run.to - run.from) 4194304
+    (IsGrown-pair_cells z plane_pair samples (length x.stretch.now) run.from run.to _ c.requires.levelled cells k d h)
     (omega (arith, c.requires.short, is.begins, inv.begun, is.stretch.within))
 
 pub add_cells-requires-clause-cells : goal.add_cells-requires-clause-cells
@@ -78,9 +73,9 @@ add_cells-requires-clause-cells c = λ k d h.
     let inv = c.loop-run.invariant in
     let at = c.loop-run.runs.at in
     let inside : k < count * lags = omega (arith, h, c.loop-run.auto.cells, c.clear.auto.cells, c.requires.cells) in
-    subst (λ (cell : Cell). IsWithin cell 4194304) (sym (inv.cells k d inside))
-    (IsWithin-weaker (cell_number (bin_at count (model_of x.phase.now.track)) count z samples lags x.from at plane_pair k) (at - x.from) 4194304
-    (IsWithin-bin_cell_in (bin_at count (model_of x.phase.now.track)) (k / lags) z plane_pair samples (lag_of lags (k % lags)) c.requires.levelled x.from at)
+    subst (λ (cell : Cell). IsGrown cell 4194304) (sym (inv.cells k d inside))
+    (IsGrown-wider (cell_number (bin_at count (model_of x.phase.now.track)) count z samples lags x.from at plane_pair k) (at - x.from) 4194304
+    (IsGrown-bin_cell_in (bin_at count (model_of x.phase.now.track)) (k / lags) z plane_pair samples (lag_of lags (k % lags)) c.requires.levelled x.from at)
     (omega (arith, c.requires.short, inv.within)))
 
 pub loop-run-preserved : goal.loop-run-preserved

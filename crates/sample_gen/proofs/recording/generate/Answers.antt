@@ -1,6 +1,5 @@
 use Rattle.std.proofs.Common.{◌≡◌, ◌+◌, ◌*◌, ◌∙◌, ap, sym, arith}
-use Rattle.std.specs.Result.{is_err}
-use Rattle.sink_text.proofs.WrittenText.{Puts-then, Puts-nothing, Appends-written, Ends-alike}
+use Rattle.sink_text.proofs.WrittenText.{Puts-then, Puts-nothing, Appends-written}
 use Rattle.sample_gen.specs.Frames.{first_word}
 use Rattle.sample_gen.specs.Words.{words_from}
 use Rattle.sample_gen.proofs.FrameLemmas.{Puts-same, slots_before-none, slots_before-next, slots_before-all}
@@ -26,16 +25,9 @@ loop-k-preserved g c =
           (c.put_frame.ensures.puts c.args.seed n c.loop-k.invariant.next);
     }
 
-pub returns-in-Ok : goal.returns-in-Ok
-returns-in-Ok g c =
+pub returns : goal.returns
+returns g c =
     let all : c.loop-k.k ≡ 10 * c.args.seconds = omega (arith, c.loop-k-test.false, c.loop-k.auto.k-end) in
     Appends-written c.new-slots.ensures
     (Puts-same (slots_before-all c.args.seed c.args.seconds c.args.station c.loop-k.k all) c.loop-k.invariant.puts)
-    (Ends-alike (ap is_err (sym c.in-Ok.is)) c.finish.ensures)
-
-pub returns-in-Err : goal.returns-in-Err
-returns-in-Err g c =
-    let all : c.loop-k.k ≡ 10 * c.args.seconds = omega (arith, c.loop-k-test.false, c.loop-k.auto.k-end) in
-    Appends-written c.new-slots.ensures
-    (Puts-same (slots_before-all c.args.seed c.args.seconds c.args.station c.loop-k.k all) c.loop-k.invariant.puts)
-    (Ends-alike (ap is_err (sym c.in-Err.is)) c.finish.ensures)
+    c.end.ensures

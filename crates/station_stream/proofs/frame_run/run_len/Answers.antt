@@ -1,4 +1,4 @@
-use Rattle.std.proofs.Common.{◌≡◌, ◌∙◌, ap, subst, ℕ, ℤ, to_z, of_z, w64, below_more, arith, rules}
+use Rattle.std.proofs.Common.{◌≡◌, ◌∙◌, ap, sym, subst, ℕ, ℤ, to_z, of_z, w64, below_more, arith, rules}
 use Rattle.std.proofs.lemmas.Int.{to_z-of_z}
 use Rattle.station_stream.specs.FrameSlots.{slot_at, IsRun}
 use Rattle.station_stream.proofs.ThreadLemmas.{IsRun-one}
@@ -10,7 +10,7 @@ loop-n-init c =
     (ap (λ (z : ℤ). slot_at c.args.index.now c.args.part.now c.args.thread z c.args.i) (to_z-of_z w64 c.args.start c.ranges.start) ∙ c.requires.found)
 
 pub loop-n-preserved : goal.loop-n-preserved
-loop-n-preserved c = below_more _ _ c.loop-n.invariant (c.stands_behind.ensures (search rules))
+loop-n-preserved c = below_more _ _ c.loop-n.invariant (sym c.find_slot-found.ensures ∙ c.stands_behind.ensures (search rules))
 
 pub returns-then-not-stands_behind-clause-run : goal.returns-then-not-stands_behind-clause-run
 returns-then-not-stands_behind-clause-run c =

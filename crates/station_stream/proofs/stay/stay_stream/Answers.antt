@@ -1,11 +1,10 @@
-use Rattle.std.proofs.Common.{◌<◌, length, get_or, refl, ap, ◌∙◌, arith}
+use Rattle.std.proofs.Common.{length, get_or, ap, ◌∙◌, arith}
 use Rattle.std.proofs.lemmas.Int.{ints}
-use Rattle.std.proofs.lemmas.Option.{slice_get_read}
 use Rattle.frame_index.proofs.ToldLemmas.{WhereTold-weaker}
 use Rattle.job_plan.specs.declared.plan.StationPlan.{StationPlan}
-use Rattle.station_stream.proofs.StayPartLemmas.{IsIndexed-part, part_value-stay_value}
+use Rattle.station_stream.proofs.StayPartLemmas.{part_value-stay_value}
 use Rattle.station_stream.proofs.StayLemmas.{windowed-inside}
-use Rattle.station_stream.proofs.StayFramesLemmas.{slice_get-item}
+use Rattle.station_stream.proofs.StayFramesLemmas.{IsIndexed-stay, StandAt-read, slice_get-item}
 use Rattle.station_stream.proofs.stay.stay_stream.Goals as goal
 
 pub part_of-part-requires-clause-modelled : goal.part_of-part-requires-clause-modelled
@@ -16,26 +15,21 @@ part_of-part-requires-clause-modelled g c =
 
 pub load_in-requires-clause-indexed : goal.load_in-requires-clause-indexed
 load_in-requires-clause-indexed g c =
-    let there : c.args.stay.now.station < length c.args.recordings.now = omega arith in
-    WhereTold-weaker (g.F.Shelf.told c.args.shelf.now) _ _
-    (λ files recorded. IsIndexed-part files c.args.plan.now c.args.scan.now c.index-items-number.result c.args.stay.now c.index-recordings-number.result c.part_of-part.result
-    (recorded c.args.stay.now.station c.index-items-number.result c.index-recordings-number.result
-    (slice_get-item c.items.result.now c.args.plan.now.stations c.args.stay.now.station c.index-items-number.result c.items.ensures c.requires.stay.station c.index-items-number.is)
-    (slice_get_read c.args.recordings.now _ c.args.stay.now.station c.index-recordings-number.result refl there c.index-recordings-number.is))
-    c.part_of-part.ensures)
-    c.requires.recorded
+    IsIndexed-stay (g.F.Shelf.told c.args.shelf.now) c.args.plan.now c.args.scan.now c.args.stay.now c.args.recordings.now _ _ c.part_of-part.result
+    (StandAt-read c.args.plan.now c.args.recordings.now c.args.stay.now.station c.index-items-number.result c.index-recordings-number.result c.items.result.now
+    c.items.ensures c.requires.stay.station c.requires.named c.index-items-number.is c.index-recordings-number.is)
+    c.part_of-part.ensures c.requires.recorded
 
 pub returns-clause-values : goal.returns-clause-values
 returns-clause-values g c =
-    let there : c.args.stay.now.station < length c.args.recordings.now = omega arith in
-    let station = slice_get-item c.items.result.now c.args.plan.now.stations c.args.stay.now.station c.index-items-number.result c.items.ensures c.requires.stay.station c.index-items-number.is in
-    let recording = slice_get_read c.args.recordings.now _ c.args.stay.now.station c.index-recordings-number.result refl there c.index-recordings-number.is in
+    let at = StandAt-read c.args.plan.now c.args.recordings.now c.args.stay.now.station c.index-items-number.result c.index-recordings-number.result c.items.result.now
+    c.items.ensures c.requires.stay.station c.requires.named c.index-items-number.is c.index-recordings-number.is in
     WhereTold-weaker (g.F.Shelf.told c.args.shelf.now) _ _
     (λ files values chan n begun under. windowed-inside c.in_ok-stream.stream c.args.from c.args.to chan n
     (record { begin = c.in_ok-stream.ensures.window.0 ∙ omega (arith, ints); end = c.in_ok-stream.ensures.window.1.0 ∙ omega (arith, ints) }) begun under
     ∙ values chan n (omega (arith, ints)) (omega (arith, ints))
-    ∙ part_value-stay_value files c.args.plan.now c.args.scan.now c.index-items-number.result c.args.stay.now c.index-recordings-number.result c.part_of-part.result station
-    (c.requires.named.named c.args.stay.now.station _ _ station recording) c.part_of-part.ensures chan n)
+    ∙ part_value-stay_value files c.args.plan.now c.args.scan.now c.index-items-number.result c.args.stay.now c.index-recordings-number.result c.part_of-part.result at.station
+    (c.requires.named.named c.args.stay.now.station _ _ at.station at.recording) c.part_of-part.ensures chan n)
     c.in_ok-stream.ensures.values
 
 pub returns-clause-window : goal.returns-clause-window

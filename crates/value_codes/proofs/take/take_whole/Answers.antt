@@ -5,6 +5,9 @@ use Rattle.value_codes.specs.Taken.{taken_of}
 use Rattle.value_codes.proofs.ByteLemmas.{behind-head, behind-bytes, each-of-three, per-is, vectors-inside}
 use Rattle.value_codes.proofs.take.take_whole.Goals as goal
 
+vectors-of : (per count : ℕ) → per * (16 * count) ≡ 16 * per * count
+vectors-of per count = grind arith
+
 pub take_vectors-requires-clause-whole : goal.take_vectors-requires-clause-whole
 take_vectors-requires-clause-whole c =
     let a = c.args in
@@ -31,16 +34,14 @@ overflow_add-byte-3 c =
 pub take_each-requires-2-clause-inside : goal.take_each-requires-2-clause-inside
 take_each-requires-2-clause-inside c i h =
     let a = c.args in
-    let n : ℕ = length a.codes.now in
     let head : ℕ = c.min-head.result in
-    let count : ℕ = (n - head) / (16 * a.per) in
-    let bytes : ℕ = 16 * count in
-    let vectors : a.per * bytes ≡ 16 * a.per * count = grind arith in
-    let behind : a.per * bytes + i < n - head =
-    omega (arith, h, vectors, c.split_at_mut-front.ensures.back_len, c.split_at_mut-middle.ensures.back_len) in
-    let place : 8 * a.byte + a.shift + (head + (a.per * bytes + i)) * a.step ≡ 8 * (a.byte + 1 + bytes) + a.shift % a.step + i * a.step =
-    behind-bytes a.byte a.shift a.step a.per n head bytes i c.requires.step c.requires.shift c.min-head.ensures behind in
-    subst (λ m. m + a.bits ≤ 8 * length a.array.now) place (c.requires.inside (head + (a.per * bytes + i)) (omega (arith, behind)))
+    let count : ℕ = (length a.codes.now - head) / (16 * a.per) in
+    let at : ℕ = a.per * (16 * count) + i in
+    let behind : at < length a.codes.now - head =
+    omega (arith, h, vectors-of a.per count, c.split_at_mut-front.ensures.back_len, c.split_at_mut-middle.ensures.back_len) in
+    let place : 8 * a.byte + a.shift + (head + at) * a.step ≡ 8 * (a.byte + 1 + 16 * count) + a.shift % a.step + i * a.step =
+    behind-bytes a.byte a.shift a.step a.per (length a.codes.now) head (16 * count) i c.requires.step c.requires.shift c.min-head.ensures behind in
+    subst (λ m. m + a.bits ≤ 8 * length a.array.now) place (c.requires.inside (head + at) (omega (arith, behind)))
 
 pub returns : goal.returns
 returns c i h =
@@ -49,7 +50,7 @@ returns c i h =
     let head : ℕ = c.min-head.result in
     let count : ℕ = (n - head) / (16 * a.per) in
     let bytes : ℕ = 16 * count in
-    let vectors : a.per * bytes ≡ 16 * a.per * count = grind arith in
+    let vectors : a.per * bytes ≡ 16 * a.per * count = vectors-of a.per count in
     let levels : 16 * a.per * count ≤ n - head = mul-div-le (n - head) (16 * a.per) in
     let P : ℕ → ℕ → Type 0 = λ m code. code ≡ taken_of a.bits (code_at a.array.now a.bits (8 * a.byte + a.shift + m * a.step)) in
     let place : ℕ → ℕ = λ m. 8 * a.byte + a.shift + m * a.step in

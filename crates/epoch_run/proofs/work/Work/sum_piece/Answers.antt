@@ -1,11 +1,12 @@
 use Rattle.std.proofs.Common.{◌≡◌, ◌-◌, ◌∙◌, ℕ, ℤ, List, All, ap, sym, subst, arith}
 use Rattle.corr_model.specs.declared.cell.Cell.{Cell}
+use Rattle.corr_model.proofs.CellLemmas.{IsGrown}
 use Rattle.bit_planes.specs.Planes.{PlanesFields, plane_value}
 use Rattle.lag_kernel.specs.Planes.{plane_samples, plane_pair}
 use Rattle.epoch_run.specs.Binned.{bins_of, bin_by}
 use Rattle.epoch_run.specs.Amounts.{WorkFields, cells_over}
 use Rattle.epoch_run.specs.Planes.{planed}
-use Rattle.epoch_run.specs.Levelled.{IsWithin, IsWork}
+use Rattle.epoch_run.specs.Levelled.{IsWork}
 use Rattle.epoch_run.proofs.BinnedCells.{bin_cells-values}
 use Rattle.epoch_run.proofs.WorkCells.{AllLevelled-planes, All-cells_over, cells-few}
 use Rattle.epoch_run.proofs.work.Work.sum_piece.Goals as goal
@@ -47,5 +48,5 @@ returns c =
     record {
       cells = cells;
       few = omega (arith, c.sum_channels.auto.cells, c.requires.cells, cells-few w is);
-      within = subst (All (λ (d : Cell). IsWithin d (p.to - p.from))) (sym cells) (All-cells_over w is pair p.from p.to);
+      within = subst (All (λ (d : Cell). IsGrown d (p.to - p.from))) (sym cells) (All-cells_over w is pair p.from p.to);
     }

@@ -7,21 +7,13 @@ use Rattle.epoch_run.proofs.work.Work.sums.Goals as goal
 
 pub unbias-requires-clause-thirds : goal.unbias-requires-clause-thirds
 unbias-requires-clause-thirds c =
-    let w = c.args.self.now in
-    let is : IsWork w = subst IsWork c.self.view_is c.self.invariant in
-    let k = c.args.board.sizes in
-    let finished = c.args.seat.state.finished in
-    let many = length-totals w k finished is c.requires.board c.in_ok-totals.ensures.each_once c.requires.amounts in
+    let many = length-totals c.args.self.now c.args.board.sizes c.args.seat.state.finished (subst IsWork c.self.view_is c.self.invariant) c.requires.board c.in_ok-totals.ensures.each_once c.requires.amounts in
     omega (arith, ap (λ (t : Totals). length t.totals) c.in_ok-totals.ensures.sums, many)
 
 pub unbias-requires-clause-small : goal.unbias-requires-clause-small
 unbias-requires-clause-small c =
-    let w = c.args.self.now in
-    let is : IsWork w = subst IsWork c.self.view_is c.self.invariant in
-    let k = c.args.board.sizes in
-    let finished = c.args.seat.state.finished in
     rw c.in_ok-totals.ensures.sums
-    (totals-small w k finished is c.requires.board c.in_ok-totals.ensures.each_once c.requires.amounts)
+    (totals-small c.args.self.now c.args.board.sizes c.args.seat.state.finished (subst IsWork c.self.view_is c.self.invariant) c.requires.board c.in_ok-totals.ensures.each_once c.requires.amounts)
 
 pub returns-clause-cells : goal.returns-clause-cells
 returns-clause-cells c =

@@ -33,22 +33,14 @@ invariant_of-self-else-is_err c =
     let i = c.args.seat in
     let j = c.args.other in
     let can : CanJoin (seat_at b i) (seat_at b j) = search rules in
-    let new : c.absorb.new.self ≡ joined c.index_mut-2.result.now c.index_mut.result.now = search rules in
-    let e : c.replace-ended.new.dest ≡ ended_seat = search rules in
     joins b i j (set (set b.seats j c.replace-ended.new.dest) i c.absorb.new.self) c.self.invariant c.if-seat-other.false can
-    (join_seats b i j c.replace-ended.new.dest c.index_mut-2.result.now c.absorb.new.self c.if-seat-other.false can.live e c.index_mut-2.ensures.value
-    (new ∙ ap (λ w. joined c.index_mut-2.result.now w) (seat_read b j c.index_mut.result.now can.other_live c.index_mut.ensures.value)))
+    (join_seats b i j c.replace-ended.new.dest c.index_mut-2.result.now c.index_mut.result.now c.absorb.new.self c.if-seat-other.false can (search rules) c.index_mut-2.ensures.value c.index_mut.ensures.value (search rules))
 
 new_seats : (c : goal.Joined-ended) → set (set c.self.inside.seats.items c.args.other c.replace-ended.new.dest) c.args.seat c.absorb.new.self ≡ set (set c.self.inside.seats.items c.args.seat (joined (seat_at (state_of c.self.inside) c.args.seat) (seat_at (state_of c.self.inside) c.args.other))) c.args.other ended_seat
 new_seats c =
     let b = state_of c.self.inside in
-    let i = c.args.seat in
-    let j = c.args.other in
-    let can : CanJoin (seat_at b i) (seat_at b j) = search rules in
-    let new : c.absorb.new.self ≡ joined c.index_mut-2.result.now c.index_mut.result.now = search rules in
-    let e : c.replace-ended.new.dest ≡ ended_seat = search rules in
-    join_seats b i j c.replace-ended.new.dest c.index_mut-2.result.now c.absorb.new.self c.if-seat-other.false can.live e c.index_mut-2.ensures.value
-    (new ∙ ap (λ w. joined c.index_mut-2.result.now w) (seat_read b j c.index_mut.result.now can.other_live c.index_mut.ensures.value))
+    let can : CanJoin (seat_at b c.args.seat) (seat_at b c.args.other) = search rules in
+    join_seats b c.args.seat c.args.other c.replace-ended.new.dest c.index_mut-2.result.now c.index_mut.result.now c.absorb.new.self c.if-seat-other.false can (search rules) c.index_mut-2.ensures.value c.index_mut.ensures.value (search rules)
 
 pub returns-clause-moved : goal.returns-clause-moved
 returns-clause-moved c =

@@ -1,9 +1,6 @@
-use Rattle.std.proofs.Common.{◌≡◌, ℕ, ◌<◌, ◌+◌, ◌-◌, length, refl, subst, arith}
-use Rattle.std.proofs.lemmas.Option.{slice_get_read}
-use Rattle.frame_index.proofs.ToldLemmas.{WhereTold-weaker}
+use Rattle.std.proofs.Common.{◌≡◌, ℕ, ◌+◌, ◌-◌, subst, arith}
 use Rattle.station_stream.specs.Swept.{AreSwept}
-use Rattle.station_stream.proofs.StayPartLemmas.{IsIndexed-part}
-use Rattle.station_stream.proofs.StayFramesLemmas.{AreAlike-of, AreSwept-alike, HoldStay-of, slice_get-item}
+use Rattle.station_stream.proofs.StayFramesLemmas.{AreAlike-of, AreSwept-alike, HoldStay-of, IsIndexed-stay, StandAt-read, slice_get-item}
 use Rattle.station_stream.proofs.stay_frames.StayFrames.read.Goals as goal
 
 pub part_of-part-requires-clause-modelled : goal.part_of-part-requires-clause-modelled
@@ -14,14 +11,10 @@ part_of-part-requires-clause-modelled g c =
 
 pub read_swept-requires-clause-indexed : goal.read_swept-requires-clause-indexed
 read_swept-requires-clause-indexed g c =
-    let there : c.args.stay.now.station < length c.args.recordings.now = omega arith in
-    WhereTold-weaker (g.F.Shelf.told c.args.shelf.now) _ _
-    (λ files recorded. IsIndexed-part files c.args.plan.now c.args.scan.now c.index-items-number.result c.args.stay.now c.index-recordings-number.result c.part_of-part.result
-    (recorded c.args.stay.now.station c.index-items-number.result c.index-recordings-number.result
-    (slice_get-item c.items.result.now c.args.plan.now.stations c.args.stay.now.station c.index-items-number.result c.items.ensures c.requires.stay.station c.index-items-number.is)
-    (slice_get_read c.args.recordings.now _ c.args.stay.now.station c.index-recordings-number.result refl there c.index-recordings-number.is))
-    c.part_of-part.ensures)
-    c.requires.recorded
+    IsIndexed-stay (g.F.Shelf.told c.args.shelf.now) c.args.plan.now c.args.scan.now c.args.stay.now c.args.recordings.now _ _ c.part_of-part.result
+    (StandAt-read c.args.plan.now c.args.recordings.now c.args.stay.now.station c.index-items-number.result c.index-recordings-number.result c.items.result.now
+    c.items.ensures c.requires.stay.station c.requires.named c.index-items-number.is c.index-recordings-number.is)
+    c.part_of-part.ensures c.requires.recorded
 
 pub returns-clause-held : goal.returns-clause-held
 returns-clause-held g c =
@@ -31,11 +24,11 @@ returns-clause-held g c =
     let stay = c.args.stay.now in
     let s = c.index-items-number.result in
     let r = c.index-recordings-number.result in
-    let there : stay.station < length c.args.recordings.now = omega arith in
+    let at = StandAt-read c.args.plan.now c.args.recordings.now c.args.stay.now.station c.index-items-number.result c.index-recordings-number.result c.items.result.now
+    c.items.ensures c.requires.stay.station c.requires.named c.index-items-number.is c.index-recordings-number.is in
     let upto : c.args.from + (c.args.to - c.args.from) ≡ c.args.to = omega (arith, c.requires.order) in
     HoldStay-of told plan scan stay c.args.recordings.now _ s r
-    (slice_get-item c.items.result.now plan.stations stay.station s c.items.ensures c.requires.stay.station c.index-items-number.is)
-    (slice_get_read c.args.recordings.now _ stay.station r refl there c.index-recordings-number.is)
+    at.station at.recording
     (record {
       each = c.in_ok-chans.ensures.count;
       chans = c.in_ok-chans.ensures.each;

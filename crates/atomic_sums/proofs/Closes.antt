@@ -1,5 +1,5 @@
 -- At the close one seat has all shares, so every piece is in it.
-use Rattle.std.proofs.Common.{◌≡◌, ◌<◌, ℕ, zero, suc, min, List, [], ◌∷◌, length, get_or, drop, Bool, true, false, None, if◌then◌else◌, refl, sym, ap, ◌∙◌, arith, All}
+use Rattle.std.proofs.Common.{◌≡◌, ◌<◌, ℕ, zero, suc, min, List, [], ◌∷◌, length, get_or, drop, Bool, true, false, None, if◌then◌else◌, refl, sym, ap, ◌∙◌, subst, arith, All}
 use Rattle.std.specs.List.{sum_by}
 use Rattle.std.proofs.lemmas.List.{get_or_default}
 use Rattle.std.proofs.lemmas.List.FromFn.{fill_by_all}
@@ -12,8 +12,11 @@ use Rattle.piece_claim.specs.State.{Piece, Seat, BoardState, pieces, sums, ended
 use Rattle.piece_claim.proofs.Weights.{part_free, live_inside}
 use Rattle.atomic_sums.specs.Views.{SeatView}
 use Rattle.atomic_sums.specs.Rule.{Keeps}
-use Rattle.atomic_sums.specs.Seats.{EachOnce, LastState}
-use Rattle.atomic_sums.specs.Sums.{totals_of}
+use Rattle.atomic_sums.specs.Seats.{BoardId, SeatOf, EachOnce, LastState}
+use Rattle.atomic_sums.specs.Sums.{Totals, totals_of}
+use Rattle.atomic_sums.specs.Fields.{board_id, seat_in, IsTable, IsSeat}
+use Rattle.atomic_sums.specs.declared.board.SumBoard.TheInside.{Inside as BoardFields}
+use Rattle.atomic_sums.specs.declared.board.BoardSeat.TheInside.{Inside as SeatFields}
 use Rattle.atomic_sums.proofs.RuleSteps.{Table1, at_seat, state_of}
 
 abbrev HasShare : Seat → Type 0
@@ -89,3 +92,41 @@ module _ (k : Sizes) (s : Table1) (id : ℕ) (v : SeatView) (keep : Keeps k s) (
     where
       within : get_or b.seats id v.seat ≡ v.seat
       within = get_or_default b.seats id v.seat ended_seat inside ∙ is
+
+-- the same by the fields of a board and of a seat, of what callers see
+module _ (fields : BoardFields) (part : SeatFields) (board : BoardId) (seat : SeatOf) (last : Table1) (board_is : board_id fields ≡ board) (seat_is : seat_in part ≡ seat)
+    (table : IsTable fields) (own : IsSeat part) (kept : Keeps fields.table.shared.key last) (there : get_elem? last.views part.seat.id ≡ some part.seat.me.0)
+    (done : seat.state.done ≡ true) (all : seat.state.shares ≡ board.sizes.shares) where
+  same_sizes : fields.sizes ≡ board.sizes
+  same_sizes = ap (λ (j : BoardId). j.sizes) board_is
+
+  same_state : part.seat.me.0.seat ≡ seat.state
+  same_state = ap (λ (u : SeatOf). u.state) seat_is
+
+  keeps_own : Keeps fields.sizes last
+  keeps_own = subst (λ (k : Sizes). Keeps k last) table.key kept
+
+  is_done : part.seat.me.0.seat.done ≡ true
+  is_done = ap (λ (u : Seat). u.done) same_state ∙ done
+
+  has_all : part.seat.me.0.seat.shares ≡ fields.sizes.shares
+  has_all = ap (λ (u : Seat). u.shares) same_state ∙ all ∙ ap (λ (k : Sizes). k.shares) (sym same_sizes)
+
+  pub closed_once : EachOnce (pieces board.sizes) seat.state.finished
+  closed_once =
+      subst (λ (k : Sizes). EachOnce (pieces k) seat.state.finished) same_sizes
+      (subst (λ (u : Seat). EachOnce (pieces fields.sizes) u.finished) same_state (closes fields.sizes last part.seat.id part.seat.me.0 keeps_own there own.live is_done has_all))
+
+  abbrev with_words : List ℕ → Totals
+  with_words words = record { totals = words; pieces = pieces fields.sizes }
+
+  pub closed_sums : with_words (drop 1 last.words) ≡ totals_of board.sizes seat.state.finished
+  closed_sums =
+      ap with_words (closes_words fields.sizes last part.seat.id part.seat.me.0 keeps_own there own.live is_done has_all)
+      ∙ ap (λ (k : Sizes). totals_of k part.seat.me.0.seat.finished) same_sizes
+      ∙ ap (λ (u : Seat). totals_of board.sizes u.finished) same_state
+
+  pub closed_last : (P : List ℕ → Type 0) → P (drop 1 last.words) → LastState board.sizes seat.state P
+  closed_last P holds =
+      subst (λ (k : Sizes). LastState k seat.state P) same_sizes
+      (subst (λ (u : Seat). LastState fields.sizes u P) same_state (last_state fields.sizes last part.seat.id part.seat.me.0 keeps_own there own.live is_done has_all P holds))

@@ -2,7 +2,7 @@
 use Rattle.std.proofs.Common.{◌≡◌, ◌<◌, ℕ, zero, suc, ◌+◌, ◌*◌, ◌/◌, ◌^◌, List, [], ◌∷◌, ◌++◌, length, get_or, drop, take, Option, None, Some, IsSome, if◌then◌else◌, eq-eqb, ne_eqb, refl, sym, ap, ◌∙◌, subst, arith}
 use Rattle.std.proofs.lemmas.Nat.{mul-add-lt}
 use Rattle.std.proofs.Math.Nat.{div-lt_iff_lt-mul}
-use Rattle.std.proofs.lemmas.List.{length-drop, get_or-drop, take_more}
+use Rattle.std.proofs.lemmas.List.{length-drop, length-take, get_or-drop, take_more}
 use mathlib.Core.Option.{some, some-injective, some-ne-none}
 use lib.ListN.{get_elem?}
 use Rattle.piece_claim.specs.declared.sizes.Sizes.{Sizes}
@@ -10,7 +10,7 @@ use Rattle.piece_claim.specs.State.{Piece, Seat, piece, seat, pieces, sums}
 use Rattle.piece_claim.specs.Moves.{with_piece, posted}
 use Rattle.piece_claim.specs.Invariant.{IsSizes}
 use Rattle.atomic_sums.specs.Seats.{BoardId, SeatOf}
-use Rattle.atomic_sums.specs.Fields.{board_id, seat_in}
+use Rattle.atomic_sums.specs.Fields.{board_id, seat_in, IsTable, IsSeat}
 use Rattle.atomic_sums.specs.declared.board.SumBoard.TheInside.{Inside as BoardFields}
 use Rattle.atomic_sums.specs.declared.board.BoardSeat.TheInside.{Inside as SeatFields}
 
@@ -38,8 +38,15 @@ held_already width v p has short = ap (λ h. seat v.shares v.finished h v.done v
 pub finished_now : (width : ℕ) (v : Seat) (p : Piece) → length p.amounts ≡ width → with_piece width v p ≡ seat v.shares (v.finished ++ p ∷ []) None v.done v.ended
 finished_now width v p full = ap (λ t. if t then seat v.shares (v.finished ++ p ∷ []) None v.done v.ended else in_hand v p) (eq-eqb (length p.amounts) width full)
 
-pub one_more : (width : ℕ) (v : Seat) (n a : ℕ) (xs : List ℕ) → length xs < width → posted width (with_piece width v (piece n xs)) a ≡ with_piece width v (piece n (xs ++ a ∷ []))
+one_more : (width : ℕ) (v : Seat) (n a : ℕ) (xs : List ℕ) → length xs < width → posted width (with_piece width v (piece n xs)) a ≡ with_piece width v (piece n (xs ++ a ∷ []))
 one_more width v n a xs short = ap (λ u. posted width u a) (still_held width v (piece n xs) short)
+
+-- the same where the amounts are the first of all
+pub one_of_all : (width : ℕ) (v : Seat) (n i : ℕ) (all : List ℕ) → i < length all → length all ≡ width
+    → posted width (with_piece width v (piece n (take i all))) (get_or all i 0) ≡ with_piece width v (piece n (take (i + 1) all))
+one_of_all width v n i all before full =
+    one_more width v n (get_or all i 0) (take i all) (omega (arith, length-take i all))
+    ∙ ap (λ (l : List ℕ). with_piece width v (piece n l)) (sym (take_more all i 0 before))
 
 -- the piece in hand is the one of the number beside the seat
 pub held : (o : Option Piece) (n m : ℕ) → IsSome o → ((p : Piece) → o ≡ Some p → (p.number ≡ n) × (p.amounts ≡ []) × (p.number < m)) → (o ≡ Some (piece n [])) × (n < m)
@@ -57,6 +64,16 @@ base_in k n sizes lt = omega (arith, mul-add-lt (n / k.per_group) k.width 0 k.gr
 
 pub place_in : (k : Sizes) (n i : ℕ) → IsSizes k → n < pieces k → i < k.width → n / k.per_group * k.width + i < sums k
 place_in k n i sizes lt less = omega (arith, mul-add-lt (n / k.per_group) k.width i k.groups ((div-lt_iff_lt-mul sizes.per_group).1 lt) less)
+
+-- the same by the fields of a seat, of what callers see
+pub held_of : (s : SeatFields) (v : SeatOf) → seat_in s ≡ v → IsSeat s → IsSome v.state.hand → (s.seat.me.0.seat.hand ≡ Some (piece s.number [])) × (s.number < pieces s.seat.me.0.sizes)
+held_of s v is own has =
+    held s.seat.me.0.seat.hand s.number (pieces s.seat.me.0.sizes) (subst (λ (u : SeatOf). IsSome u.state.hand) (sym is) has) own.hand
+
+pub base_of : (s : SeatFields) (b : BoardFields) (v : SeatOf) (i : BoardId) → seat_in s ≡ v → board_id b ≡ i → v.board ≡ i → IsTable b → IsSeat s → IsSome v.state.hand
+    → s.number / b.sizes.per_group * b.sizes.width < 2 ^ 32
+base_of s b v i s_is b_is of table own has =
+    base_in b.sizes s.number table.sizes (subst (λ (k : Sizes). s.number < pieces k) (of_board s b v i s_is b_is of).sizes (held_of s v s_is own has).1)
 
 -- words read back, one more
 in_range : (xs : List ℕ) (i a : ℕ) → get_elem? xs i ≡ some a → (i < length xs) × (get_or xs i 0 ≡ a)

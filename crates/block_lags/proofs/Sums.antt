@@ -1,9 +1,9 @@
 -- Sums of numbers, and parts of sums of cells.
-use Rattle.std.proofs.Common.{◌≡◌, ℕ, zero, suc, ◌+◌, ◌<◌, ℤ, ◌+ℤ◌, ◌*ℤ◌, refl, ap, ◌∙◌, arith, zero-add}
+use Rattle.std.proofs.Common.{◌≡◌, ℕ, zero, suc, ◌+◌, ◌<◌, ℤ, pos, ◌+ℤ◌, ◌*ℤ◌, refl, sym, ap, ◌∙◌, arith, zero-add}
 use Rattle.std.proofs.Math.IntN.{*ℤ-zero}
 use Rattle.std.proofs.lemmas.Int.{ints}
 use Rattle.corr_model.specs.declared.cell.Cell.{Cell}
-use Rattle.corr_model.specs.Cell.{sum_from}
+use Rattle.corr_model.specs.Cell.{no_cell, cell_plus, sum_from}
 use Rattle.byte_sums.specs.Sums.{nat_sum}
 use Rattle.byte_lags.specs.Streams.{int_sum}
 use Rattle.byte_lags.proofs.IntProducts.{int_mul-add}
@@ -19,19 +19,19 @@ int_sum-times w f zero = *ℤ-zero w
 int_sum-times w f (suc n) = int_mul-add w (int_sum f n) (f n) ∙ ap (λ (s : ℤ). s +ℤ w *ℤ f n) (int_sum-times w f n)
 
 -- a part of a cell that adds up: its terms give that of the sum
-pub sum-re : (h : ℕ → Cell) (t : ℕ → ℤ) (n : ℕ) → ((k : ℕ) → k < n → t k ≡ (h k).re) → int_sum t n ≡ (sum_from h 0 n).re
+sum-part : (part : Cell → ℤ) → part no_cell ≡ pos 0 → ((c d : Cell) → part (cell_plus c d) ≡ part c +ℤ part d)
+    → (h : ℕ → Cell) (t : ℕ → ℤ) (n : ℕ) → ((k : ℕ) → k < n → t k ≡ part (h k)) → int_sum t n ≡ part (sum_from h 0 n)
 unfolding int_sum
-sum-re h t zero each = refl
-sum-re h t (suc n) each =
-    let place : (h (0 + n)).re ≡ (h n).re = ap (λ k. (h k).re) (zero-add n) in
-    omega (arith, ints, sum-re h t n (λ k lt. each k (omega arith)), each n (omega arith), place)
+sum-part part none plus h t zero each = sym none
+sum-part part none plus h t (suc n) each =
+    let place : part (h (0 + n)) ≡ part (h n) = ap (λ k. part (h k)) (zero-add n) in
+    omega (arith, ints, sum-part part none plus h t n (λ k lt. each k (omega arith)), each n (omega arith), place, plus (sum_from h 0 n) (h (0 + n)))
+
+pub sum-re : (h : ℕ → Cell) (t : ℕ → ℤ) (n : ℕ) → ((k : ℕ) → k < n → t k ≡ (h k).re) → int_sum t n ≡ (sum_from h 0 n).re
+sum-re = sum-part (λ c. c.re) refl (λ c d. refl)
 
 pub sum-im : (h : ℕ → Cell) (t : ℕ → ℤ) (n : ℕ) → ((k : ℕ) → k < n → t k ≡ (h k).im) → int_sum t n ≡ (sum_from h 0 n).im
-unfolding int_sum
-sum-im h t zero each = refl
-sum-im h t (suc n) each =
-    let place : (h (0 + n)).im ≡ (h n).im = ap (λ k. (h k).im) (zero-add n) in
-    omega (arith, ints, sum-im h t n (λ k lt. each k (omega arith)), each n (omega arith), place)
+sum-im = sum-part (λ c. c.im) refl (λ c d. refl)
 
 pub sum-count : (h : ℕ → Cell) (t : ℕ → ℕ) (n : ℕ) → ((k : ℕ) → k < n → t k ≡ (h k).count) → nat_sum t n ≡ (sum_from h 0 n).count
 unfolding nat_sum

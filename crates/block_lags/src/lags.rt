@@ -21,22 +21,6 @@ fn is_empty(row: &Row) -> bool
     }
 }
 
-// Adds to each cell the pairs of a block.
-fn add_block(first: &Row, second: &Row, numbers: &mut [u8], sums: &mut [u32], cells: &mut [Cell])
-    requires size { row_len first.now ≤ 4096 }
-    requires room { row_len first.now + length cells.old ≤ row_len second.now }
-    requires wide { row_len second.now ≤ 5120 }
-    requires numbers { row_len second.now ≤ length numbers.old }
-    requires work { length sums.old ≡ length cells.old }
-    requires within { AreWithin (2 ^ 62) cells.old }
-    ensures len { length cells.new ≡ length cells.old }
-    ensures grown { (i : ℕ) → i < length cells.old
-        → IsGrown (lag_cell (row_value first.now) (row_value second.now) i (row_len first.now)) (slice_index_or cells.old i no_cell) (slice_index_or cells.new i no_cell) }
-{
-    add_pairs(first, second, &mut numbers[..second.len()], sums, cells);
-    add_counts(first, second, sums, cells);
-}
-
 /// Adds to each cell the pairs of a block of at most 4,096 values and the second values, at most 5,120, these as many places on as the
 /// cell's number.
 /// The second row begins where the first lag has the first sample's pair, and goes on to the last sample's pair at the last lag, and
@@ -61,5 +45,6 @@ pub fn add_lags(first: &Row, second: &Row, numbers: &mut [u8], sums: &mut [u32],
     if is_empty(second) {
         return;
     }
-    add_block(first, second, numbers, sums, cells);
+    add_pairs(first, second, &mut numbers[..second.len()], sums, cells);
+    add_counts(first, second, sums, cells);
 }

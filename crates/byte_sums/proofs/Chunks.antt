@@ -70,6 +70,30 @@ pub lag_sum-none : (a b : List ℕ) (lag : ℕ) → 0 ≡ lag_sum a b lag 0
 unfolding nat_sum
 lag_sum-none a b lag = refl
 
+-- the sums at four lags over so many of a's places, in so many lanes each
+pub record FourSums (lanes : ℕ) (a b : List ℕ) (at n : ℕ) (v w x y : List ℕ) : Type 0 where
+  pub first : sum_l v ≡ lag_sum a b at n
+  pub second : sum_l w ≡ lag_sum a b (at + 1) n
+  pub third : sum_l x ≡ lag_sum a b (at + 2) n
+  pub fourth : sum_l y ≡ lag_sum a b (at + 3) n
+  pub first_lanes : length v ≡ lanes
+  pub second_lanes : length w ≡ lanes
+  pub third_lanes : length x ≡ lanes
+  pub fourth_lanes : length y ≡ lanes
+
+pub four-none : (lanes : ℕ) (a b : List ℕ) (at : ℕ) (zeros : List ℕ) → sum_l zeros ≡ 0 → length zeros ≡ lanes → FourSums lanes a b at 0 zeros zeros zeros zeros
+unfolding nat_sum
+four-none lanes a b at zeros none len = record {
+  first = none;
+  second = none;
+  third = none;
+  fourth = none;
+  first_lanes = len;
+  second_lanes = len;
+  third_lanes = len;
+  fourth_lanes = len;
+}
+
 -- a place more
 pub place-more : (a b : List ℕ) (lag i : ℕ) → lag_sum a b lag (i + 1) ≡ lag_sum a b lag i + get_or a i 0 * get_or b (lag + i) 0
 unfolding nat_sum
@@ -82,6 +106,18 @@ four-are f v w x y a b c d (suc zero) lt = b
 four-are f v w x y a b c d (suc (suc zero)) lt = c
 four-are f v w x y a b c d (suc (suc (suc zero))) lt = d
 four-are f v w x y a b c d (suc (suc (suc (suc k)))) lt = absurd (omega arith)
+
+-- those of all vectors
+pub four-lags : (lanes : ℕ) (a b : List ℕ) (at i count : ℕ) (v w x y : List ℕ) → FourSums lanes a b at (32 * i) v w x y → i ≡ count
+    → (p q r s : ℕ) → p ≡ sum_l v → q ≡ sum_l w → r ≡ sum_l x → s ≡ sum_l y
+    → (k : ℕ) → k < 4 → get_or (p ∷ q ∷ r ∷ s ∷ []) k 0 ≡ lag_sum a b (at + k) (32 * count)
+four-lags lanes a b at i count v w x y sums all p q r s first second third fourth =
+    let upto : (lag : ℕ) → lag_sum a b lag (32 * i) ≡ lag_sum a b lag (32 * count) = λ lag. ap (λ n. lag_sum a b lag (32 * n)) all in
+    four-are (λ k. lag_sum a b (at + k) (32 * count)) p q r s
+    (first ∙ sums.first ∙ upto at ∙ ap (λ lag. lag_sum a b lag (32 * count)) (sym (add-zero at)))
+    (second ∙ sums.second ∙ upto (at + 1))
+    (third ∙ sums.third ∙ upto (at + 2))
+    (fourth ∙ sums.fourth ∙ upto (at + 3))
 
 -- a weight below 65 times a byte
 product_within : (x y : ℕ) → x < 65 → y < 256 → x * y ≤ 16320

@@ -61,8 +61,11 @@ added-small most xs ys p q =
     Each1-zip2 (λ (x y : ℕ). x + y) (λ x. x ≤ most + 288) xs ys
     (Each2-of (λ x. x ≤ most) (λ y. y ≤ 288) (λ x y. x + y ≤ most + 288) (λ x y h k. omega (arith, h, k)) xs ys p q)
 
-pub wide-fit : (xs : List ℕ) → Each1 (λ x. x ≤ 65000) xs → Each1 (Fits w32) xs
-wide-fit xs h = Each1-weaker (λ x. x ≤ 65000) (Fits w32) (λ x p. record { fits = omega (arith, p) }) xs h
+pub wide-fit : (xs : List ℕ) → Each1 (Fits w16) xs → Each1 (Fits w32) xs
+wide-fit xs h = Each1-weaker (Fits w16) (Fits w32) (λ x p. record { fits = omega (arith, p.fits) }) xs h
+
+pub lane-most : (xs : List ℕ) → Each1 (Fits w16) xs → Each1 (λ x. x ≤ 65535) xs
+lane-most xs h = Each1-weaker (Fits w16) (λ x. x ≤ 65535) (λ x p. omega (arith, p.fits)) xs h
 
 pub weaker : (few most : ℕ) (xs : List ℕ) → few ≤ most → Each1 (λ x. x ≤ few) xs → Each1 (λ x. x ≤ most) xs
 weaker few most xs le h = Each1-weaker (λ x. x ≤ few) (λ x. x ≤ most) (λ x p. omega (arith, p, le)) xs h

@@ -83,9 +83,9 @@ fn vector_sum(a: &[u8], b: &[u8], at: usize, count: usize) -> u32
     total(sums)
 }
 
-/// The sum with the products of a's samples from `from` on.
+// The sum with the products of a's samples from `from` on.
 #[inline(always)]
-pub(crate) fn with_rest(sum: u32, a: &[u8], b: &[u8], at: usize, from: usize) -> u32
+fn with_rest(sum: u32, a: &[u8], b: &[u8], at: usize, from: usize) -> u32
     requires weights { AreWeights a.now }
     requires size { length a.now ≤ 2 ^ 15 }
     requires from { from ≤ length a.now }
@@ -100,6 +100,24 @@ pub(crate) fn with_rest(sum: u32, a: &[u8], b: &[u8], at: usize, from: usize) ->
     all
 }
 
+/// The sums at four lags from `at` on, each with the products of a's samples from `from` on.
+#[inline(always)]
+pub(crate) fn four_with_rest(sums: [u32; 4], a: &[u8], b: &[u8], at: usize, from: usize) -> [u32; 4]
+    requires weights { AreWeights a.now }
+    requires size { length a.now ≤ 2 ^ 15 }
+    requires from { from ≤ length a.now }
+    requires room { at + length a.now + 4 ≤ length b.now + 1 }
+    requires sums { (k : ℕ) → k < 4 → slice_index sums k ≡ lag_sum a.now b.now (at + k) from }
+    ensures { (k : ℕ) → k < 4 → slice_index result k ≡ lag_sum a.now b.now (at + k) (length a.now) }
+{
+    [
+        with_rest(sums[0], a, b, at, from),
+        with_rest(sums[1], a, b, at + 1, from),
+        with_rest(sums[2], a, b, at + 2, from),
+        with_rest(sums[3], a, b, at + 3, from),
+    ]
+}
+
 /// The sums at four lags from `at` on.
 #[inline(always)]
 pub(crate) fn four_dot_sums(a: &[u8], b: &[u8], at: usize) -> [u32; 4]
@@ -109,14 +127,7 @@ pub(crate) fn four_dot_sums(a: &[u8], b: &[u8], at: usize) -> [u32; 4]
     ensures { (k : ℕ) → k < 4 → slice_index result k ≡ lag_sum a.now b.now (at + k) (length a.now) }
 {
     let count = a.len() / LANES;
-    let sums = vector_sums(a, b, at, count);
-    let from = LANES * count;
-    [
-        with_rest(sums[0], a, b, at, from),
-        with_rest(sums[1], a, b, at + 1, from),
-        with_rest(sums[2], a, b, at + 2, from),
-        with_rest(sums[3], a, b, at + 3, from),
-    ]
+    four_with_rest(vector_sums(a, b, at, count), a, b, at, LANES * count)
 }
 
 /// The sum at one lag.

@@ -16,7 +16,7 @@ const LEAST: usize = 1024;
 const FEW: usize = 48;
 
 // The bytes of the second row: those of a row, and the lags that have a byte of their own.
-const WIDE: usize = 4640;
+const WIDE: usize = MOST + LAGS / 2;
 
 // How many bytes of each row are looked at before any are halved.
 const FIRST: usize = 512;

@@ -3,7 +3,7 @@ ghost use Rattle.std.specs.Prelude.{◌≡◌, ◌<◌, ◌≤◌, ◌+◌, ◌*
 ghost use Rattle.std.specs.Simd.Lanes.{Each1, chunk, products, sum_l};
 ghost use Rattle.byte_sums.specs.Sums.{AreAtMost, AreWeights, lag_sum};
 
-use crate::dots::with_rest;
+use crate::dots::four_with_rest;
 use crate::pairing::pairs;
 use std::simd::prelude::*;
 
@@ -40,8 +40,6 @@ fn plus(sums: u16x16, b: u8x32, a: u8x32) -> u16x16
 /// The sum of the lanes.
 #[inline(always)]
 pub(crate) fn total(sums: u16x16) -> u32
-    requires lanes { length sums ≡ 16 }
-    requires small { Each1 (λ x. x ≤ 65000) sums }
     ensures { result ≡ sum_l sums }
 {
     sums.cast::<u32>().strict_reduce_sum()
@@ -82,12 +80,5 @@ pub(crate) fn four_short_sums(a: &[u8], b: &[u8], at: usize) -> [u32; 4]
     ensures { (k : ℕ) → k < 4 → slice_index result k ≡ lag_sum a.now b.now (at + k) (length a.now) }
 {
     let count = a.len() / LANES;
-    let sums = vector_sums(a, b, at, count);
-    let from = LANES * count;
-    [
-        with_rest(sums[0], a, b, at, from),
-        with_rest(sums[1], a, b, at + 1, from),
-        with_rest(sums[2], a, b, at + 2, from),
-        with_rest(sums[3], a, b, at + 3, from),
-    ]
+    four_with_rest(vector_sums(a, b, at, count), a, b, at, LANES * count)
 }

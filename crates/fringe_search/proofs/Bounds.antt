@@ -1,8 +1,8 @@
 -- No power of a lag is above its bound.
-use Rattle.std.proofs.Common.{ℕ, ◌+◌, ◌*◌, ◌%◌, ◌≤◌, ℤ, pos, ◌*ℤ◌, unsigned_abs, arith, inl, inr}
+use Rattle.std.proofs.Common.{◌≡◌, ℕ, ◌+◌, ◌*◌, ◌%◌, ◌≤◌, ℤ, pos, ◌*ℤ◌, unsigned_abs, FitsSigned, w64, to_z, of_z, arith, inl, inr}
 use Rattle.std.specs.List.{All}
 use Rattle.std.proofs.lemmas.Bool.{cases_lt}
-use Rattle.std.proofs.lemmas.Int.{ints, unsigned_abs-mul}
+use Rattle.std.proofs.lemmas.Int.{ints, to_z-of_z, unsigned_abs-mul}
 use Rattle.std.proofs.lemmas.Nat.{mul-le}
 use Rattle.std.proofs.lemmas.List.{get_or_past}
 use Rattle.std.proofs.lemmas.List.Elements.{All-get_or}
@@ -22,6 +22,13 @@ cosine_of-within k = elim (cases_lt k 16) [
 
 product-within : (x z : ℤ) → unsigned_abs z ≤ 16384 → unsigned_abs (x *ℤ z) ≤ 16384 * unsigned_abs x
 product-within x z h = omega (arith, unsigned_abs-mul x z, mul-le (unsigned_abs x) (unsigned_abs z) (unsigned_abs x) 16384 (omega arith) h)
+
+-- what is said of a product by a cosine, said of the number itself
+pub scaled_is : (x cosine result : ℤ) → FitsSigned w64 x → result ≡ to_z w64 (of_z w64 x) *ℤ cosine
+    → unsigned_abs result ≤ 16384 * unsigned_abs (to_z w64 (of_z w64 x)) → (result ≡ x *ℤ cosine) × (unsigned_abs result ≤ 16384 * unsigned_abs x)
+scaled_is x cosine result fits value within =
+    let same = to_z-of_z w64 x fits in
+    (rw same at value, rw same at within)
 
 pub turned_re-within : (c : Cell) (k : ℕ) → unsigned_abs (turned_re c k) ≤ 16384 * size c
 turned_re-within c k =

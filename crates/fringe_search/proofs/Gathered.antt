@@ -14,19 +14,19 @@ unfolding nat_sum
 nat_sum-alike f g zero same = refl
 nat_sum-alike f g (suc n) same = ap₂ (λ x y. x + y) (nat_sum-alike f g n (λ m below. same m (omega arith))) (same n (omega arith))
 
-pub re-alike : (s : Series) (lag : ℕ) (t : Series) (number divide : ℕ) (rate : ℤ) → IsLagOf s lag t number → re_at t divide number rate ≡ re_at s divide lag rate
-re-alike s lag t number divide rate of =
-    let sums : ℕ → ℤ = λ m. turned_re (cell_at t m number) (sector rate divide m) in
+turned-alike : (turned : Cell → ℕ → ℤ) (s : Series) (lag : ℕ) (t : Series) (number divide : ℕ) (rate : ℤ) → IsLagOf s lag t number
+    → int_sum (λ m. turned (cell_at t m number) (sector rate divide m)) t.integrations ≡ int_sum (λ m. turned (cell_at s m lag) (sector rate divide m)) s.integrations
+turned-alike turned s lag t number divide rate of =
+    let sums : ℕ → ℤ = λ m. turned (cell_at t m number) (sector rate divide m) in
     ap (int_sum sums) of.integrations
-    ∙ int_sum-alike sums (λ m. turned_re (cell_at s m lag) (sector rate divide m)) s.integrations
-    (λ m below. ap (λ (c : Cell). turned_re c (sector rate divide m)) (of.cells m below))
+    ∙ int_sum-alike sums (λ m. turned (cell_at s m lag) (sector rate divide m)) s.integrations
+    (λ m below. ap (λ (c : Cell). turned c (sector rate divide m)) (of.cells m below))
+
+pub re-alike : (s : Series) (lag : ℕ) (t : Series) (number divide : ℕ) (rate : ℤ) → IsLagOf s lag t number → re_at t divide number rate ≡ re_at s divide lag rate
+re-alike s lag t number divide rate of = turned-alike turned_re s lag t number divide rate of
 
 pub im-alike : (s : Series) (lag : ℕ) (t : Series) (number divide : ℕ) (rate : ℤ) → IsLagOf s lag t number → im_at t divide number rate ≡ im_at s divide lag rate
-im-alike s lag t number divide rate of =
-    let sums : ℕ → ℤ = λ m. turned_im (cell_at t m number) (sector rate divide m) in
-    ap (int_sum sums) of.integrations
-    ∙ int_sum-alike sums (λ m. turned_im (cell_at s m lag) (sector rate divide m)) s.integrations
-    (λ m below. ap (λ (c : Cell). turned_im c (sector rate divide m)) (of.cells m below))
+im-alike s lag t number divide rate of = turned-alike turned_im s lag t number divide rate of
 
 pub amplitude-alike : (s : Series) (lag : ℕ) (t : Series) (number : ℕ) → IsLagOf s lag t number → amplitude_at t number ≡ amplitude_at s lag
 amplitude-alike s lag t number of =

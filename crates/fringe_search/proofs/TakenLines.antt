@@ -62,12 +62,12 @@ lag_in s g at p n text words rest few h is e = record {
 }
 
 pub rate_in : (s : Series) (g : Grid) (at : SeriesAt) (p : Peak) (n : ℕ) (z : ℤ) (text words later rest : List ℕ) → s.lags ≤ 1024
-    → IsPointOf s g p n → text ≡ place_text at ++ words → text ≡ line_text (PeakLine at p) ++ rest → IsSignedThen z 32 words later → p.lag ≡ z
-    → IsSignedThen p.rate 32 later (sums_text p.re p.im ++ rest)
-rate_in s g at p n z text words later rest few h is e taken same = record {
-  within = rate_fits g p.rate h.rate;
-  is = signed_rest z p.lag 32 words later (signed_decimal p.rate ++ 32 ∷ (sums_text p.re p.im ++ rest)) taken (lag_in s g at p n text words rest few h is e) same;
-}
+    → IsPointOf s g p n → text ≡ place_text at ++ words → text ≡ line_text (PeakLine at p) ++ rest → IsSignedThen z 32 words later
+    → ((y : ℤ) (behind : List ℕ) → IsSignedThen y 32 words behind → y ≡ z) → IsSignedThen p.rate 32 later (sums_text p.re p.im ++ rest)
+rate_in s g at p n z text words later rest few h is e taken one =
+    let behind = signed_decimal p.rate ++ 32 ∷ (sums_text p.re p.im ++ rest) in
+    let lag = lag_in s g at p n text words rest few h is e in
+    record { within = rate_fits g p.rate h.rate; is = signed_rest z p.lag 32 words later behind taken lag (one p.lag behind lag) }
 
 pub number_one : (lags n m : ℕ) (z y : ℤ) → z ≡ lag_of lags n → y ≡ lag_of lags m → z ≡ y → n ≡ m
 number_one lags n m z y a b same = omega (arith, ints)

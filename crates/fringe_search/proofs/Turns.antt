@@ -2,10 +2,14 @@
 use Rattle.std.proofs.Common.{◌≡◌, ℕ, suc, ◌+◌, ◌-◌, ◌<◌, ◌≤◌, List, [], ◌∷◌, ◌++◌, length, map, take, get_or, refl, sym, ap, subst, ◌∙◌, arith, append_assoc}
 use Rattle.std.specs.Prelude.{flat_map}
 use Rattle.std.specs.List.{range_with_len}
+use Rattle.std.proofs.lemmas.List.{length-map}
 use Rattle.std.proofs.lemmas.List.Concat.{get_or-flat_map}
 use Rattle.std.proofs.lemmas.List.Folds.{length-flat_map-take}
 use Rattle.std.proofs.lemmas.List.FromFn.{length-range_with_len, get_or-range_with_len, length-map-range_with_len, get_or-map-range_with_len}
-use Rattle.corr_model.specs.Records.{Head, IsHead, IsHeadScan}
+use Rattle.corr_model.specs.Records.{Head, HeadScan, IsHead, IsHeadScan}
+use Rattle.vis_records.specs.declared.head.VisBaseline.{VisBaseline}
+use Rattle.vis_records.specs.declared.head.VisScan.{VisScan}
+use Rattle.vis_records.specs.Heads.{baseline_of, scan_of}
 use Rattle.fringe_search.specs.declared.places.SeriesAt.{SeriesAt}
 use Rattle.fringe_search.specs.Layout.{no_scan, scan_at, IsSeriesAt, product_series, scan_series, series_in}
 use Rattle.fringe_search.specs.InOrder.{scans_from, products_from, baselines_from, series_from}
@@ -13,6 +17,12 @@ use Rattle.fringe_search.specs.InOrder.{scans_from, products_from, baselines_fro
 -- a scan of a head
 pub scan_good : (h : Head) (i : ℕ) → IsHead h → i < length h.scans → IsHeadScan (length h.stations) (scan_at h i)
 scan_good h i good within = good.scans i no_scan within
+
+-- a scan of a record file has the baselines of the head's scan
+pub items_counted : (h : Head) (i : ℕ) (scan : VisScan) (items : List VisBaseline) → items ≡ scan.baselines → scan_of scan ≡ scan_at h i
+    → length items ≡ length (scan_at h i).baselines
+items_counted h i scan items all is =
+    ap length all ∙ sym (length-map scan.baselines baseline_of) ∙ ap (λ (s : HeadScan). length s.baselines) is
 
 range-more : (a n : ℕ) → range_with_len a (n + 1) ≡ a ∷ range_with_len (a + 1) n
 range-more a n = let e : n + 1 ≡ suc n = omega arith in rw e refl

@@ -13,7 +13,7 @@ use crate::strip::word_of;
 use crate::sums::bound_of;
 use dev_traits::Sink;
 use sink_text::{Piece, Stretch};
-use vis_records::{SinkFault, Vis};
+use vis_records::{SinkFault, Vis, end};
 
 // Puts the line of a grid.
 fn put_grid<S: Sink>(grid: &Grid, lines: &mut Stretch, out: &mut S)
@@ -149,8 +149,5 @@ pub fn write_certificate<S: Sink>(vis: &Vis, grid: &Grid, out: &mut S) -> Result
 {
     let mut lines = Stretch::new();
     put_certificate(vis, grid, &mut lines, out);
-    match lines.finish(out) {
-        Ok(()) => Ok(()),
-        Err(_) => Err(SinkFault::Sink),
-    }
+    end(lines, out)
 }

@@ -4,7 +4,7 @@ use Rattle.std.proofs.Math.Nat.{zero-mul, zero-div}
 use Rattle.std.proofs.lemmas.Int.{ints}
 use Rattle.corr_model.specs.Delay.{between}
 use Rattle.delay_line.specs.declared.line.Line.{Line}
-use Rattle.delay_line.specs.Interval.{IsIn}
+use Rattle.delay_line.specs.{Interval.{IsIn}, Stretch.{IsExit}}
 use Rattle.delay_line.proofs.Exits.{rising_exit, falling_exit}
 use Rattle.fringe_turns.specs.declared.fringe.Fringe.{Fringe}
 use Rattle.fringe_turns.specs.Eighths.{band_of, facing_of, IsRoom}
@@ -35,6 +35,16 @@ level-between first next k n e =
     plus_none : (z : ℤ) → z +ℤ pos 0 ≡ z
     plus_none z = omega (arith, ints)
 
+-- as long as a line stays among delays of one direction
+turn_of_exit : (f : Fringe) (line : Line) (x least until : ℤ) (from to end direction : ℕ) → direction ≡ facing_of f x
+    → ((y : ℤ) → IsIn least until y → facing_of f y ≡ facing_of f x) → IsExit (λ n. IsIn least until (between line.first line.next n line.knot)) from to end
+    → IsLineTurn f line from to (record { direction = direction; end = end })
+turn_of_exit f line x least until from to end direction faces same exit = record {
+  after = exit.after;
+  within = exit.within;
+  direction = λ n p q. faces ∙ sym (same (between line.first line.next n line.knot) (exit.holds n p q));
+}
+
 pub rising_turn : (f : Fringe) (line : Line) (x : ℤ) (rise gone room from to end direction : ℕ)
     → 0 < line.knot → line.next -ℤ line.first ≡ pos rise → gone ≡ rise * from / line.knot → x ≡ line.first +ℤ pos gone
     → direction ≡ facing_of f x → IsRoom (band_of f) f.rate x true room → from < to → end ≤ to
@@ -43,14 +53,8 @@ pub rising_turn : (f : Fringe) (line : Line) (x : ℤ) (rise gone room from to e
 rising_turn f line x rise gone room from to end direction h e g is faces free order within below above =
     let k = line.knot in
     let at : between line.first line.next from k ≡ x = rising-between line.first line.next rise k from e ∙ ap (λ a. line.first +ℤ pos a) (sym g) ∙ sym is in
-    let begin : IsIn x (x +ℤ pos room +ℤ pos 1) (between line.first line.next from k) = rw at (here x room) in
-    let exit = rising_exit line.first line.next x (x +ℤ pos room +ℤ pos 1) rise (gone + room + 1) k from to end
-    h e (far x line.first is) order begin within below above in
-    record {
-      after = exit.after;
-      within = within;
-      direction = λ n p q. faces ∙ sym (up-same (band_of f) f.rate room x (between line.first line.next n k) free (exit.holds n p q));
-    }
+    turn_of_exit f line x x (x +ℤ pos room +ℤ pos 1) from to end direction faces (λ y inside. up-same (band_of f) f.rate room x y free inside)
+    (rising_exit line.first line.next x (x +ℤ pos room +ℤ pos 1) rise (gone + room + 1) k from to end h e (far x line.first is) order (rw at (here x room)) within below above)
   where
     here : (x : ℤ) (room : ℕ) → IsIn x (x +ℤ pos room +ℤ pos 1) x
     here x room = record { not_before = omega (arith, ints); before_end = omega (arith, ints) }
@@ -66,14 +70,8 @@ pub falling_turn : (f : Fringe) (line : Line) (x : ℤ) (fall gone room from to 
 falling_turn f line x fall gone room from to end direction h e g is faces free order within below above =
     let k = line.knot in
     let at : between line.first line.next from k ≡ x = falling-between line.first line.next fall k from h e ∙ ap (λ a. line.first -ℤ pos a) (sym g) ∙ sym is in
-    let begin : IsIn (x -ℤ pos room) (x +ℤ pos 1) (between line.first line.next from k) = rw at (here x room) in
-    let exit = falling_exit line.first line.next (x -ℤ pos room) (x +ℤ pos 1) fall (gone + room) k from to end
-    h e (far x line.first is) order begin within below above in
-    record {
-      after = exit.after;
-      within = within;
-      direction = λ n p q. faces ∙ sym (down-same (band_of f) f.rate room x (between line.first line.next n k) free (exit.holds n p q));
-    }
+    turn_of_exit f line x (x -ℤ pos room) (x +ℤ pos 1) from to end direction faces (λ y inside. down-same (band_of f) f.rate room x y free inside)
+    (falling_exit line.first line.next (x -ℤ pos room) (x +ℤ pos 1) fall (gone + room) k from to end h e (far x line.first is) order (rw at (here x room)) within below above)
   where
     here : (x : ℤ) (room : ℕ) → IsIn (x -ℤ pos room) (x +ℤ pos 1) x
     here x room = record { not_before = omega (arith, ints); before_end = omega (arith, ints) }

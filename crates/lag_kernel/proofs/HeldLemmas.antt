@@ -1,6 +1,6 @@
 -- Sums over values that are held are those of the scan.
 use Rattle.std.specs.Prelude.{◌&&◌, if◌then◌else◌}
-use Rattle.std.proofs.Common.{◌≡◌, ◌≢◌, set, get_or-set_other, get_or-set_same, below_more, ℕ, zero, suc, ◌+◌, ◌-◌, ◌*◌, ◌/◌, ◌^◌, ◌<◌, ◌≤◌, ℤ, pos, neg_ℤ, ◌≤ℤ◌, ◌+ℤ◌, ◌-ℤ◌, w64, FitsSigned, rules, Bool, true, false, List, length, get_or, take, drop, Some, None, refl, sym, ap, ◌∙◌, arith}
+use Rattle.std.proofs.Common.{◌≡◌, ◌≢◌, set, get_or-set_other, get_or-set_same, below_more, ℕ, zero, suc, ◌+◌, ◌-◌, ◌*◌, ◌/◌, ◌^◌, ◌<◌, ◌≤◌, ℤ, pos, neg_ℤ, ◌≤ℤ◌, ◌+ℤ◌, ◌-ℤ◌, w64, FitsSigned, rules, Bool, true, false, List, length, get_or, take, drop, Some, None, refl, subst, sym, ap, ◌∙◌, arith}
 use Rattle.std.proofs.lemmas.Int.{ints}
 use Rattle.std.proofs.Math.Dec.{leb}
 use Rattle.std.proofs.lemmas.Bool.{le-leb}
@@ -24,26 +24,6 @@ sum_from-shift f g at (suc n) each =
 -- a sample number inside a scan
 pub inside-true : (k n : ℕ) → k < n → is_inside (pos k) n ≡ true
 inside-true k n h = ap (λ (x : Bool). x && leb (suc k) n) (le-leb 0 k (omega arith)) ∙ le-leb (suc k) n (omega (arith, h))
-
--- what two cells have grown by
-pub IsGrown-plus : (c d : Cell) (n m : ℕ) → IsGrown c n → IsGrown d m → IsGrown (cell_plus c d) (n + m)
-IsGrown-plus c d n m first second = record {
-  re_low = omega (arith, ints, first.re_low, second.re_low);
-  re_high = omega (arith, ints, first.re_high, second.re_high);
-  im_low = omega (arith, ints, first.im_low, second.im_low);
-  im_high = omega (arith, ints, first.im_high, second.im_high);
-  count = omega (arith, first.count, second.count);
-}
-
--- among more pairs
-pub IsGrown-wider : (c : Cell) (n m : ℕ) → IsGrown c n → n ≤ m → IsGrown c m
-IsGrown-wider c n m grown h = record {
-  re_low = omega (arith, ints, grown.re_low);
-  re_high = omega (arith, ints, grown.re_high);
-  im_low = omega (arith, ints, grown.im_low);
-  im_high = omega (arith, ints, grown.im_high);
-  count = omega (arith, grown.count);
-}
 
 -- the parts of two cells fit together
 pub plus-fits : (x y : ℤ) (n m : ℕ) → neg_ℤ (pos (450 * n)) ≤ℤ x → x ≤ℤ pos (450 * n) → neg_ℤ (pos (450 * m)) ≤ℤ y → y ≤ℤ pos (450 * m)
@@ -107,13 +87,31 @@ block-adds z pair samples at stop first second old new holds_first holds_second 
     ∙ ap (cell_in z pair samples (lag_of (length old) k) at) end)
 
 -- a cell so far and what a block adds to it
-pub cell-more : (z : Samples) (pair : Pair) (samples : ℕ) (lag : ℤ) (from at stop : ℕ) (cell next : Cell)
+cell-more : (z : Samples) (pair : Pair) (samples : ℕ) (lag : ℤ) (from at stop : ℕ) (cell next : Cell)
     → from ≤ at → at ≤ stop
     → cell ≡ cell_in z pair samples lag from at
     → next ≡ cell_plus cell (cell_in z pair samples lag at stop)
     → next ≡ cell_in z pair samples lag from stop
 cell-more z pair samples lag from at stop cell next h k so_far more =
     more ∙ ap (λ c. cell_plus c (cell_in z pair samples lag at stop)) so_far ∙ sym (cell_in-split z pair samples lag from at stop h k)
+
+-- the same of all cells
+pub cells-more : (z : Samples) (pair : Pair) (samples from at stop lags : ℕ) (out next : List Cell)
+    → from ≤ at → at ≤ stop → length out ≡ lags
+    → ((k : ℕ) (d : Cell) → k < lags → get_or out k d ≡ cell_in z pair samples (lag_of lags k) from at)
+    → AddsEach out next (λ k. cell_in z pair samples (lag_of (length out) k) at stop)
+    → (k : ℕ) (d : Cell) → k < lags → get_or next k d ≡ cell_in z pair samples (lag_of lags k) from stop
+cells-more z pair samples from at stop lags out next h j same so_far adds k d lt =
+    cell-more z pair samples (lag_of lags k) from at stop (get_or out k d) (get_or next k d) h j (so_far k d lt)
+    (subst (λ n. get_or next k d ≡ cell_plus (get_or out k d) (cell_in z pair samples (lag_of n k) at stop)) same (adds k d (omega (arith, same, lt))))
+
+pub grown-more : (from at stop lags : ℕ) (out next : List Cell)
+    → from ≤ at → at ≤ stop → length out ≡ lags
+    → ((k : ℕ) (d : Cell) → k < length out → IsGrown (get_or next k d) (at - from + (stop - at)))
+    → (k : ℕ) (d : Cell) → k < lags → IsGrown (get_or next k d) (stop - from)
+grown-more from at stop lags out next h j same grown k d lt =
+    let count : at - from + (stop - at) ≡ stop - from = omega arith in
+    subst (λ n. IsGrown (get_or next k d) n) count (grown k d (omega (arith, same, lt)))
 
 -- one value more of a list that is filled
 pub put_more : {X : Type 0} (Q : ℕ → X → Type 0) (xs : List X) (k : ℕ) (v d : X) → k < length xs

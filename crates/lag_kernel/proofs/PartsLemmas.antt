@@ -9,7 +9,8 @@ use Rattle.corr_model.specs.Cell.{Value, cell_plus, product_of, AreSmall, IsSmal
 use Rattle.corr_model.proofs.CellLemmas.{IsGrown, same_cell}
 use Rattle.lag_kernel.specs.declared.parts.Parts.{Parts}
 use Rattle.lag_kernel.specs.Held.{AllSmall, pairs_sum}
-use Rattle.lag_kernel.specs.Parts.{re_of, im_of, there_of, HoldsPart, AreParts, AreSmallParts, dot_of, both_of, parts_sum}
+use Rattle.byte_streams.specs.Values.{re_of, im_of, there_of}
+use Rattle.lag_kernel.specs.Parts.{HoldsPart, AreParts, AreSmallParts, dot_of, both_of, parts_sum}
 use Rattle.lag_kernel.proofs.HeldLemmas.{put_more}
 
 -- a list of 2,048 places that holds a part of each of the first k values, and that of none behind them

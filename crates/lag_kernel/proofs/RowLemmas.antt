@@ -1,6 +1,6 @@
 -- Rows of values: what is cut out of them, how large it is, and the cells that it gives.
-use Rattle.std.specs.Prelude.{IfSome, if◌then◌else◌}
-use Rattle.std.proofs.Common.{◌≡◌, ℕ, zero, suc, ◌+◌, ◌-◌, ◌/◌, min, ◌<◌, ◌≤◌, Bool, true, false, List, length, get_or, take, ℤ, pos, negsuc, ◌+ℤ◌, ◌-ℤ◌, Some, None, refl, sym, subst, ap, ap₂, ◌∙◌, arith, inl, inr}
+use Rattle.std.specs.Prelude.{if◌then◌else◌}
+use Rattle.std.proofs.Common.{◌≡◌, ℕ, suc, ◌+◌, ◌-◌, ◌/◌, min, ◌<◌, ◌≤◌, Bool, true, false, List, length, get_or, take, ℤ, pos, negsuc, ◌+ℤ◌, ◌-ℤ◌, None, refl, sym, subst, ap, ap₂, ◌∙◌, arith, inl, inr}
 use Rattle.std.proofs.Math.Dec.{leb}
 use Rattle.std.proofs.lemmas.Bool.{cases_lt, and_right, lt-leb}
 use Rattle.std.proofs.lemmas.Int.{ints}
@@ -14,57 +14,18 @@ use Rattle.packed_values.specs.From.{value_from}
 use Rattle.packed_values.specs.Packed.{values_of}
 use Rattle.packed_values.proofs.Small.{value_from-small}
 use Rattle.corr_model.specs.declared.cell.Cell.{Cell}
-use Rattle.corr_model.specs.Cell.{Value, no_cell, cell_plus, is_inside, product_of, product_at, sum_from, cell_in, AreSmall, IsProduct}
+use Rattle.corr_model.specs.Cell.{Value, no_cell, cell_plus, is_inside, cell_in}
 use Rattle.corr_model.specs.Lags.{lag_of}
-use Rattle.corr_model.proofs.CellLemmas.{same_cell, product-small, IsGrown, IsGrown-none, IsGrown-more, cell_in-sum, cell_in-values}
+use Rattle.corr_model.proofs.CellLemmas.{same_cell, IsGrown, IsGrown-plus, cell_in-grown, cell_in-values}
 use Rattle.lag_kernel.specs.Held.{AddsEach}
 use Rattle.lag_kernel.specs.Planes.{plane_pair, plane_samples}
 use Rattle.lag_kernel.specs.Rows.{row_value, row_inside, row_samples}
 use Rattle.lag_kernel.specs.declared.row.Row.{Row}
-use Rattle.lag_kernel.proofs.HeldLemmas.{inside-true, IsGrown-plus}
-
-none-small : IsProduct no_cell
-none-small = record {
-  re_low = omega (arith, ints);
-  re_high = omega (arith, ints);
-  im_low = omega (arith, ints);
-  im_high = omega (arith, ints);
-  count = omega arith;
-}
-
--- the product of small values
-product_of-small : (v w : Value) → IfSome v AreSmall → IfSome w AreSmall → IsProduct (product_of v w)
-product_of-small (Some a) (Some b) small_a small_b =
-    let rr = product-small a.0 b.0 small_a.0 small_b.0 in
-    let ii = product-small a.1 b.1 small_a.1 small_b.1 in
-    let ir = product-small a.1 b.0 small_a.1 small_b.0 in
-    let ri = product-small a.0 b.1 small_a.0 small_b.1 in
-    record {
-      re_low = omega (arith, ints, rr.0, ii.0);
-      re_high = omega (arith, ints, rr.1, ii.1);
-      im_low = omega (arith, ints, ir.0, ri.1);
-      im_high = omega (arith, ints, ir.1, ri.0);
-      count = omega arith;
-    }
-product_of-small (Some a) None small_a small_b = none-small
-product_of-small None w small_a small_b = none-small
-
--- what pairs of small values add up to
-sum_from-grown : (f : ℕ → Cell) (from n : ℕ) → ((k : ℕ) → IsProduct (f k)) → IsGrown (sum_from f from n) n
-sum_from-grown f from zero each = IsGrown-none 0
-sum_from-grown f from (suc n) each =
-    IsGrown-more (sum_from f from n) (f (from + n)) n (suc n) (sum_from-grown f from n each) (each (from + n)) (omega arith)
-
-pair-small : (v w : Value) (b : Bool) → IfSome v AreSmall → IfSome w AreSmall → IsProduct (if b then product_of v w else no_cell)
-pair-small v w true small_v small_w = product_of-small v w small_v small_w
-pair-small v w false small_v small_w = none-small
+use Rattle.lag_kernel.proofs.HeldLemmas.{inside-true}
 
 pub row_cell-grown : (a b : Row) (samples : ℕ) (lag : ℤ) (from to : ℕ) → IsGrown (cell_in (row_samples a b) plane_pair samples lag from to) (to - from)
 row_cell-grown a b samples lag from to =
-    subst (λ (c : Cell). IsGrown c (to - from)) (sym (cell_in-sum (row_samples a b) plane_pair samples lag from to))
-    (sum_from-grown (product_at (row_samples a b) plane_pair samples lag) from (to - from) (λ n.
-    pair-small (row_value a (pos n)) (row_value b (pos n +ℤ lag)) (is_inside (pos n +ℤ lag) samples)
-    (value_from-small a.packed (pos n -ℤ pos a.from)) (value_from-small b.packed ((pos n +ℤ lag) -ℤ pos b.from))))
+    cell_in-grown (row_samples a b) plane_pair samples lag from to (λ n. value_from-small a.packed (n -ℤ pos a.from)) (λ n. value_from-small b.packed (n -ℤ pos b.from))
 
 -- cells to which others are added
 adds-each : (more : ℕ → Cell) (old new : List Cell) → length new ≡ length old

@@ -1,7 +1,14 @@
 -- Values that are held for a block of samples, and what their pairs add up to.
-use Rattle.std.specs.Prelude.{◌≡◌, ℕ, ◌<◌, ℤ, pos, ◌+ℤ◌, List, length, slice_index_or, None, IfSome, if◌then◌else◌}
+use Rattle.std.specs.Prelude.{◌≡◌, ℕ, ◌-◌, ◌<◌, ◌≤◌, ◌^◌, ℤ, pos, ◌+ℤ◌, List, length, slice_index_or, None, IfSome, if◌then◌else◌}
 use Rattle.corr_model.specs.declared.cell.Cell.{Cell}
 use Rattle.corr_model.specs.Cell.{Value, Samples, AreSmall, is_inside, product_of, cell_plus, sum_from}
+
+-- so many samples at most of a scan, from one up to another
+pub record IsRange (size from to samples : ℕ) : Type 0 where
+  pub order : from ≤ to
+  pub inside : to ≤ samples
+  pub scan : samples ≤ 2 ^ 40
+  pub most : to - from ≤ size
 
 -- the value of a station's channel at a sample of the scan, none outside the scan
 abbrev pub value_inside : Samples → ℕ → ℕ → ℕ → ℤ → Value

@@ -1,23 +1,9 @@
 -- The components of values, and the sums of their products.
-use Rattle.std.specs.Prelude.{◌≡◌, ℕ, zero, suc, ◌+◌, ◌*◌, ◌≤◌, ℤ, pos, ◌+ℤ◌, ◌-ℤ◌, ◌*ℤ◌, List, slice_index, slice_index_or, Some, None}
+use Rattle.std.specs.Prelude.{◌≡◌, ℕ, zero, suc, ◌+◌, ◌*◌, ◌≤◌, ℤ, pos, ◌+ℤ◌, ◌-ℤ◌, ◌*ℤ◌, List, slice_index, slice_index_or, None}
 use Rattle.corr_model.specs.declared.cell.Cell.{Cell}
 use Rattle.corr_model.specs.Cell.{Value, IsSmall}
+use Rattle.byte_streams.specs.Values.{re_of, im_of, there_of}
 use Rattle.lag_kernel.specs.declared.parts.Parts.{Parts}
-
--- the real component of a value, 0 where there is none
-abbrev pub re_of : Value → ℤ
-re_of (Some v) = v.0
-re_of None = pos 0
-
--- its imaginary component
-abbrev pub im_of : Value → ℤ
-im_of (Some v) = v.1
-im_of None = pos 0
-
--- 1 where there is a value
-abbrev pub there_of : Value → ℕ
-there_of (Some v) = 1
-there_of None = 0
 
 -- a list that holds a part of each value, and that of none past the last one
 abbrev pub HoldsPart : {X : Type 0} → (Value → X) → List Value → List X → Type 0

@@ -3,7 +3,7 @@ ghost use Rattle.std.specs.Prelude.{◌≡◌, ℕ, ◌+◌, ◌-◌, ◌%◌, �
 ghost use Rattle.std.specs.List.{range_with_len};
 ghost use Rattle.corr_model.specs.{declared.cell.Cell.{Cell}, Cell.{cell_in, no_cell}, Lags.{lag_of}};
 ghost use Rattle.corr_model.proofs.CellLemmas.{IsGrown};
-ghost use Rattle.lag_kernel.specs.Held.{AddsEach};
+ghost use Rattle.lag_kernel.specs.Held.{AddsEach, IsRange};
 
 use crate::block::{add_sums, fetch};
 use crate::parts::Value;
@@ -51,10 +51,7 @@ fn add_block<V: Values>(
     out: &mut [Cell],
 )
     requires lags { length out.old ≤ 1024 }
-    requires order { at ≤ stop }
-    requires block { stop ≤ at + 1024 }
-    requires inside { stop ≤ samples }
-    requires scan { samples ≤ 2 ^ 40 }
+    requires block { IsRange 1024 at stop samples }
     requires most { pairs + (stop - at) ≤ 2 ^ 36 }
     requires grown { (k : ℕ) (d : Cell) → k < length out.old → IsGrown (slice_index_or out.old k d) pairs }
     ensures adds { AddsEach out.old out.new (λ i. cell_in (V.samples v.now) pair.now samples (lag_of (length out.old) i) at stop) }

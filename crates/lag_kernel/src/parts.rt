@@ -1,6 +1,7 @@
 //! The components of held values.
 ghost use Rattle.std.specs.Prelude.{◌≡◌, ◌≤◌, length};
-ghost use Rattle.lag_kernel.specs.Parts.{AreParts, im_of, re_of, there_of};
+ghost use Rattle.byte_streams.specs.Values.{im_of, re_of, there_of};
+ghost use Rattle.lag_kernel.specs.Parts.{AreParts};
 
 /// A value with its two components; None where there is no sample.
 pub type Value = Option<(i8, i8)>;

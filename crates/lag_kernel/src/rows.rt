@@ -5,9 +5,9 @@ ghost use Rattle.byte_streams.specs.Rows.{row_len, row_value as block_value};
 ghost use Rattle.packed_values.specs.{From.{value_from}, Packed.{values_of}};
 ghost use Rattle.corr_model.specs.{declared.cell.Cell.{Cell}, Cell.{cell_in}, Lags.{lag_of}};
 ghost use Rattle.corr_model.proofs.CellLemmas.{IsGrown};
-ghost use Rattle.lag_kernel.specs.{Held.{AddsEach}, Planes.{plane_pair}, Rows.{row_inside, row_samples}};
+ghost use Rattle.lag_kernel.specs.{Held.{AddsEach, IsRange}, Planes.{plane_pair}, Rows.{row_inside, row_samples}};
 
-use crate::cut::{BLOCK, block_size};
+use crate::cut::{BLOCK, Heads};
 use crate::lags::clear;
 use crate::row::Row;
 use block_lags::add_lags;
@@ -103,17 +103,21 @@ fn next_stop(a: &Row, b: &Row, at: u64, to: u64, samples: u64, lags: usize) -> u
     let most = BLOCK.min((to - at) as usize);
     let (place, other) = places(a, b, at, lags);
     let (mine, theirs) = (a.inside(samples), b.inside(samples));
-    at + block_size(&mine, place, &theirs, other, lags, most) as u64
+    let heads = Heads {
+        first: &mine,
+        place,
+        second: &theirs,
+        other,
+        lags,
+    };
+    at + heads.block_size(most) as u64
 }
 
 /// Sets `out[i]` to the cell of lag `i - L/2`, `L` being the length of `out`, from the rows of the first station and the second one.
 /// Where a row holds no value, also before its first sample and behind its last one, there is none.
 pub(crate) fn row_lags(a: &Row, b: &Row, from: u64, to: u64, samples: u64, out: &mut [Cell])
     requires most { length out.old ≤ 1024 }
-    requires order { from ≤ to }
-    requires inside { to ≤ samples }
-    requires scan { samples ≤ 2 ^ 40 }
-    requires range { to - from ≤ 2 ^ 36 }
+    requires range { IsRange (2 ^ 36) from to samples }
     ensures { out.new ≡ map (λ i. cell_in (row_samples a.now b.now) plane_pair samples (lag_of (length out.old) i) from to) (range_with_len 0 (length out.old)) }
 {
     clear(out);
@@ -139,10 +143,7 @@ fn add_block(
     out: &mut [Cell],
 )
     requires lags { length out.old ≤ 1024 }
-    requires order { at ≤ stop }
-    requires block { stop ≤ at + 4096 }
-    requires inside { stop ≤ samples }
-    requires scan { samples ≤ 2 ^ 40 }
+    requires block { IsRange 4096 at stop samples }
     requires most { pairs + (stop - at) ≤ 2 ^ 36 }
     requires grown { (k : ℕ) (d : Cell) → k < length out.old → IsGrown (slice_index_or out.old k d) pairs }
     ensures adds { AddsEach out.old out.new (λ i. cell_in (row_samples a.now b.now) plane_pair samples (lag_of (length out.old) i) at stop) }

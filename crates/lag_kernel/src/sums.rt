@@ -49,8 +49,7 @@ fn product(x: i16, y: i16) -> i32
     requires first { IsSmall x }
     requires second { IsSmall y }
     ensures value { result ≡ x *ℤ y }
-    ensures low { neg_ℤ (pos 225) ≤ℤ result }
-    ensures high { result ≤ℤ pos 225 }
+    ensures small { (neg_ℤ (pos 225) ≤ℤ result) × (result ≤ℤ pos 225) }
 {
     i32::from(x) * i32::from(y)
 }

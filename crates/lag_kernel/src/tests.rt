@@ -1,7 +1,7 @@
 //! Where rows are cut into blocks.
 ghost use Rattle.std.specs.Prelude.{◌<◌};
 
-use crate::cut::{BLOCK, block_size};
+use crate::cut::{BLOCK, Heads};
 use packed_values::Packed;
 use std::alloc::{AllocError, Global};
 use std::process::Abort;
@@ -51,7 +51,14 @@ fn blocks_of(first: &[u8], second: &[u8]) -> usize {
         }
         let most = BLOCK.min(first.len() - at);
         let place = at as i64;
-        at += block_size(&mine, place, &theirs, place, 64, most);
+        let heads = Heads {
+            first: &mine,
+            place,
+            second: &theirs,
+            other: place,
+            lags: 64,
+        };
+        at += heads.block_size(most);
     }
     first.len()
 }

@@ -1,6 +1,6 @@
 -- Rows of codes that are made out of the frames of an epoch, and the planes of them.
 use Rattle.std.specs.Prelude.{slice_get, option_and_then}
-use Rattle.std.proofs.Common.{◌≡◌, ◌∙◌, ℕ, zero, ◌+◌, ◌-◌, ◌*◌, ◌/◌, ◌%◌, ◌<◌, ◌≤◌, ℤ, pos, ◌-ℤ◌, ◌≤ℤ◌, ◌<ℤ◌, unsigned_abs, Bool, true, false, cond, ⊎_elim, List, [], length, map, get_or, Option, Some, None, Vec, Global, All, refl, sym, ap, subst, arith}
+use Rattle.std.proofs.Common.{◌≡◌, ◌∙◌, ℕ, ◌+◌, ◌-◌, ◌*◌, ◌/◌, ◌%◌, ◌<◌, ◌≤◌, ℤ, pos, ◌-ℤ◌, ◌≤ℤ◌, ◌<ℤ◌, unsigned_abs, Bool, true, false, cond, ⊎_elim, List, length, map, get_or, Option, Some, None, Vec, Global, refl, sym, ap, subst, arith}
 use Rattle.std.proofs.Math.Nat.{mul-zero, div-lt_iff_lt-mul}
 use Rattle.std.proofs.lemmas.Bool.{cases_lt}
 use Rattle.std.proofs.lemmas.Int.{ints}
@@ -28,8 +28,8 @@ use Rattle.station_stream.specs.declared.recording.Recording.{Recording}
 use Rattle.station_stream.specs.declared.stay_frames.StayFrames.{StayFrames}
 use Rattle.station_stream.specs.Part.{part_value}
 use Rattle.station_stream.specs.Recorded.{AreNamed}
-use Rattle.station_stream.specs.StayFrames.{HoldFrames, HoldStay, IsPartOfStay}
-use Rattle.station_stream.proofs.StayFramesLemmas.{HoldFrames-stay, HoldStay-untold, part_value-stay}
+use Rattle.station_stream.specs.StayFrames.{HoldFrames, IsPartOfStay}
+use Rattle.station_stream.proofs.StayFramesLemmas.{HoldFrames-stay, HoldStay-untold, part_value-stay, slice_get-item}
 use Rattle.epoch_run.specs.Planes.{planed}
 use Rattle.epoch_run.specs.Rows.{HoldRows}
 use Rattle.epoch_run.proofs.PlaneValues.{there}
@@ -80,6 +80,19 @@ rows_few told m making =
 
 pub place_below : (row stations chans : ℕ) → row < stations * chans → row / chans < stations
 place_below row stations chans h = (div-lt_iff_lt-mul {k = chans} {x = row} {y = stations} (some_chans row stations chans h)).1 h
+
+-- the station of a row
+pub record IsRowOf (m : Making) (place : ℕ) (stay : StayPlan) : Type 0 where
+  pub inside : place < length m.scan.now.stays
+  pub at : slice_get m.scan.now.stays place ≡ Some stay
+
+-- as it is read
+pub IsRowOf-read : (m : Making) (row chans : ℕ) (stays : List StayPlan) (stay : StayPlan) → row < rows_in m → chans ≡ length m.plan.now.channels
+    → stays ≡ m.scan.now.stays → stay ≡ get_or stays (row / chans) stay → IsRowOf m (row / chans) stay
+IsRowOf-read m row chans stays stay below same stays_are is =
+    let inside : row / chans < length m.scan.now.stays =
+    subst (λ (n : ℕ). row / n < length m.scan.now.stays) (sym same) (place_below row (length m.scan.now.stays) (length m.plan.now.channels) below) in
+    record { inside = inside; at = slice_get-item stays m.scan.now.stays (row / chans) stay stays_are inside is }
 
 -- ---- the part of a row's station
 

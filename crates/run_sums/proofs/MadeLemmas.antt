@@ -1,7 +1,7 @@
 -- Rows and stretches of rows that are made.
 use Rattle.std.proofs.Common.{◌≡◌, ◌∙◌, refl, sym, ap, subst, ℕ, ◌+◌, ◌-◌, ◌≤◌, ◌<◌, ◌≢◌, ⊎_elim, List, [], ◌∷◌, ◌++◌, length, get_or, set, Option, Vec, Global, All, below_more, arith}
 use Rattle.std.proofs.lemmas.Bool.{cases_lt}
-use Rattle.std.proofs.lemmas.List.{get_or_append_left, get_or-append_right, get_or_default, get_or-set_same, get_or-set_other, length-append, length-set}
+use Rattle.std.proofs.lemmas.List.{get_or_append_left, get_or-append_right, get_or-set_same, get_or-set_other, length-append, length-set}
 use Rattle.dev_traits.specs.Told.{WhereTold}
 use Rattle.corr_model.specs.Files.{Files}
 use Rattle.frame_index.proofs.ToldLemmas.{WhereTold-weaker, WhereTold-both, WhereTold-always}

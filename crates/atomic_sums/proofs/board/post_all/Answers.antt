@@ -1,5 +1,5 @@
 use Rattle.std.proofs.Common.{arith, ◌≡◌, ◌<◌, ℕ, ◌+◌, ◌*◌, ◌/◌, ◌%◌, ◌^◌, List, [], length, take, get_or, Some, ap, ◌∙◌, sym, subst, refl}
-use Rattle.std.proofs.lemmas.List.{take_more, length-take, take_all}
+use Rattle.std.proofs.lemmas.List.{length-take, take_all}
 use mathlib.Core.Option.{none}
 use Rattle.atomic_table.specs.Table.{step, Allows}
 use Rattle.piece_claim.specs.declared.sizes.Sizes.{Sizes}
@@ -8,7 +8,7 @@ use Rattle.piece_claim.specs.Moves.{CanPost, posted, with_piece}
 use Rattle.atomic_sums.specs.Views.{Sat, SeatView, seen_by, Posts}
 use Rattle.atomic_sums.specs.Rule.{Keeps}
 use Rattle.atomic_sums.proofs.RuleSteps.{posts}
-use Rattle.atomic_sums.proofs.Posting.{place_in, held_already, finished_now, one_more, still_held}
+use Rattle.atomic_sums.proofs.Posting.{place_in, held_already, finished_now, one_of_all, still_held}
 use Rattle.atomic_sums.proofs.board.post_all.Goals as goal
 
 abbrev sat : SeatView → Seat → Sat → Sat
@@ -52,20 +52,13 @@ fetch_add-requires c =
 pub loop-i-preserved : goal.loop-i-preserved
 loop-i-preserved c =
     let v = c.args.seat.now.me.0 in
-    let n = c.args._n in
-    let i = c.loop-i.i in
     let all = c.args.amounts.now in
-    let xs = take i all in
-    let a = get_or all i 0 in
-    let before : i < length all = c.loop-i-test.true in
-    let long : length xs ≡ i = omega (arith, length-take i all) in
-    let short : length xs < v.sizes.width = omega (arith, ap (λ (s : Sizes). s.width) c.requires.sizes.1, c.requires.amounts.0) in
-    let step_of : Sat → Sat = λ m. (seen_by m.0.sizes (posted m.0.sizes.width m.0.seat a) m.0.last, m.1) in (
+    let step_of : Sat → Sat = λ m. (seen_by m.0.sizes (posted m.0.sizes.width m.0.seat (get_or all c.loop-i.i 0)) m.0.last, m.1) in
+    let full : length all ≡ v.sizes.width = c.requires.amounts.0 ∙ ap (λ (s : Sizes). s.width) (sym c.requires.sizes.1) in (
       c.fetch_add.ensures.0 ∙ c.loop-i.invariant.0,
       c.fetch_add.ensures.2
           ∙ ap step_of c.loop-i.invariant.1
-          ∙ ap (λ (w : Seat). sat v w c.args.seat.now.me) (one_more v.sizes.width v.seat n a xs short)
-          ∙ ap (λ (l : List ℕ). sat v (with_piece v.sizes.width v.seat (piece n l)) c.args.seat.now.me) (sym (take_more all i 0 before)),
+          ∙ ap (λ (w : Seat). sat v w c.args.seat.now.me) (one_of_all v.sizes.width v.seat c.args._n c.loop-i.i all c.loop-i-test.true full),
     )
 
 pub returns-clause-posted : goal.returns-clause-posted

@@ -2,15 +2,13 @@ use Rattle.std.proofs.Common.{◌+◌, ◌*◌, ◌^◌, pos, refl, length, arit
 use Rattle.byte_streams.specs.Values.{re_of, im_of}
 use Rattle.byte_streams.specs.Streams.{value_in}
 use Rattle.byte_streams.specs.Rows.{number_in, level_value}
-use Rattle.block_lags.proofs.Bounds.{within-more}
+use Rattle.block_lags.proofs.Bounds.{within-more, within-once}
 use Rattle.block_lags.proofs.Products.{added-two}
 use Rattle.block_lags.proofs.Levels.{level-biased, with_level-re, with_level-im}
 use Rattle.block_lags.proofs.still.add_with_level.Goals as goal
 
 pub add_products-requires-2-clause-within : goal.add_products-requires-2-clause-within
-add_products-requires-2-clause-within c =
-    within-more (2 ^ 62 + 2 ^ 60 + 2 ^ 34) (2 ^ 62 + 2 ^ 61) c.add_products.new.cells (omega arith)
-    (c.add_products.ensures.within (2 ^ 62 + 2 ^ 60) c.requires.within)
+add_products-requires-2-clause-within c = within-once c.args.cells.now c.add_products.new.cells c.add_products.ensures.within c.requires.within
 
 pub returns-clause-products : goal.returns-clause-products
 returns-clause-products c = λ i lt.

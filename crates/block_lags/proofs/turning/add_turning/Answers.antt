@@ -1,14 +1,12 @@
 use Rattle.std.proofs.Common.{◌+◌, ◌*◌, ◌^◌, ◌+ℤ◌, ◌-ℤ◌, length, arith}
 use Rattle.byte_streams.specs.Values.{re_of, im_of}
 use Rattle.byte_streams.specs.Streams.{value_in}
-use Rattle.block_lags.proofs.Bounds.{within-more}
+use Rattle.block_lags.proofs.Bounds.{within-more, within-once}
 use Rattle.block_lags.proofs.Products.{same-length, added-three, turning-re, turning-im}
 use Rattle.block_lags.proofs.turning.add_turning.Goals as goal
 
 pub add_products-requires-2-clause-within : goal.add_products-requires-2-clause-within
-add_products-requires-2-clause-within c =
-    within-more (2 ^ 62 + 2 ^ 60 + 2 ^ 34) (2 ^ 62 + 2 ^ 61) c.add_products.new.cells (omega arith)
-    (c.add_products.ensures.within (2 ^ 62 + 2 ^ 60) c.requires.within)
+add_products-requires-2-clause-within c = within-once c.args.cells.now c.add_products.new.cells c.add_products.ensures.within c.requires.within
 
 pub add_products-requires-3-clause-within : goal.add_products-requires-3-clause-within
 add_products-requires-3-clause-within c =

@@ -1,19 +1,9 @@
-use Rattle.std.proofs.Common.{◌≡◌, ℕ, ◌+◌, ◌*◌, refl, sym, ap, ◌∙◌, arith, add-zero}
-use Rattle.byte_sums.specs.Sums.{lag_sum}
-use Rattle.byte_sums.proofs.Chunks.{vector-more, lag_sum-none, sum-small, four-are}
+use Rattle.std.proofs.Common.{◌+◌, ◌*◌, refl, arith}
+use Rattle.byte_sums.proofs.Chunks.{vector-more, sum-small, four-none, four-lags}
 use Rattle.byte_sums.proofs.dots.vector_sums.Goals as goal
 
 pub loop-i-init : goal.loop-i-init
-loop-i-init c = record {
-  first = lag_sum-none c.args.a.now c.args.b.now c.args.at;
-  second = lag_sum-none c.args.a.now c.args.b.now (c.args.at + 1);
-  third = lag_sum-none c.args.a.now c.args.b.now (c.args.at + 2);
-  fourth = lag_sum-none c.args.a.now c.args.b.now (c.args.at + 3);
-  first_lanes = refl;
-  second_lanes = refl;
-  third_lanes = refl;
-  fourth_lanes = refl;
-}
+loop-i-init c = four-none 8 c.args.a.now c.args.b.now c.args.at _ refl refl
 
 pub plus-first-requires-clause-small : goal.plus-first-requires-clause-small
 plus-first-requires-clause-small c =
@@ -65,11 +55,4 @@ total-requires-4 c = sum-small c.args.a.now c.args.b.now (c.args.at + 3) (32 * c
 
 pub returns : goal.returns
 returns c =
-    let all : c.loop-i.i ≡ c.args.count = omega arith in
-    let at : (lag : ℕ) → lag_sum c.args.a.now c.args.b.now lag (32 * c.loop-i.i) ≡ lag_sum c.args.a.now c.args.b.now lag (32 * c.args.count) =
-    λ lag. ap (λ i. lag_sum c.args.a.now c.args.b.now lag (32 * i)) all in
-    four-are (λ k. lag_sum c.args.a.now c.args.b.now (c.args.at + k) (32 * c.args.count)) _ _ _ _
-    (c.total.ensures ∙ c.loop-i.invariant.first ∙ at c.args.at ∙ ap (λ lag. lag_sum c.args.a.now c.args.b.now lag (32 * c.args.count)) (sym (add-zero c.args.at)))
-    (c.total-2.ensures ∙ c.loop-i.invariant.second ∙ at (c.args.at + 1))
-    (c.total-3.ensures ∙ c.loop-i.invariant.third ∙ at (c.args.at + 2))
-    (c.total-4.ensures ∙ c.loop-i.invariant.fourth ∙ at (c.args.at + 3))
+    four-lags 8 c.args.a.now c.args.b.now c.args.at c.loop-i.i c.args.count _ _ _ _ c.loop-i.invariant (omega arith) _ _ _ _ c.total.ensures c.total-2.ensures c.total-3.ensures c.total-4.ensures

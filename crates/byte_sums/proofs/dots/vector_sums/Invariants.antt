@@ -1,17 +1,7 @@
 -- The four sums so far.
-use Rattle.std.proofs.Common.{◌≡◌, ◌+◌, ◌*◌, length}
-use Rattle.std.specs.Simd.Lanes.{sum_l}
-use Rattle.byte_sums.specs.Sums.{lag_sum}
+use Rattle.std.proofs.Common.{◌*◌}
+use Rattle.byte_sums.proofs.Chunks.{FourSums}
 use Rattle.byte_sums.proofs.dots.vector_sums.Given as goal
 
 abbrev pub invariant-loop-i : goal.invariant-loop-i
-invariant-loop-i l = record {
-  first : sum_l l.first ≡ lag_sum l.a l.b l.at (32 * l.i);
-  second : sum_l l.second ≡ lag_sum l.a l.b (l.at + 1) (32 * l.i);
-  third : sum_l l.third ≡ lag_sum l.a l.b (l.at + 2) (32 * l.i);
-  fourth : sum_l l.fourth ≡ lag_sum l.a l.b (l.at + 3) (32 * l.i);
-  first_lanes : length l.first ≡ 8;
-  second_lanes : length l.second ≡ 8;
-  third_lanes : length l.third ≡ 8;
-  fourth_lanes : length l.fourth ≡ 8;
-}
+invariant-loop-i l = FourSums 8 l.a l.b l.at (32 * l.i) l.first l.second l.third l.fourth

@@ -63,18 +63,6 @@ loop-i-preserved c =
       second_upper_small = still-small i _ (c.parted-second.ensures.upper_small (75 * i) c.loop-i.invariant.second_upper_small);
     }
 
-pub total-requires-clause-small : goal.total-requires-clause-small
-total-requires-clause-small c = weaker (75 * c.loop-i.i) 65000 _ (omega arith) c.loop-i.invariant.first_lower_small
-
-pub total-requires-2-clause-small : goal.total-requires-2-clause-small
-total-requires-2-clause-small c = weaker (75 * c.loop-i.i) 65000 _ (omega arith) c.loop-i.invariant.second_lower_small
-
-pub total-requires-3-clause-small : goal.total-requires-3-clause-small
-total-requires-3-clause-small c = weaker (75 * c.loop-i.i) 65000 _ (omega arith) c.loop-i.invariant.first_upper_small
-
-pub total-requires-4-clause-small : goal.total-requires-4-clause-small
-total-requires-4-clause-small c = weaker (75 * c.loop-i.i) 65000 _ (omega arith) c.loop-i.invariant.second_upper_small
-
 pub returns-clause-first : goal.returns-clause-first
 returns-clause-first c =
     let a = c.args.a.now in

@@ -16,13 +16,7 @@ returns-in_err-lag c = rw c.from_residual-in_err-lag.ensures (λ p n rest h e.
 
 pub returns-in_err-rate : goal.returns-in_err-rate
 returns-in_err-rate c = rw c.from_residual-in_err-rate.ensures (λ p n rest h e.
-    let few = c.lags-lags.ensures.few in
-    let s = c.args.series.now in
-    let g = c.args.grid.now in
-    let text = c.args.text.now in
-    let words = c.in_ok-words.words.now in
-    let lag = c.in_ok-lag.ensures.one p.lag _ (lag_in s g c.args.at p n text words rest few h c.in_ok-words.ensures e) in
-    c.in_err-rate.ensures.taken p.rate _ (rate_in s g c.args.at p n c.in_ok-lag.lag text words c.in_ok-lag.later.now rest few h c.in_ok-words.ensures e c.in_ok-lag.ensures.taken lag))
+    c.in_err-rate.ensures.taken p.rate _ (rate_in c.args.series.now c.args.grid.now c.args.at p n c.in_ok-lag.lag c.args.text.now c.in_ok-words.words.now c.in_ok-lag.later.now rest c.lags-lags.ensures.few h c.in_ok-words.ensures e c.in_ok-lag.ensures.taken c.in_ok-lag.ensures.one))
 
 pub returns-in_err-number : goal.returns-in_err-number
 returns-in_err-number c = rw c.from_residual-in_err-number.ensures (λ p n rest h e.
@@ -35,15 +29,9 @@ returns-in_err-number c = rw c.from_residual-in_err-number.ensures (λ p n rest 
 
 pub returns-in_err-point : goal.returns-in_err-point
 returns-in_err-point c = rw c.from_residual-in_err-point.ensures (λ p n rest h e.
-    let few = c.lags-lags.ensures.few in
-    let s = c.args.series.now in
-    let g = c.args.grid.now in
-    let text = c.args.text.now in
-    let words = c.in_ok-words.words.now in
-    let lag = c.in_ok-lag.ensures.one p.lag _ (lag_in s g c.args.at p n text words rest few h c.in_ok-words.ensures e) in
-    let rate = c.in_ok-rate.ensures.one p.rate _ (rate_in s g c.args.at p n c.in_ok-lag.lag text words c.in_ok-lag.later.now rest few h c.in_ok-words.ensures e c.in_ok-lag.ensures.taken lag) in
+    let rate = c.in_ok-rate.ensures.one p.rate _ (rate_in c.args.series.now c.args.grid.now c.args.at p n c.in_ok-lag.lag c.args.text.now c.in_ok-words.words.now c.in_ok-lag.later.now rest c.lags-lags.ensures.few h c.in_ok-words.ensures e c.in_ok-lag.ensures.taken c.in_ok-lag.ensures.one) in
     let same : to_z w32 (of_z w32 c.in_ok-rate.rate) ≡ c.in_ok-rate.rate = to_z-of_z w32 c.in_ok-rate.rate c.in_ok-rate.ensures.taken.within in
-    c.in_err-point.ensures (subst (λ (z : ℤ). IsRate g.rates z) (rate ∙ sym same) h.rate))
+    c.in_err-point.ensures (subst (λ (z : ℤ). IsRate c.args.grid.now.rates z) (rate ∙ sym same) h.rate))
 
 pub returns-in_err-rest : goal.returns-in_err-rest
 returns-in_err-rest c = rw c.from_residual-in_err-rest.ensures (λ p n rest h e.
@@ -54,7 +42,7 @@ returns-in_err-rest c = rw c.from_residual-in_err-rest.ensures (λ p n rest h e.
     let words = c.in_ok-words.words.now in
     let q = c.in_ok-point.point in
     let lag = c.in_ok-lag.ensures.one p.lag _ (lag_in s g c.args.at p n text words rest few h c.in_ok-words.ensures e) in
-    let r = rate_in s g c.args.at p n c.in_ok-lag.lag text words c.in_ok-lag.later.now rest few h c.in_ok-words.ensures e c.in_ok-lag.ensures.taken lag in
+    let r = rate_in s g c.args.at p n c.in_ok-lag.lag text words c.in_ok-lag.later.now rest few h c.in_ok-words.ensures e c.in_ok-lag.ensures.taken c.in_ok-lag.ensures.one in
     let rate = c.in_ok-rate.ensures.one p.rate _ r in
     let lag_same : to_z w32 (of_z w32 c.in_ok-lag.lag) ≡ c.in_ok-lag.lag = to_z-of_z w32 c.in_ok-lag.lag c.in_ok-lag.ensures.taken.within in
     let rate_same : to_z w32 (of_z w32 c.in_ok-rate.rate) ≡ c.in_ok-rate.rate = to_z-of_z w32 c.in_ok-rate.rate c.in_ok-rate.ensures.taken.within in

@@ -1,11 +1,10 @@
-use Rattle.std.proofs.Common.{w64, arith}
-use Rattle.std.proofs.lemmas.Int.{ints, to_z-of_z}
+use Rattle.std.proofs.Common.{arith}
+use Rattle.std.proofs.lemmas.Int.{ints}
+use Rattle.fringe_search.proofs.Bounds.{scaled_is}
 use Rattle.fringe_search.proofs.sums.re_part.Goals as goal
 
 pub returns-clause-value : goal.returns-clause-value
 returns-clause-value c =
-    let first = rw (to_z-of_z w64 c.args.re c.ranges.re) at c.scaled.ensures.value in
-    let second = rw (to_z-of_z w64 c.args.im c.ranges.im) at c.scaled-2.ensures.value in
-    let within = rw (to_z-of_z w64 c.args.re c.ranges.re) at c.scaled.ensures.within in
-    let below = rw (to_z-of_z w64 c.args.im c.ranges.im) at c.scaled-2.ensures.within in
-    rw (← first, ← second) (omega (arith, ints, within, below, c.requires.small))
+    let one = scaled_is c.args.re _ _ c.ranges.re c.scaled.ensures.value c.scaled.ensures.within in
+    let two = scaled_is c.args.im _ _ c.ranges.im c.scaled-2.ensures.value c.scaled-2.ensures.within in
+    rw (← one.0, ← two.0) (omega (arith, ints, one.1, two.1, c.requires.small))

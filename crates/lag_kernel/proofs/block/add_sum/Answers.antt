@@ -1,8 +1,7 @@
 use Rattle.std.proofs.Common.{◌+◌, sym, subst, arith}
 use Rattle.std.proofs.lemmas.Int.{ints}
 use Rattle.corr_model.specs.declared.cell.Cell.{Cell}
-use Rattle.corr_model.proofs.CellLemmas.{IsGrown}
-use Rattle.lag_kernel.proofs.HeldLemmas.{IsGrown-plus}
+use Rattle.corr_model.proofs.CellLemmas.{IsGrown, IsGrown-plus}
 use Rattle.lag_kernel.proofs.block.add_sum.Goals as goal
 
 pub returns-clause-grown : goal.returns-clause-grown

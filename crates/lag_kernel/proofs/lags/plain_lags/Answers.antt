@@ -1,10 +1,10 @@
-use Rattle.std.proofs.Common.{◌≡◌, ℕ, ◌+◌, ◌-◌, ◌<◌, ◌≤◌, length, get_or, ap, sym, subst, ◌∙◌, arith}
+use Rattle.std.proofs.Common.{◌≡◌, ℕ, ◌-◌, ◌≤◌, length, ap, sym, subst, ◌∙◌, arith}
 use Rattle.std.proofs.lemmas.List.FromFn.{fill_by_all}
 use Rattle.corr_model.specs.declared.cell.Cell.{Cell}
-use Rattle.corr_model.specs.Cell.{cell_in, cell_plus, no_cell}
+use Rattle.corr_model.specs.Cell.{cell_in, no_cell}
 use Rattle.corr_model.specs.Lags.{lag_of}
 use Rattle.corr_model.proofs.CellLemmas.{IsGrown, IsGrown-none, cell_in-none}
-use Rattle.lag_kernel.proofs.HeldLemmas.{cell-more}
+use Rattle.lag_kernel.proofs.HeldLemmas.{cells-more, grown-more}
 use Rattle.lag_kernel.proofs.lags.plain_lags.Goals as goal
 
 pub loop-at-init : goal.loop-at-init
@@ -15,6 +15,10 @@ loop-at-init g c = record {
   grown = λ k d h. subst (λ (cell : Cell). IsGrown cell (c.args.from - c.args.from)) (sym (c.clear.ensures k d h)) (IsGrown-none (c.args.from - c.args.from));
 }
 
+pub add_block-requires-clause-block : goal.add_block-requires-clause-block
+add_block-requires-clause-block g c =
+    record { order = omega (arith, c.min-stop.ensures, c.loop-at-test.true); inside = omega (arith, c.min-stop.ensures, c.requires.inside); scan = c.requires.scan; most = omega (arith, c.min-stop.ensures) }
+
 pub loop-at-preserved : goal.loop-at-preserved
 loop-at-preserved g c =
     let z = g.V.Values.samples c.args.v.now in
@@ -23,19 +27,11 @@ loop-at-preserved g c =
     let same : length c.loop-at.out ≡ length c.args.out.now = c.loop-at.auto.out ∙ c.clear.auto.out in
     let above : at ≤ stop = omega (arith, c.min-stop.ensures, c.loop-at-test.true) in
     let below : stop ≤ c.args.to = omega (arith, c.min-stop.ensures) in
-    let begun : c.args.from ≤ at = c.loop-at.invariant.begun in
-    let count : at - c.args.from + (stop - at) ≡ stop - c.args.from = omega (arith, above, begun) in
     record {
-      begun = omega (arith, above, begun);
+      begun = omega (arith, above, c.loop-at.invariant.begun);
       within = below;
-      cells = λ k d h.
-          cell-more z c.args.pair.now c.args.samples (lag_of (length c.args.out.now) k) c.args.from at stop (get_or c.loop-at.out k d) (get_or c.add_block.new.out k d)
-          begun above (c.loop-at.invariant.cells k d h)
-          (subst (λ n. get_or c.add_block.new.out k d ≡ cell_plus (get_or c.loop-at.out k d) (cell_in z c.args.pair.now c.args.samples (lag_of n k) at stop)) same
-          (c.add_block.ensures.adds k d (subst (λ n. k < n) (sym same) h)));
-      grown = λ k d h.
-          subst (λ n. IsGrown (get_or c.add_block.new.out k d) n) count
-          (c.add_block.ensures.grown k d (subst (λ n. k < n) (sym same) h));
+      cells = cells-more z c.args.pair.now c.args.samples c.args.from at stop (length c.args.out.now) c.loop-at.out c.add_block.new.out c.loop-at.invariant.begun above same c.loop-at.invariant.cells c.add_block.ensures.adds;
+      grown = grown-more c.args.from at stop (length c.args.out.now) c.loop-at.out c.add_block.new.out c.loop-at.invariant.begun above same c.add_block.ensures.grown;
     }
 
 pub returns : goal.returns

@@ -4,6 +4,9 @@ use Rattle.corr_model.specs.Lags.{lag_of}
 use Rattle.lag_kernel.proofs.RowLemmas.{rows-planes}
 use Rattle.lag_kernel.proofs.planes.plane_lags.Goals as goal
 
+pub row_lags-requires-clause-range : goal.row_lags-requires-clause-range
+row_lags-requires-clause-range c = record { order = c.requires.order; inside = c.requires.inside; scan = c.requires.scan; most = c.requires.range }
+
 pub returns : goal.returns
 returns c =
     let x = c.args in

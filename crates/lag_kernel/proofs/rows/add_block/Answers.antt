@@ -24,10 +24,10 @@ returns-clause-adds c =
     cut-values a c.args.samples n (values_of c.inside-mine.result) first _ (pos at) c.inside-mine.ensures.values c.cut_out-first.ensures.values (omega (arith, ints, c.places-place.ensures.first)) in
     let theirs : (k : ℕ) → k < n + lags → block_value second k ≡ row_inside b c.args.samples (start +ℤ pos k) =
     cut-values b c.args.samples (n + lags) (values_of c.inside-theirs.result) second _ start c.inside-theirs.ensures.values c.cut_out-second.ensures.values (omega (arith, ints, c.places-place.ensures.second)) in
-    let whole : at + row_len first ≡ c.args.stop = omega (arith, c.cut_out-first.ensures.len, c.requires.order) in
+    let whole : at + row_len first ≡ c.args.stop = omega (arith, c.cut_out-first.ensures.len, c.requires.block.order) in
     rows-add a b c.args.samples at c.args.stop (row_len first) least c.args.out.now c.add_lags.new.cells c.add_lags.ensures.len refl whole
     (c.add_lags.ensures.scan (row_samples a b) plane_pair c.args.samples at least
-    (rows-are a b c.args.samples at least start first second (omega (arith, whole, c.requires.inside)) (omega (arith, ints))
+    (rows-are a b c.args.samples at least start first second (omega (arith, whole, c.requires.block.inside)) (omega (arith, ints))
     (λ k lt. mine k (omega (arith, lt, c.cut_out-first.ensures.len))) (λ k lt. theirs k (omega (arith, lt, c.cut_out-second.ensures.len)))))
 
 pub returns-clause-grown : goal.returns-clause-grown

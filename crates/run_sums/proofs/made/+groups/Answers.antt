@@ -1,4 +1,4 @@
-use Rattle.std.proofs.Common.{◌+◌, None, arith, rules}
+use Rattle.std.proofs.Common.{None, arith, rules}
 use Rattle.run_sums.proofs.FrameLemmas.{rows_few}
 use Rattle.run_sums.proofs.MadeLemmas.{AreAllMade-append}
 use Rattle.run_sums.proofs.made.+groups.Goals as goal

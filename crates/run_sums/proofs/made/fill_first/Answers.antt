@@ -1,5 +1,4 @@
-use Rattle.std.specs.Vec.{with_items}
-use Rattle.std.proofs.Common.{◌≡◌, ◌∙◌, ℕ, List, sym, ap, subst, length, arith}
+use Rattle.std.proofs.Common.{◌≡◌, ◌∙◌, ℕ, List, sym, ap, subst, length}
 use Rattle.epoch_run.proofs.PlaneValues.{kept_items}
 use Rattle.run_sums.specs.Frames.{IsStretch}
 use Rattle.run_sums.proofs.made.fill_first.Goals as goal

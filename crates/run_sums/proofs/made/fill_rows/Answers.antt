@@ -1,4 +1,3 @@
-use Rattle.std.proofs.Common.{rules}
 use Rattle.run_sums.proofs.MadeLemmas.{AreAllMade-cons}
 use Rattle.run_sums.proofs.made.fill_rows.Goals as goal
 

@@ -1,4 +1,3 @@
-use Rattle.std.specs.Vec.{with_items}
 use Rattle.std.proofs.Common.{◌≡◌, ◌∙◌, ℕ, List, Vec, Global, refl, ap, subst, length}
 use Rattle.job_plan.specs.declared.plan.Plan.{Plan}
 use Rattle.epoch_run.specs.Rows.{HoldRows}

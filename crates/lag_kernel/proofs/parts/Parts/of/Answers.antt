@@ -1,6 +1,6 @@
 use Rattle.std.proofs.Common.{◌≡◌, ◌<◌, w16, to_z, of_z, ◌∙◌, arith}
 use Rattle.std.proofs.lemmas.Int.{ints}
-use Rattle.lag_kernel.specs.Parts.{im_of, re_of, there_of}
+use Rattle.byte_streams.specs.Values.{im_of, re_of, there_of}
 use Rattle.lag_kernel.proofs.PartsLemmas.{fills-none, fills-more, fills-all}
 use Rattle.lag_kernel.proofs.parts.Parts.of.Goals as goal
 

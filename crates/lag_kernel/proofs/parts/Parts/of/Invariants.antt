@@ -1,4 +1,4 @@
-use Rattle.lag_kernel.specs.Parts.{im_of, re_of, there_of}
+use Rattle.byte_streams.specs.Values.{im_of, re_of, there_of}
 use Rattle.lag_kernel.proofs.PartsLemmas.{FillsTo}
 use Rattle.lag_kernel.proofs.parts.Parts.of.Given as goal
 

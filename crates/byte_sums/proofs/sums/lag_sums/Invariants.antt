@@ -1,7 +1,7 @@
 -- The places so far have their sums.
 use Rattle.std.proofs.Common.{◌≡◌, ◌<◌, ◌*◌, ℕ, length, slice_index}
 use Rattle.byte_sums.specs.Sums.{lag_sum}
-use Rattle.byte_sums.proofs.sums.each_lag_sums.Given as goal
+use Rattle.byte_sums.proofs.sums.lag_sums.Given as goal
 
 abbrev pub invariant-loop-q : goal.invariant-loop-q
 invariant-loop-q l = record {

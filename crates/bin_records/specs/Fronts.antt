@@ -1,10 +1,10 @@
 -- The fronts of a head and of a record, whose numbers are put one after another.
-use Rattle.std.specs.Prelude.{ℕ, List, [], ◌∷◌, ◌++◌, length, codes}
+use Rattle.std.specs.Prelude.{ℕ, List, [], ◌∷◌, ◌++◌, length, flat_map, codes}
 use Rattle.byteorder.specs.Endian.{little_bytes}
 use Rattle.corr_model.specs.declared.records.RecordAt.{RecordAt}
-use Rattle.corr_model.specs.Records.{Head}
+use Rattle.corr_model.specs.Records.{Head, name_text}
 
--- a head's mark, the number of bins, the sizes, and the number of its stations
+-- a head's mark, the number of bins, the sizes, and its stations behind their number
 abbrev pub head_front : ℕ → Head → List ℕ
 head_front bins head =
     codes "VLBIBIN1"
@@ -13,8 +13,9 @@ head_front bins head =
     ++ little_bytes 8 head.integration
     ++ little_bytes 8 head.rate
     ++ little_bytes 4 (length head.stations)
+    ++ flat_map name_text head.stations
 
--- a record's mark and numbers
+-- a record's mark, the numbers of a record, and its bin
 abbrev pub record_front : RecordAt → ℕ → List ℕ
 record_front at bin =
     (2 ∷ [])

@@ -14,7 +14,6 @@ pub fn write_bin_head<S: Sink>(bins: u32, head: &VisHead, out: &mut S) -> Result
 {
     let mut stretch = Stretch::new();
     put_front(bins, head, &mut stretch, out);
-    put_names(head.stations(), &mut stretch, out);
     put_u32(head.products().len() as u32, &mut stretch, out);
     put_products(head.products(), &mut stretch, out);
     put_u32(head.scans().len() as u32, &mut stretch, out);
@@ -22,7 +21,7 @@ pub fn write_bin_head<S: Sink>(bins: u32, head: &VisHead, out: &mut S) -> Result
     end(stretch, out)
 }
 
-// Puts the mark, the number of bins, the sizes and the number of stations.
+// Puts the mark, the number of bins, the sizes, and the stations behind their number.
 fn put_front<S: Sink>(bins: u32, head: &VisHead, stretch: &mut Stretch, out: &mut S)
     ensures { Puts (head_front bins head.now) stretch.old stretch.new (S.told out.old) (S.told out.new) (S.faults out.old) (S.faults out.new) }
 {
@@ -32,4 +31,5 @@ fn put_front<S: Sink>(bins: u32, head: &VisHead, stretch: &mut Stretch, out: &mu
     put_u64(head.integration(), stretch, out);
     put_u64(head.rate(), stretch, out);
     put_u32(head.stations().len() as u32, stretch, out);
+    put_names(head.stations(), stretch, out);
 }

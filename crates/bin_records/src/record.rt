@@ -6,7 +6,7 @@ ghost use Rattle.bin_records.specs.{Fronts.{record_front}, Texts.{bin_record_tex
 use corr_model::{Cell, RecordAt};
 use dev_traits::Sink;
 use sink_text::Stretch;
-use vis_records::{SinkFault, end, put_cells, put_u32, put_u64};
+use vis_records::{SinkFault, end, put_cells, put_u32, put_u64, write_end};
 
 /// Appends the record of a bin with its cells by rising lag, in stretches of up to 8,192 bytes. Where the sink fails, what was
 /// appended before stays.
@@ -29,10 +29,7 @@ pub fn write_bin_record<S: Sink>(
 pub fn write_bin_end<S: Sink>(count: u64, out: &mut S) -> Result<(), SinkFault>
     ensures { Appends (S.told out.old) (S.told out.new) (bin_end_text count) (S.faults out.old) (S.faults out.new) result }
 {
-    let mut stretch = Stretch::new();
-    stretch.put(&[255], out);
-    put_u64(count, &mut stretch, out);
-    end(stretch, out)
+    write_end(count, out)
 }
 
 // Puts a record's mark and numbers.

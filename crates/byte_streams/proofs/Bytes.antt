@@ -4,6 +4,7 @@ use Rattle.std.proofs.Common.{◌≡◌, ◌≢◌, ℕ, ◌+◌, ◌*◌, ◌<�
 use Rattle.std.proofs.lemmas.Bool.{cases_lt, eqb-true}
 use Rattle.std.proofs.lemmas.Int.{ints}
 use Rattle.std.proofs.lemmas.List.{get_or_past}
+use Rattle.corr_model.specs.Cell.{Value}
 use Rattle.byte_streams.specs.Values.{re_of, im_of, component, AreStreams, byte_value}
 
 re_by : (b : Bool) (bias re im : ℕ) → (b ≡ true → re ≡ bias) → pos re ≡ re_of (if b then None else Some (component bias re, component bias im)) +ℤ pos bias
@@ -21,6 +22,15 @@ module _ (bias : ℕ) (r i t : List ℕ) (are : AreStreams bias r i t) (k : ℕ)
   pub byte_im : pos (get_or i k 0) ≡ im_of (byte_value bias (get_or r k 0) (get_or i k 0) (get_or t k 0)) +ℤ pos bias
   byte_im = im_by (eqb (get_or t k 0) 0) bias (get_or r k 0) (get_or i k 0) (λ e. (are.none k lt (eqb-true (get_or t k 0) 0 e)).1)
 
+-- what a value's bytes are, by its components
+pub record AreOf (r i bias : ℕ) (v : Value) : Type 0 where
+  pub re : pos r ≡ re_of v +ℤ pos bias
+  pub im : pos i ≡ im_of v +ℤ pos bias
+
+pub bytes_of : (bias : ℕ) (r i t : List ℕ) → AreStreams bias r i t → (k : ℕ) → k < length t
+    → AreOf (get_or r k 0) (get_or i k 0) bias (byte_value bias (get_or r k 0) (get_or i k 0) (get_or t k 0))
+bytes_of bias r i t are k lt = record { re = byte_re bias r i t are k lt; im = byte_im bias r i t are k lt }
+
 -- bytes that are small as far as the list goes
 pub all_small : (most : ℕ) (xs : List ℕ) → ((k : ℕ) → k < length xs → get_or xs k 0 ≤ most) → (k : ℕ) → get_or xs k 0 ≤ most
 all_small most xs each k =
@@ -37,9 +47,8 @@ set_more xs f k v within below here =
     (λ j h. let ne : j ≢ k = omega arith in get_or-set_other xs k j v 0 ne ∙ below j h)
     (get_or-set_same xs k v 0 within ∙ here)
 
-pub sum_number : (s r i bias : ℕ) (x y : ℤ) → s ≡ r + i → pos r ≡ x +ℤ pos bias → pos i ≡ y +ℤ pos bias → pos s ≡ (x +ℤ y) +ℤ pos (2 * bias)
-sum_number s r i bias x y e f g = omega (arith, ints, e, f, g)
+pub sum_number : (s r i bias : ℕ) (v : Value) → s ≡ r + i → AreOf r i bias v → pos s ≡ (re_of v +ℤ im_of v) +ℤ pos (2 * bias)
+sum_number s r i bias v e of = omega (arith, ints, e, of.re, of.im)
 
-pub difference_number : (s r i bias : ℕ) (x y : ℤ) → s + i ≡ r + 2 * bias → pos r ≡ x +ℤ pos bias → pos i ≡ y +ℤ pos bias
-    → pos s ≡ (x -ℤ y) +ℤ pos (2 * bias)
-difference_number s r i bias x y e f g = omega (arith, ints, e, f, g)
+pub difference_number : (s r i bias : ℕ) (v : Value) → s + i ≡ r + 2 * bias → AreOf r i bias v → pos s ≡ (re_of v -ℤ im_of v) +ℤ pos (2 * bias)
+difference_number s r i bias v e of = omega (arith, ints, e, of.re, of.im)

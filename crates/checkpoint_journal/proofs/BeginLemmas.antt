@@ -5,8 +5,8 @@ use Rattle.dev_traits.specs.Images.{put_at, Torn}
 use Rattle.dev_traits.specs.Told.{WhereTold}
 use Rattle.dev_traits.specs.Moments.{Goes, Runs, IsDurable}
 use Rattle.dev_traits.proofs.Moments.{runs_of, torn_same}
-use Rattle.checkpoint_journal.specs.Runs.{Changes, KeepsFront, KeepsBlank, IsClosedHead, KeepsEpochs}
-use Rattle.checkpoint_journal.proofs.RunLemmas.{changes_of, told_value}
+use Rattle.checkpoint_journal.specs.Runs.{Looks, Changes, KeepsFront, KeepsBlank, IsClosedHead, KeepsEpochs}
+use Rattle.checkpoint_journal.proofs.RunLemmas.{changes_of, changes_looks, changes_both, told_value}
 use Rattle.checkpoint_journal.proofs.ToldLemmas.{told_mapped}
 use Rattle.checkpoint_journal.proofs.WriteLemmas.{blank_closed, blank_closed_front, front_same_one, staged_identity, opened_identity, torn_byte, torn_joined}
 use Rattle.piece_plan.specs.Epochs.{JobSizes, IsJob}
@@ -33,6 +33,19 @@ epochs_stay id job v kept = (λ keeps. keeps, λ keeps. keeps)
 
 pub epochs_joined : (id : List ℕ) (job : JobSizes) (u v w : List ℕ) → KeepsEpochs id job u v → KeepsEpochs id job v w → KeepsEpochs id job u w
 epochs_joined id job u v w first second kept = (λ keeps. (second kept).0 ((first kept).0 keeps), λ keeps. (first kept).1 ((second kept).1 keeps))
+
+module _ {D : Type 0} (seen : D → Option (List ℕ)) (moment : D → ℕ) (may_leave : D → ℕ → List ℕ → Type 0) (id : List ℕ) (job : JobSizes) where
+  -- a run that writes nothing
+  pub epochs_quiet : (old new : D) → Looks seen moment may_leave old new → Changes seen moment may_leave (KeepsEpochs id job) old new
+  epochs_quiet old new looks = changes_looks seen moment may_leave (KeepsEpochs id job) (epochs_stay id job) old new looks
+
+  -- one run after another
+  pub epochs_both : (old mid new : D) → Changes seen moment may_leave (KeepsEpochs id job) old mid → Changes seen moment may_leave (KeepsEpochs id job) mid new → Changes seen moment may_leave (KeepsEpochs id job) old new
+  epochs_both old mid new first second = changes_both seen moment may_leave (KeepsEpochs id job) (epochs_stay id job) (epochs_joined id job) old mid new first second
+
+  -- a run after one that writes nothing
+  pub epochs_after : (old mid new : D) → Looks seen moment may_leave old mid → Changes seen moment may_leave (KeepsEpochs id job) mid new → Changes seen moment may_leave (KeepsEpochs id job) old new
+  epochs_after old mid new looks changes = epochs_both old mid new (epochs_quiet old mid looks) changes
 
 -- two images that keep the same epochs
 pub both_keep : (id : List ℕ) (job : JobSizes) (v image : List ℕ) (kept : List KeptEpoch) → IsIdentity id → IsJob job → Keeps id job v kept → Keeps id job image kept → KeepsEpochs id job v image
@@ -91,3 +104,15 @@ module _ {D : Type 0} (seen : D → Option (List ℕ)) (moment : D → ℕ) (may
       changes_of seen moment may_leave (Torn 0 1) (KeepsEpochs id job) (torn_same 0 1) old new durable (law new) tells runs (λ u v image there first second.
       let head = told_value (seen old) (IsNew id) u there made in
       both_keep id job v image [] named is (torn-Keeps id job u v head.0 head.1 first) (torn-Keeps id job u image head.0 head.1 (torn_joined 0 1 u v image first second)))
+
+  -- one after another
+  pub two_parts : (a b c : D) → IsDurable (seen a) (may_leave a (moment a)) → WhereTold (seen a) (λ image. is_blank image ≡ true) → is_some (seen b) ≡ is_some (seen a) → Runs moment may_leave KeepsBlank a b
+      → IsDurable (seen b) (may_leave b (moment b)) → WhereTold (seen b) IsClosedHead → is_some (seen c) ≡ is_some (seen b) → Runs moment may_leave (KeepsFront 1) b c
+      → Changes seen moment may_leave (KeepsEpochs id job) a c
+  two_parts a b c durable blank tells runs durable' closed tells' runs' =
+      epochs_both seen moment may_leave id job a b c (part_blank a b durable blank tells runs) (part_identity b c durable' closed tells' runs')
+
+  pub three_parts : (a c d : D) → Changes seen moment may_leave (KeepsEpochs id job) a c
+      → IsDurable (seen c) (may_leave c (moment c)) → WhereTold (seen c) (IsNew id) → is_some (seen d) ≡ is_some (seen c) → Goes moment may_leave (Torn 0 1) c d
+      → Changes seen moment may_leave (KeepsEpochs id job) a d
+  three_parts a c d first durable made tells goes = epochs_both seen moment may_leave id job a c d first (part_open c d durable made tells goes)

@@ -13,7 +13,7 @@ use Rattle.corr_model.specs.declared.cell.Cell.{Cell}
 use Rattle.corr_model.specs.Records.{IsCell, cell_text}
 use Rattle.corr_model.proofs.CellLemmas.{same_cell}
 use Rattle.checkpoint_journal.specs.Cells.{body_text, cell_from, cells_at, body_cells}
-use Rattle.checkpoint_journal.proofs.NumberLemmas.{little_from-places}
+use Rattle.journal_image.proofs.Numbers.{little_from-places}
 use Rattle.checkpoint_journal.proofs.ReadCells.{cell_from-same}
 use Rattle.checkpoint_journal.proofs.TextLemmas.{length-body_text}
 

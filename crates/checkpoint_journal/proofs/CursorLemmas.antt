@@ -2,12 +2,11 @@
 use Rattle.std.specs.Prelude.{option_map}
 use Rattle.std.proofs.Common.{◌≡◌, ◌∙◌, inr, ℕ, ◌<◌, List, [], ◌∷◌, ◌++◌, length, Option, None, refl, sym, ap, arith, append-nil}
 use Rattle.dev_traits.specs.Told.{WhereTold}
-use Rattle.dev_traits.specs.Moments.{IsDurable}
 use Rattle.corr_model.specs.declared.cell.Cell.{Cell}
 use Rattle.piece_plan.specs.declared.epoch.EpochPlan.{EpochPlan}
 use Rattle.piece_plan.specs.Epochs.{JobSizes, IsJob}
 use Rattle.plan_places.specs.Places.{place_at}
-use Rattle.checkpoint_journal.proofs.ToldLemmas.{told_both, told_again}
+use Rattle.checkpoint_journal.proofs.ToldLemmas.{told_both}
 use Rattle.journal_image.specs.Image.{Thing, records, Reading, Reads}
 use Rattle.journal_image.proofs.ThingLemmas.{more_due}
 use Rattle.checkpoint_journal.specs.declared.finding.Found.{Found}
@@ -15,6 +14,7 @@ use Rattle.checkpoint_journal.specs.Finding.{due_of}
 use Rattle.checkpoint_journal.specs.Kept.{KeepsMany, ReadsEpoch}
 use Rattle.checkpoint_journal.specs.Next.{HasMore, IsReadBehind, TellsRead, IsPast}
 use Rattle.checkpoint_journal.specs.Standing.{JournalState, journal_state, IsGate, Knows, Stands}
+use Rattle.checkpoint_journal.proofs.GateLemmas.{stands_with}
 use Rattle.checkpoint_journal.proofs.NextLemmas.{fits_next}
 
 -- all records stand before a gate at which no place is due
@@ -68,38 +68,10 @@ module _ (id : List ℕ) (job : JobSizes) (j : JournalState) where
     here = (read_behind image e g cells more knows tells).gate;
   }
 
-  module _ (seen : Option (List ℕ)) (images : List ℕ → Type 0) (stands : Stands id job j seen images) (seen' : Option (List ℕ)) (images' : List ℕ → Type 0) (same : seen' ≡ seen) (durable : IsDurable seen' images') where
-    -- as it was
-    pub stands_looked : Stands id job j seen' images'
-    stands_looked = record {
-      sound = stands.sound;
-      named = stands.named;
-      plan = stands.plan;
-      first = stands.first;
-      version = stands.version;
-      places = stands.places;
-      turned = stands.turned;
-      within = stands.within;
-      before = stands.before;
-      image = told_again seen' seen (Knows id job j) same stands.image;
-      durable = durable;
-    }
-
-    -- with the cursor behind the epoch that was read
-    pub stands_read : (e : EpochPlan) (g : Found) (cells : List Cell) → j.here.kept < j.end.kept → IsPast job j.end.gate j.here e g → WhereTold seen (λ image. TellsRead job image j.here j.end.gate e g cells)
-        → Stands id job (journal_state j.first j.end g j.failed) seen' images'
-    stands_read e g cells more past tells = record {
-      sound = stands.sound;
-      named = stands.named;
-      plan = stands.plan;
-      first = stands.first;
-      version = stands.version;
-      places = (stands.places.0, (stands.places.1.0, past.place));
-      turned = stands.turned;
-      within = omega (arith, past.kept, more);
-      before = past.within;
-      image = told_again seen' seen (Knows id job (journal_state j.first j.end g j.failed)) same
-          (told_both seen (Knows id job j) (λ image. TellsRead job image j.here j.end.gate e g cells) (Knows id job (journal_state j.first j.end g j.failed))
-          (λ image knows told. knows_read image e g cells more knows told) stands.image tells);
-      durable = durable;
-    }
+  -- with the cursor behind the epoch that was read
+  pub stands_read : (seen : Option (List ℕ)) (images : List ℕ → Type 0) (e : EpochPlan) (g : Found) (cells : List Cell) → j.here.kept < j.end.kept → IsPast job j.end.gate j.here e g → WhereTold seen (λ image. TellsRead job image j.here j.end.gate e g cells)
+      → Stands id job j seen images → Stands id job (journal_state j.first j.end g j.failed) seen images
+  stands_read seen images e g cells more past tells stands =
+      stands_with id job j seen seen images images g past.place (omega (arith, past.kept, more)) past.within
+      (told_both seen (Knows id job j) (λ image. TellsRead job image j.here j.end.gate e g cells) (Knows id job (journal_state j.first j.end g j.failed))
+      (λ image knows told. knows_read image e g cells more knows told) stands.image tells) stands.durable stands

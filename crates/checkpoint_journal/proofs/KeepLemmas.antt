@@ -160,6 +160,7 @@ module _ (id : List ℕ) (job : JobSizes) (named : IsIdentity id) (is_job : IsJo
 
       -- one after the other
       pub both_parts : (old mid new : D) → IsDurable (seen old) (may_leave old (moment old)) → WhereTold (seen old) (IsDue id job r t gate bytes) → is_some (seen mid) ≡ is_some (seen old)
-          → Runs moment may_leave (KeepsFront (gate + 1)) old mid → Changes seen moment may_leave (Adds id job r t) mid new → Changes seen moment may_leave (Adds id job r t) old new
-      both_parts old mid new durable due tells runs second =
-          changes_both seen moment may_leave (Adds id job r t) adds_same adds_joined old mid new (part_stage old mid durable due tells runs) second
+          → Runs moment may_leave (KeepsFront (gate + 1)) old mid → seen mid ≡ option_map (put_over (gate + 1) (bytes ++ 0 ∷ [])) (seen old)
+          → (WhereTold (seen mid) (IsStaged id job r t gate bytes) → Changes seen moment may_leave (Adds id job r t) mid new) → Changes seen moment may_leave (Adds id job r t) old new
+      both_parts old mid new durable due tells runs written second =
+          changes_both seen moment may_leave (Adds id job r t) adds_same adds_joined old mid new (part_stage old mid durable due tells runs) (second (told_staged (seen old) (seen mid) due written))

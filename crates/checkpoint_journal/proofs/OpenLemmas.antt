@@ -1,21 +1,29 @@
 -- The mark that an opening writes behind the last record of an old journal.
 use Rattle.std.specs.Prelude.{option_map, is_some}
-use Rattle.std.proofs.Common.{◌≡◌, ◌≢◌, ◌⊎◌, inl, inr, ◌∙◌, ℕ, ◌+◌, ◌<◌, true, false, List, [], ◌∷◌, ◌++◌, length, Option, Some, None, refl, sym, ap, subst, arith, append-nil, length-append}
+use Rattle.std.proofs.Common.{◌≡◌, ◌≢◌, ◌⊎◌, inl, inr, ◌∙◌, ℕ, ◌+◌, ◌<◌, true, false, List, [], ◌∷◌, ◌++◌, length, Option, Some, None, refl, sym, ap, subst, arith}
 use Rattle.dev_traits.specs.Told.{WhereTold}
 use Rattle.dev_traits.specs.Moments.{IsDurable}
+use Rattle.dev_traits.proofs.ToldLemmas.{WhereTold-weaker}
 use Rattle.piece_plan.specs.Epochs.{JobSizes, IsJob}
 use Rattle.plan_places.specs.declared.place.Place.{Place as Spot}
 use Rattle.plan_places.specs.Places.{place_at}
 use Rattle.checkpoint_journal.specs.Runs.{Changes, IsDue, Adds, KeepsEpochs, IsOurs}
 use Rattle.checkpoint_journal.proofs.RunLemmas.{changes_of, told_value}
-use Rattle.checkpoint_journal.proofs.ToldLemmas.{told_both}
-use Rattle.journal_image.specs.Image.{is_blank, Due, Thing, Kept, Turn, mark_text, text, Fits, next, Covers, things_text, records, KeptEpoch, IsIdentity, start, Reading, Reads, Keeps, nothing, more, gate_of}
+use Rattle.checkpoint_journal.proofs.ToldLemmas.{told_both, told_again}
+use Rattle.journal_image.specs.Image.{is_blank, Due, Thing, Kept, Turn, mark_text, records, KeptEpoch, IsIdentity, start, Reading, Reads, Keeps, nothing, more, gate_of}
 use Rattle.journal_image.proofs.ReadingLemmas.{reads-AtGate}
-use Rattle.journal_image.proofs.RowLemmas.{row_text-append}
 use Rattle.checkpoint_journal.specs.declared.finding.Found.{Found}
-use Rattle.checkpoint_journal.specs.Finding.{due_of, IsEnd, IsFound, HasPlace}
+use Rattle.checkpoint_journal.specs.declared.finding.Finding.{Finding}
+use Rattle.checkpoint_journal.specs.declared.finding.Finding.TheVariants.{Blank, Ours}
+use Rattle.checkpoint_journal.specs.Finding.{due_of, IsEnd, IsFound, Finds, HasPlace}
 use Rattle.checkpoint_journal.specs.Opening.{IsReady}
+use Rattle.checkpoint_journal.proofs.GateLemmas.{gate_of-more}
 use Rattle.checkpoint_journal.proofs.BeginLemmas.{both_keep, begun-Reads, reads-Keeps}
+
+-- what was found, in the content as it is told again
+pub told_finds : (id : List ℕ) (job : JobSizes) (old now : Option (List ℕ)) (f e : Finding) → f ≡ e → now ≡ old → WhereTold old (λ image. Finds id job image f) → WhereTold now (λ image. Finds id job image e)
+told_finds id job old now f e is same finds =
+    told_again now old (λ image. Finds id job image e) same (subst (λ (g : Finding). WhereTold old (λ image. Finds id job image g)) is finds)
 
 -- the last gate stands in the file
 pub found_inside : (id : List ℕ) (job : JobSizes) (image : List ℕ) (f : Found) → IsFound id job image f → f.gate < length image
@@ -29,6 +37,15 @@ found_ours id job image f found = (records found.reading.things, reads-Keeps id 
 pub blank_ours : (id : List ℕ) (job : JobSizes) (image : List ℕ) → is_blank image ≡ true → IsOurs id job image
 blank_ours id job image blank = ([], inl (blank, refl))
 
+-- so it was where what it is was found
+pub blank_spared : (id : List ℕ) (job : JobSizes) (old now : Option (List ℕ)) (f : Finding) → f ≡ Blank → now ≡ old → WhereTold now (λ image. Finds id job image f) → WhereTold old (IsOurs id job)
+blank_spared id job old now f is same finds =
+    told_again old now (IsOurs id job) (sym same) (WhereTold-weaker now (λ image. is_blank image ≡ true) (IsOurs id job) (blank_ours id job) (told_finds id job now now f Blank is refl finds))
+
+pub found_spared : (id : List ℕ) (job : JobSizes) (old now : Option (List ℕ)) (f : Finding) (end : Found) → f ≡ Ours end → now ≡ old → WhereTold now (λ image. Finds id job image f) → WhereTold old (IsOurs id job)
+found_spared id job old now f end is same finds =
+    told_again old now (IsOurs id job) (sym same) (WhereTold-weaker now (λ image. IsFound id job image end) (IsOurs id job) (λ image found. found_ours id job image end found) (told_finds id job now now f (Ours end) is refl finds))
+
 -- a journal that was begun just now, and its one gate
 pub begun_found : (id : List ℕ) (job : JobSizes) (image : List ℕ) (f : Found) → image ≡ 1 ∷ (id ++ 0 ∷ []) → f.old ≡ false → f.kept ≡ 0 → due_of f ≡ start job false → f.gate ≡ 1 + length id → IsFound id job image f
 begun_found id job image f is old kept due gate = record {
@@ -39,14 +56,6 @@ begun_found id job image f is old kept due gate = record {
 
 pub begun_ready : (id : List ℕ) (job : JobSizes) (f : Found) → due_of f ≡ start job false → f.gate ≡ 1 + length id → HasPlace job f → IsReady id job f
 begun_ready id job f due gate place = record { place = place; turned = λ some. ap (λ (d : Due). d.ranged) due; behind = omega (arith, gate) }
-
--- the gate behind one thing more
-gate-more : (id : List ℕ) (job : JobSizes) (image : List ℕ) (r : Reading) (t : Thing) → Reads id job image r → gate_of id job (more job r t) ≡ gate_of id job r + (1 + length (text r.due t))
-gate-more id job image r t reads =
-    let before = things_text job (start job r.old) r.things in
-    let row : things_text job (start job r.old) (r.things ++ t ∷ []) ≡ before ++ (1 ∷ text r.due t) =
-    row_text-append (Fits job) text (next job) Covers (start job r.old) r.due r.things (t ∷ []) reads.row.goes ∙ ap (λ (l : List ℕ). before ++ (1 ∷ l)) (append-nil (text r.due t)) in
-    omega (arith, ap length row, length-append before (1 ∷ text r.due t))
 
 -- a mark is no record
 records-mark : (things : List Thing) (mark : List ℕ) → records (things ++ Turn mark ∷ []) ≡ records things
@@ -72,7 +81,7 @@ marked_end : (id : List ℕ) (job : JobSizes) (image : List ℕ) (f : Found) (fo
 marked_end id job image f found = record {
   old = found.end.old;
   kept = found.end.kept ∙ ap length (sym (records-mark found.reading.things mark_text));
-  gate = let further : gate_of id job (more job found.reading (Turn mark_text)) ≡ gate_of id job found.reading + 25 = gate-more id job image found.reading (Turn mark_text) found.reads in
+  gate = let further : gate_of id job (more job found.reading (Turn mark_text)) ≡ gate_of id job found.reading + 25 = gate_of-more id job image found.reading (Turn mark_text) found.reads in
       ap (λ (n : ℕ). n + 25) found.end.gate ∙ sym further;
   due = ap (λ (d : Due). record { ranged = true; place = d.place }) found.end.due;
 }
@@ -130,9 +139,17 @@ module _ (id : List ℕ) (job : JobSizes) (named : IsIdentity id) (is : IsJob jo
 
   -- while the mark is written, each image keeps the same epochs
   module _ {D : Type 0} (seen : D → Option (List ℕ)) (moment : D → ℕ) (may_leave : D → ℕ → List ℕ → Type 0) (law : (d : D) → WhereTold (seen d) (may_leave d (moment d))) where
-    pub part_mark : (gate : ℕ) (old new : D) → IsDurable (seen old) (may_leave old (moment old)) → WhereTold (seen old) (IsDue id job r (Turn mark_text) gate mark_text) → is_some (seen new) ≡ is_some (seen old)
+    part_mark : (gate : ℕ) (old new : D) → IsDurable (seen old) (may_leave old (moment old)) → WhereTold (seen old) (IsDue id job r (Turn mark_text) gate mark_text) → is_some (seen new) ≡ is_some (seen old)
         → Changes seen moment may_leave (Adds id job r (Turn mark_text)) old new → Changes seen moment may_leave (KeepsEpochs id job) old new
     part_mark gate old new durable due tells changes =
         changes_of seen moment may_leave (Adds id job r (Turn mark_text)) (KeepsEpochs id job) (adds_stay (Turn mark_text)) old new durable (law new) tells changes.runs (λ u v image there first second.
         let begun = told_value (seen old) (IsDue id job r (Turn mark_text) gate mark_text) u there due in
         adds_keep u v image begun.reads first second)
+
+-- so they do where the mark behind a last gate is due
+pub mark_keeps : {D : Type 0} (seen : D → Option (List ℕ)) (moment : D → ℕ) (may_leave : D → ℕ → List ℕ → Type 0) (law : (d : D) → WhereTold (seen d) (may_leave d (moment d))) (id : List ℕ) (job : JobSizes) → IsIdentity id → IsJob job
+    → (f : Found) → (f.ranged ≡ false) × (f.next ≢ None) → (old new : D) → WhereTold (seen old) (λ image. IsFound id job image f) → IsDurable (seen old) (may_leave old (moment old)) → is_some (seen new) ≡ is_some (seen old)
+    → ((r : Reading) → WhereTold (seen old) (IsDue id job r (Turn mark_text) f.gate mark_text) → Changes seen moment may_leave (Adds id job r (Turn mark_text)) old new) → Changes seen moment may_leave (KeepsEpochs id job) old new
+mark_keeps seen moment may_leave law id job named is f lacks old new found durable tells changes =
+    let m = mark_due id job f (seen old) lacks.0 lacks.1 found in
+    part_mark id job named is m.reading seen moment may_leave law f.gate old new durable m.due tells (changes m.reading m.due)

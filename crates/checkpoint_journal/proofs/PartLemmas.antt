@@ -2,12 +2,12 @@
 use Rattle.std.proofs.Common.{◌≡◌, ◌∙◌, inl, inr, ℕ, ◌+◌, ◌-◌, ◌<◌, ◌≤◌, false, not, eqb, List, ◌∷◌, length, get_or, take, drop, refl, ap, arith}
 use Rattle.std.proofs.lemmas.Bool.Decides.{nat_tests}
 use Rattle.byteorder.specs.Endian.{little_from}
-use Rattle.journal_image.specs.declared.difference.Differs.{Differs}
 use Rattle.journal_image.specs.Image.{IsIdentity}
-use Rattle.journal_image.specs.Difference.{IsOfFront, end_of}
+use Rattle.journal_image.specs.Difference.{end_of}
 use Rattle.checkpoint_journal.specs.Front.{IsOursAt, OursTo}
 use Rattle.checkpoint_journal.specs.Part.{part_mark, IsOfPart, IsNoPart, AreNumbers}
-use Rattle.checkpoint_journal.proofs.NumberLemmas.{little_from-places, little_from-drop}
+use Rattle.journal_image.proofs.Numbers.{little_from-places}
+use Rattle.checkpoint_journal.proofs.NumberLemmas.{little_from-drop}
 use Rattle.checkpoint_journal.proofs.FrontLemmas.{begun_of, front_begin}
 
 mark_named : IsIdentity part_mark

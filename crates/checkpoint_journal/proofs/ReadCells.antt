@@ -5,7 +5,7 @@ use Rattle.std.proofs.lemmas.List.FromFn.{map-range_with_len_more}
 use Rattle.byteorder.specs.Endian.{little_from}
 use Rattle.corr_model.specs.declared.cell.Cell.{Cell}
 use Rattle.checkpoint_journal.specs.Cells.{cell_from, cells_at}
-use Rattle.checkpoint_journal.proofs.NumberLemmas.{little_from-places}
+use Rattle.journal_image.proofs.Numbers.{little_from-places}
 
 abbrev made : ℤ → ℤ → ℕ → Cell
 made re im count = record { re = re; im = im; count = count }

@@ -27,6 +27,13 @@ module _ {D : Type 0} (seen : D → Option (List ℕ)) (moment : D → ℕ) (may
     runs = runs_both moment may_leave Same (λ v. refl) same_both old mid new first.runs second.runs;
   }
 
+  pub looks_three : (a b c d : D) → Looks seen moment may_leave a b → Looks seen moment may_leave b c → Looks seen moment may_leave c d → Looks seen moment may_leave a d
+  looks_three a b c d first second third = looks_both a c d (looks_both a b c first second) third
+
+  -- such a call, and then such a run
+  pub looks_after : (old mid new : D) → seen mid ≡ seen old → Goes moment may_leave Same old mid → Looks seen moment may_leave mid new → Looks seen moment may_leave old new
+  looks_after old mid new same goes rest = looks_both old mid new (looks_of old mid same goes) rest
+
 -- three runs of calls that only read
 pub stays_joined : {D : Type 0} (stays : D → D → Type 0) → GoesOn stays → (a b c d : D) → stays a b → stays b c → stays c d → stays a d
 stays_joined stays on a b c d first second third = on.both a c d (on.both a b c first second) third

@@ -2,6 +2,8 @@
 use Rattle.std.specs.Prelude.{option_map}
 use Rattle.std.proofs.Common.{◌≡◌, ◌∙◌, inl, inr, ℕ, ◌+◌, ◌-◌, ◌*◌, ◌<◌, ◌≤◌, Bool, true, false, if◌then◌else◌, List, [], ◌∷◌, ◌++◌, length, get_or, take, drop, Option, Some, None, refl, sym, ap, subst, arith, append_assoc, append-nil, length-append}
 use Rattle.std.proofs.lemmas.List.{length-take, length-drop, take_at, get_or-take, get_or-drop, drop_more, take-append-drop}
+use Rattle.dev_traits.specs.Told.{WhereTold}
+use Rattle.checkpoint_journal.proofs.ToldLemmas.{told_again, told_four}
 use Rattle.piece_plan.specs.declared.epoch.EpochPlan.{EpochPlan}
 use Rattle.piece_plan.specs.Epochs.{JobSizes, IsJob, cell_count}
 use Rattle.piece_plan.specs.Order.{Place, place_after}
@@ -17,7 +19,7 @@ use Rattle.journal_image.proofs.RowLemmas.{goes-append, row_text-append}
 use Rattle.journal_image.proofs.FrontLemmas.{length-begin}
 use Rattle.journal_image.proofs.ReadingLemmas.{reads_at}
 use Rattle.checkpoint_journal.specs.declared.finding.Found.{Found}
-use Rattle.checkpoint_journal.specs.Finding.{due_of, IsAt, IsFound, IsOther, record_size}
+use Rattle.checkpoint_journal.specs.Finding.{due_of, IsAt, IsFound, IsOther, StandsBehind, record_size}
 use Rattle.checkpoint_journal.proofs.FrontLemmas.{found_other}
 
 -- the number of bytes of a record
@@ -110,7 +112,7 @@ module _ (id : List ℕ) (job : JobSizes) (image : List ℕ) (f : Found) (w : Is
   }
 
   module _ (p : Spot) (due : f.next ≡ Some p) (there : f.gate < length image) (is_open : get_or image f.gate 0 ≡ 1) where
-    pub step_record : (e : EpochPlan) (g : Found) → IsBehind job f.ranged (place_at p) (drop (f.gate + 1) image) (f.gate + 1) (Record e)
+    pub step_record : (e : EpochPlan) (g : Found) → StandsBehind job f (place_at p) (Record e) image
         → g.kept ≡ f.kept + 1 → g.gate ≡ f.gate + (1 + record_size f.ranged e) → option_map place_at g.next ≡ place_after job e → g.ranged ≡ f.ranged → g.old ≡ f.old → IsAt id job image g
     step_record e g found kept gate place ranged same =
         let body = found.0 in
@@ -120,7 +122,7 @@ module _ (id : List ℕ) (job : JobSizes) (image : List ℕ) (f : Found) (w : Is
         let goes_on : ◌≡◌ {A = Due} (record { ranged = f.ranged; place = place_after job e }) (due_of g) = λ i. record { ranged = sym ranged i; place = sym place i } in
         same_read id job image f.old g.old _ (due_of g) _ g.kept _ g.gate (sym same) goes_on (sym kept) long walked
 
-    pub step_mark : IsBehind job f.ranged (place_at p) (drop (f.gate + 1) image) (f.gate + 1) Mark → IsAt id job image (record f { gate = f.gate + 25; ranged = true })
+    pub step_mark : StandsBehind job f (place_at p) Mark image → IsAt id job image (record f { gate = f.gate + 25; ranged = true })
     step_mark found =
         let mark = found.0 in
         let stands : StandsFirst job (due_of f) (drop (f.gate + 1) image) (Turn mark) = subst (λ (d : Due). StandsFirst job d (drop (f.gate + 1) image) (Turn mark)) (same_due f.ranged f.next p due) found.1 in
@@ -130,7 +132,7 @@ module _ (id : List ℕ) (job : JobSizes) (image : List ℕ) (f : Found) (w : Is
         let turned : Due = record { ranged = true; place = option_map place_at f.next } in
         subst (λ (k : ℕ). IsReadTo id job image f.old turned k (f.gate + 25)) same (subst (λ (n : ℕ). IsReadTo id job image f.old turned (f.kept + 0) (f.gate + n)) size walked)
 
-    pub step_fault : (d : Differs) → IsIdentity id → IsJob job → take (1 + length id) image ≡ begin id f.old → IsBehind job f.ranged (place_at p) (drop (f.gate + 1) image) (f.gate + 1) (Fault d) → IsOther id job image d
+    pub step_fault : (d : Differs) → IsIdentity id → IsJob job → take (1 + length id) image ≡ begin id f.old → StandsBehind job f (place_at p) (Fault d) image → IsOther id job image d
     step_fault d named is begun fault =
         let b = begins id image f.old named begun in
         let len : f.gate + 1 + length (drop (f.gate + 1) image) ≡ length image = omega (arith, length-drop (f.gate + 1) image) in
@@ -150,3 +152,23 @@ module _ (id : List ℕ) (job : JobSizes) (image : List ℕ) (f : Found) (w : Is
       let inside = read_inside id job image f.old (due_of f) f.kept f.gate w in
       subst (λ (n : ℕ). IsOther id job image (end_of n)) (sym there)
       (found_other id job image (end_of (length image)) named is b.0 b.1 (inr record { old = f.old; due = due_of f; kept = f.kept; at = f.gate; read = w; fault = inl (omega arith, refl) }))
+
+-- an open gate of an image of this length, with what stands behind it and before it
+pub record IsSeen (id : List ℕ) (job : JobSizes) (f : Found) (p : Spot) (len gate : ℕ) (b : Behind) (image : List ℕ) : Type 0 where
+  pub length_is : len ≡ length image
+  pub byte : gate ≡ get_or image f.gate 0
+  pub behind : StandsBehind job f (place_at p) b image
+  pub before : IsAt id job image f
+
+-- so it is seen, by reads that write nothing: first the gate's byte, then what stands behind it
+pub told_seen : (id : List ℕ) (job : JobSizes) (f : Found) (p : Spot) (len gate : ℕ) (b e : Behind) (first second third : Option (List ℕ)) → second ≡ first → third ≡ second → b ≡ e
+    → WhereTold first (λ image. len ≡ length image) → WhereTold second (λ image. gate ≡ get_or image f.gate 0)
+    → WhereTold third (StandsBehind job f (place_at p) b) → WhereTold first (λ image. IsAt id job image f)
+    → WhereTold first (IsSeen id job f p len gate e)
+told_seen id job f p len gate b e first second third same same' is long byte behind before =
+    told_four first (λ image. len ≡ length image) (λ image. gate ≡ get_or image f.gate 0) (StandsBehind job f (place_at p) e) (λ image. IsAt id job image f) (IsSeen id job f p len gate e)
+    (λ image long byte behind before. record { length_is = long; byte = byte; behind = behind; before = before })
+    long
+    (told_again first second (λ image. gate ≡ get_or image f.gate 0) (sym same) byte)
+    (told_again first third (StandsBehind job f (place_at p) e) (sym (same' ∙ same)) (subst (λ (a : Behind). WhereTold third (StandsBehind job f (place_at p) a)) is behind))
+    before

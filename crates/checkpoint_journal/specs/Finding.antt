@@ -1,9 +1,12 @@
 -- What a file is found to be.
-use Rattle.std.specs.Prelude.{◌≡◌, ℕ, ◌+◌, ◌*◌, ◌≤◌, ◌<◌, ◌^◌, Bool, true, false, if◌then◌else◌, List, length, option_map, IfSome}
+use Rattle.std.specs.Prelude.{◌≡◌, ℕ, ◌+◌, ◌*◌, ◌≤◌, ◌<◌, ◌^◌, Bool, true, false, if◌then◌else◌, List, length, drop, option_map, IfSome}
 use Rattle.piece_plan.specs.declared.epoch.EpochPlan.{EpochPlan}
 use Rattle.piece_plan.specs.Epochs.{JobSizes, cell_count}
+use Rattle.piece_plan.specs.Order.{Place}
 use Rattle.plan_places.specs.Places.{place_at, IsPlace}
 use Rattle.journal_image.specs.declared.difference.Differs.{Differs}
+use Rattle.journal_image.specs.declared.finding.Behind.{Behind}
+use Rattle.journal_image.specs.Finding.{IsBehind}
 use Rattle.journal_image.specs.Image.{is_blank, Due, records, Reading, Reads, gate_of}
 use Rattle.journal_image.specs.Difference.{IsReadTo, IsDifference}
 use Rattle.checkpoint_journal.specs.declared.finding.Found.{Found}
@@ -42,6 +45,10 @@ abbrev pub Finds : List ℕ → JobSizes → List ℕ → Finding → Type 0
 Finds id job image Blank = is_blank image ≡ true
 Finds id job image (Ours f) = IsFound id job image f
 Finds id job image (Other d) = IsOther id job image d
+
+-- this stands behind a gate at which a place is due
+abbrev pub StandsBehind : JobSizes → Found → Place → Behind → List ℕ → Type 0
+StandsBehind job f p b image = IsBehind job f.ranged p (drop (f.gate + 1) image) (f.gate + 1) b
 
 -- a gate below 2^63 with fewer epochs before it, and behind it a place of the job or the job's end
 pub record HasPlace (job : JobSizes) (f : Found) : Type 0 where

@@ -1,5 +1,8 @@
 -- The front of a file, compared with the identity of a job in parts.
-use Rattle.std.specs.Prelude.{◌≡◌, ◌⊎◌, ℕ, ◌+◌, ◌-◌, ◌<◌, ◌≤◌, List, length, slice_index, Option, Some, None}
+use Rattle.std.specs.Prelude.{◌≡◌, ◌⊎◌, ℕ, ◌+◌, ◌-◌, ◌<◌, ◌≤◌, ◌^◌, true, List, length, slice_index, Option, Some, None, IfSome}
+use Rattle.journal_image.specs.declared.difference.Differs.{Differs}
+use Rattle.journal_image.specs.Image.{is_blank}
+use Rattle.journal_image.specs.Difference.{IsOfFront}
 
 -- a byte at place k of an identity is this one, or, for the version, an old journal's
 abbrev pub IsOursByte : ℕ → ℕ → ℕ → Type 0
@@ -22,15 +25,24 @@ pub record OursUpTo (id image : List ℕ) (at : ℕ) : Type 0 where
   pub before : OursTo id image (at - 1)
   pub other : at < length image → ¬ IsOursAt id image (at - 1)
 
--- the first place at which the file differs, where it does
-abbrev pub FindsFirst : List ℕ → List ℕ → Option ℕ → Type 0
-FindsFirst id image None = OursTo id image (length id)
-FindsFirst id image (Some at) = OursUpTo id image at
+-- a file whose head gate is open, and its length
+pub record IsBegun (image : List ℕ) (len : ℕ) : Type 0 where
+  pub length_is : len ≡ length image
+  pub is_open : slice_index image 0 ≡ 1
 
--- a place inside the identity
-abbrev pub IsInside : List ℕ → Option ℕ → Type 0
-IsInside id None = Unit {0}
-IsInside id (Some at) = (1 ≤ at) × (at ≤ length id)
+-- the length where it is, or a blank file
+abbrev pub FindsHead : List ℕ → Option ℕ → Type 0
+FindsHead image None = is_blank image ≡ true
+FindsHead image (Some len) = IsBegun image len
+
+-- a length of more than the head gate
+abbrev pub IsLong : Option ℕ → Type 0
+IsLong len = IfSome len (λ n. (1 < n) × (n < 2 ^ 63))
+
+-- the first place at which the file differs, with the two bytes there, where it does
+abbrev pub FindsFirst : List ℕ → List ℕ → Option Differs → Type 0
+FindsFirst id image None = OursTo id image (length id)
+FindsFirst id image (Some d) = IsOfFront id image d
 
 -- So many bytes of a part, which begins at place `first` of the identity, stand in the image. Behind them stands another
 -- byte, or the image or the part ends.

@@ -1,10 +1,11 @@
 -- The next record behind a gate of a journal, as a read goes to it.
-use Rattle.std.specs.Prelude.{◌≡◌, ℕ, ◌+◌, ◌<◌, ◌≤◌, Bool, if◌then◌else◌, List, ◌∷◌, length, take, slice_get, Some, option_map}
+use Rattle.std.specs.Prelude.{◌≡◌, ℕ, ◌+◌, ◌<◌, ◌≤◌, ◌^◌, Bool, if◌then◌else◌, List, ◌∷◌, length, take, slice_get, Some, option_map}
 use Rattle.corr_model.specs.declared.cell.Cell.{Cell}
 use Rattle.piece_plan.specs.declared.epoch.EpochPlan.{EpochPlan}
-use Rattle.piece_plan.specs.Epochs.{JobSizes, IsEpoch, IsOfPlan, cell_count}
+use Rattle.piece_plan.specs.Epochs.{JobSizes, IsJob, IsEpoch, IsOfPlan, cell_count}
 use Rattle.piece_plan.specs.Order.{Place, place_of, place_after}
-use Rattle.plan_places.specs.Places.{place_at}
+use Rattle.plan_places.specs.declared.place.Place.{Place as Spot}
+use Rattle.plan_places.specs.Places.{place_at, IsPlace}
 use Rattle.checkpoint_journal.specs.Cells.{body_cells}
 use Rattle.journal_image.specs.declared.finding.Behind.{Behind}
 use Rattle.journal_image.specs.declared.finding.Behind.TheVariants.{Record, Mark, Fault}
@@ -18,6 +19,16 @@ pub record HasMore (id : List ℕ) (job : JobSizes) (image : List ℕ) (r : Read
   pub reads : Reads id job image r
   pub gate : IsGate id job r f
   pub more : f.kept < length (records r.things)
+
+-- a gate of a journal at which this place is due, where the journal's last gate stands at byte `last` and a record is still to come
+pub record IsBeforeNext (job : JobSizes) (f : Found) (p : Spot) (last : ℕ) : Type 0 where
+  pub plan : IsJob job
+  pub place : IsPlace job (place_at p)
+  pub due : f.next ≡ Some p
+  pub many : f.kept ≤ f.gate
+  pub before : f.gate ≤ last
+  pub more : f.kept < last
+  pub short : last < 2 ^ 63
 
 -- directly behind a gate stands the record of this epoch
 pub record IsRecord (id : List ℕ) (job : JobSizes) (r : Reading) (f : Found) (e : EpochPlan) : Type 0 where

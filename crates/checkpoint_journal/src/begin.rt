@@ -23,8 +23,7 @@ pub(crate) fn begin<D: Disk>(disk: &mut D, id: &[u8]) -> Result<(), Failed>
 {
     close_head(disk)?;
     write_identity(disk, id)?;
-    write_synced(disk, 0, &[1])?;
-    Ok(())
+    write_synced(disk, 0, &[1])
 }
 
 // Leaves of a blank file a closed head gate alone.

@@ -1,7 +1,8 @@
 //! The cursor of a journal: from a gate over the next record to the gate behind it.
 ghost use Rattle.std.specs.Prelude.{◌≡◌, ◌+◌, ◌≤◌, ◌<◌, ◌^◌, min, length, IfOk, Some};
 ghost use Rattle.dev_traits.specs.{Fault.{Counts}, Told.{WhereTold}};
-ghost use Rattle.checkpoint_journal.specs.{Runs.{Looks}, Kept.{HoldsAny}, Next.{TellsThing, IsEpochOf, IsFrom, IsBeside, TellsRecord, IsPast, TellsRead, before_body}, Listed.{IsPlaced, TellsListed}};
+ghost use Rattle.checkpoint_journal.specs.{Runs.{Looks}, Kept.{HoldsAny}, Next.{IsBeforeNext, TellsThing, IsEpochOf, IsFrom, IsBeside, TellsRecord, IsPast, TellsRead, before_body}};
+ghost use Rattle.checkpoint_journal.specs.Listed.{IsPlaced, TellsListed};
 ghost use Rattle.piece_plan.specs.Epochs.{IsJob};
 ghost use Rattle.plan_places.specs.Places.{place_at, IsPlace};
 ghost use Rattle.journal_image.specs.Finding.{HasEpoch};
@@ -34,13 +35,7 @@ pub(crate) fn read_record<D: Disk>(
     out: &mut [Cell],
     buffer: &mut [u8],
 ) -> Result<EpochGate, Failed>
-    requires job { IsJob plan.now }
-    requires place { IsPlace plan.now (place_at place.now) }
-    requires due { here.now.next ≡ Some place.now }
-    requires many { here.now.kept ≤ here.now.gate }
-    requires before { here.now.gate ≤ last }
-    requires more { here.now.kept < last }
-    requires short { last < 2 ^ 63 }
+    requires next { IsBeforeNext plan.now here.now place.now last }
     requires room { HoldsAny plan.now out.old }
     requires buffer { length buffer.old ≡ 960000 }
     ensures epoch { IfOk result (λ read. IsFrom plan.now (place_at place.now) read.epoch) }
@@ -69,13 +64,7 @@ pub(crate) fn pass_record<D: Disk>(
     place: &Place,
     last: u64,
 ) -> Result<(KeptAt, Found), Failed>
-    requires job { IsJob plan.now }
-    requires place { IsPlace plan.now (place_at place.now) }
-    requires due { here.now.next ≡ Some place.now }
-    requires many { here.now.kept ≤ here.now.gate }
-    requires before { here.now.gate ≤ last }
-    requires more { here.now.kept < last }
-    requires short { last < 2 ^ 63 }
+    requires next { IsBeforeNext plan.now here.now place.now last }
     ensures placed { IfOk result (λ passed. IsPlaced plan.now passed.0) }
     ensures past { IfOk result (λ passed. IsPast plan.now last here.now passed.0.epoch passed.1) }
     ensures told { IfOk result (λ passed. WhereTold (D.seen disk.old)
@@ -101,11 +90,7 @@ fn next_record<D: Disk>(
     place: &Place,
     last: u64,
 ) -> Result<EpochGate, Failed>
-    requires job { IsJob plan.now }
-    requires place { IsPlace plan.now (place_at place.now) }
-    requires due { here.now.next ≡ Some place.now }
-    requires before { here.now.gate ≤ last }
-    requires short { last < 2 ^ 63 }
+    requires next { IsBeforeNext plan.now here.now place.now last }
     ensures epoch { IfOk result (λ next. IsFrom plan.now (place_at place.now) next.epoch) }
     ensures gate { IfOk result (λ next. IsBeside last here.now next.gate) }
     ensures told { IfOk result (λ next. WhereTold (D.seen disk.old)

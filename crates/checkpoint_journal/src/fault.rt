@@ -1,10 +1,6 @@
 //! Why a journal is not opened, written or read.
-ghost use Rattle.std.specs.Prelude.{◌≡◌};
-ghost use Rattle.checkpoint_journal.specs.{declared.fault.OpenFault.TheVariants.{Memory}, declared.fault.ListFault.TheVariants.{Disk as DiskOfList, Memory as MemoryOfList}};
 
-use dev_traits::Failed;
 use journal_image::Differs;
-use std::alloc::AllocError;
 use thiserror::Error;
 
 /// Why a journal is not opened.
@@ -19,14 +15,6 @@ pub enum OpenFault {
     /// There was no memory for the buffer.
     #[error("out of memory")]
     Memory,
-}
-
-impl From<AllocError> for OpenFault {
-    ghost from_gives = { λ _ fault. fault ≡ Memory };
-
-    fn from(_fault: AllocError) -> OpenFault {
-        OpenFault::Memory
-    }
 }
 
 /// Why an epoch is not appended.
@@ -54,20 +42,4 @@ pub enum ListFault {
     /// There was no memory for the list.
     #[error("out of memory")]
     Memory,
-}
-
-impl From<Failed> for ListFault {
-    ghost from_gives = { λ _ fault. fault ≡ DiskOfList };
-
-    fn from(_fault: Failed) -> ListFault {
-        ListFault::Disk
-    }
-}
-
-impl From<AllocError> for ListFault {
-    ghost from_gives = { λ _ fault. fault ≡ MemoryOfList };
-
-    fn from(_fault: AllocError) -> ListFault {
-        ListFault::Memory
-    }
 }

@@ -1,28 +1,27 @@
 //! The identity in a file's front, compared with that of a job.
 ghost use Rattle.std.specs.Prelude.{◌≡◌, ◌≢◌, ◌+◌, ◌-◌, ◌≤◌, ◌<◌, ◌^◌, ℕ, length, slice_index, IfOk, true, false};
 ghost use Rattle.dev_traits.specs.{Fault.{Counts}, Told.{WhereTold}};
-ghost use Rattle.checkpoint_journal.specs.{Runs.{Looks}, Front.{IsOursByte, OursUpTo, FindsFirst, IsInside, Compares}};
+ghost use Rattle.checkpoint_journal.specs.{Runs.{Looks}, Front.{IsOursByte, OursUpTo, FindsFirst, IsBegun, Compares}};
 ghost use Rattle.journal_image.specs.{Image.{IsIdentity}, Difference.{IsOfFront}};
 
 use crate::reader::{byte_at, load};
 use dev_traits::{Disk, Failed};
 use journal_image::Differs;
 
-// The first place at which a file, of this length, has another byte than the identity. For the version an old journal's
-// is no other one.
+// The first place at which a file of this length, whose head gate is open, has another byte than the identity, and the two
+// bytes there. For the version an old journal's is no other one.
 pub(crate) fn first_difference<D: Disk>(
     disk: &mut D,
     id: &[u8],
     len: u64,
     buffer: &mut [u8],
-) -> Result<Option<u64>, Failed>
+) -> Result<Option<Differs>, Failed>
     requires short { length id.now < 2 ^ 62 }
     requires buffer { 0 < length buffer.old }
     requires some { 1 ≤ len }
-    requires length { WhereTold (D.seen disk.old) (λ image. len ≡ length image) }
+    requires begun { WhereTold (D.seen disk.old) (λ image. IsBegun image len) }
     ensures first { IfOk result
-        (λ at. WhereTold (D.seen disk.old) (λ image. FindsFirst id.now image at)) }
-    ensures inside { IfOk result (IsInside id.now) }
+        (λ d. WhereTold (D.seen disk.old) (λ image. FindsFirst id.now image d)) }
     ensures looks { Looks D.seen D.moment D.may_leave disk.old disk.new }
     ensures stays { D.stays disk.old disk.new }
     ensures counts { Counts (D.faults disk.old) (D.faults disk.new) result }
@@ -32,7 +31,8 @@ pub(crate) fn first_difference<D: Disk>(
         let count = buffer.len().min(id.len() - done);
         let same = compare(disk, done as u64, &id[done..done + count], len, buffer)?;
         if same < count {
-            return Ok(Some(1 + (done + same) as u64));
+            let d = difference(disk, id, len, 1 + (done + same) as u64)?;
+            return Ok(Some(d));
         }
         done += count;
     }
@@ -95,16 +95,10 @@ fn is_ours(k: u64, byte: u8, ours: u8) -> bool
 }
 
 // The bytes at the first place that differs.
-pub(crate) fn difference<D: Disk>(
-    disk: &mut D,
-    id: &[u8],
-    len: u64,
-    at: u64,
-) -> Result<Differs, Failed>
+fn difference<D: Disk>(disk: &mut D, id: &[u8], len: u64, at: u64) -> Result<Differs, Failed>
     requires inside { (1 ≤ at) × (at ≤ length id.now) }
-    requires length { WhereTold (D.seen disk.old) (λ image. len ≡ length image) }
+    requires begun { WhereTold (D.seen disk.old) (λ image. IsBegun image len) }
     requires first { WhereTold (D.seen disk.old) (λ image. OursUpTo id.now image at) }
-    requires begun { WhereTold (D.seen disk.old) (λ image. slice_index image 0 ≡ 1) }
     ensures front { IfOk result
         (λ d. WhereTold (D.seen disk.old) (λ image. IsOfFront id.now image d)) }
     ensures looks { Looks D.seen D.moment D.may_leave disk.old disk.new }

@@ -47,8 +47,12 @@ pub fn list_kept<D: Disk>(
         let Some(place) = here.next else {
             return Ok(kept);
         };
-        let passed = pass_record(disk, plan, &here, &place, last.gate)?;
-        add(&mut kept, passed.0)?;
+        let Ok(passed) = pass_record(disk, plan, &here, &place, last.gate) else {
+            return Err(ListFault::Disk);
+        };
+        let Ok(()) = add(&mut kept, passed.0) else {
+            return Err(ListFault::Memory);
+        };
         here = passed.1;
     }
     Ok(kept)

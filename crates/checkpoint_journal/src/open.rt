@@ -45,7 +45,9 @@ impl Journal {
         ensures fault { IfErr result (CountsFault id.now plan.now (D.seen disk.old) (D.faults disk.old) (D.faults disk.new)) }
     {
         let bytes = id.bytes();
-        let mut buffer = make_buffer(alloc)?;
+        let Ok(mut buffer) = make_buffer(alloc) else {
+            return Err(OpenFault::Memory);
+        };
         let opening = open(disk, bytes, plan, &mut buffer);
         journal_of(plan, bytes, opening, buffer)
     }
@@ -67,7 +69,9 @@ impl Journal {
         ensures fault { IfErr result (CountsLook (D.faults disk.old) (D.faults disk.new)) }
     {
         let bytes = id.bytes();
-        let mut buffer = make_buffer(alloc)?;
+        let Ok(mut buffer) = make_buffer(alloc) else {
+            return Err(OpenFault::Memory);
+        };
         let found = find(disk, bytes, plan, &mut buffer);
         seen_of(plan, found)
     }

@@ -1,10 +1,10 @@
 //! Which part of a job a file is the journal of, read from its front.
 ghost use Rattle.std.specs.Prelude.{◌≡◌, ◌<◌, ◌≤◌, length, take, slice_index, ◌∷◌, IfOk};
 ghost use Rattle.dev_traits.specs.{Fault.{Counts}, Told.{WhereTold}};
-ghost use Rattle.checkpoint_journal.specs.{Runs.{Looks}, Part.{FindsPart, AreNumbers}};
+ghost use Rattle.checkpoint_journal.specs.{Runs.{Looks}, Front.{IsBegun}, Part.{FindsPart, AreNumbers}};
 
-use crate::front::{difference, first_difference};
-use crate::reader::{byte_at, load};
+use crate::front::first_difference;
+use crate::reader::{begun_len, load};
 use byteorder::{ByteOrder, LittleEndian};
 use dev_traits::{Disk, Failed};
 use journal_image::Differs;
@@ -26,22 +26,16 @@ pub fn find_part<D: Disk>(disk: &mut D) -> Result<PartFound, Failed>
     ensures stays { D.stays disk.old disk.new }
     ensures counts { Counts (D.faults disk.old) (D.faults disk.new) result }
 {
-    let len = disk.len()?;
-    if len <= 1 {
-        return Ok(PartFound::Blank);
+    match begun_len(disk)? {
+        None => Ok(PartFound::Blank),
+        Some(len) => part_begun(disk, len),
     }
-    let head = byte_at(disk, 0)?;
-    if head != 1 {
-        return Ok(PartFound::Blank);
-    }
-    part_begun(disk, len)
 }
 
 // Which part a file of this length says that it is of, whose head gate is open.
 fn part_begun<D: Disk>(disk: &mut D, len: u64) -> Result<PartFound, Failed>
     requires some { 1 < len }
-    requires length { WhereTold (D.seen disk.old) (λ image. len ≡ length image) }
-    requires begun { WhereTold (D.seen disk.old) (λ image. slice_index image 0 ≡ 1) }
+    requires begun { WhereTold (D.seen disk.old) (λ image. IsBegun image len) }
     ensures finds { IfOk result
         (λ found. WhereTold (D.seen disk.old) (λ image. FindsPart image found)) }
     ensures looks { Looks D.seen D.moment D.may_leave disk.old disk.new }
@@ -51,10 +45,7 @@ fn part_begun<D: Disk>(disk: &mut D, len: u64) -> Result<PartFound, Failed>
     let mark = b"VLBISHD1";
     let mut buffer = [0; 8];
     match first_difference(disk, mark, len, &mut buffer)? {
-        Some(at) => {
-            let d = difference(disk, mark, len, at)?;
-            Ok(PartFound::Other(d))
-        }
+        Some(d) => Ok(PartFound::Other(d)),
         None => {
             if len < 25 {
                 return Ok(PartFound::Other(Differs {

@@ -1,12 +1,12 @@
 //! What a file is, read from its front. Nothing is written.
 ghost use Rattle.std.specs.Prelude.{◌≡◌, ◌+◌, ◌≤◌, ◌<◌, ◌^◌, ℕ, length, take, slice_index, EachIndex, IfOk, OnOk};
 ghost use Rattle.dev_traits.specs.{Fault.{Counts}, Told.{WhereTold}};
-ghost use Rattle.checkpoint_journal.specs.{Runs.{Looks}, Front.{OursUpTo}, Finding.{Finds, FindsPlace, FindsBehind, IsOther}};
+ghost use Rattle.checkpoint_journal.specs.{Runs.{Looks}, Front.{IsBegun, FindsHead, IsLong}, Finding.{Finds, FindsPlace, FindsBehind, IsOther}};
 ghost use Rattle.piece_plan.specs.Epochs.{IsJob};
 ghost use Rattle.journal_image.specs.Image.{IsIdentity};
 
 use crate::finding::Finding;
-use crate::front::{difference, first_difference};
+use crate::front::first_difference;
 use crate::walk::walk;
 use dev_traits::{Disk, Failed};
 use piece_plan::JobPlan;
@@ -47,6 +47,25 @@ pub(crate) fn byte_at<D: Disk>(disk: &mut D, at: u64) -> Result<u8, Failed>
     Ok(buf[0])
 }
 
+// The length of a file whose head gate is open, none where the file is blank.
+pub(crate) fn begun_len<D: Disk>(disk: &mut D) -> Result<Option<u64>, Failed>
+    ensures looks { Looks D.seen D.moment D.may_leave disk.old disk.new }
+    ensures stays { D.stays disk.old disk.new }
+    ensures head { IfOk result (λ len. WhereTold (D.seen disk.old) (λ image. FindsHead image len)) }
+    ensures long { IfOk result IsLong }
+    ensures counts { Counts (D.faults disk.old) (D.faults disk.new) result }
+{
+    let len = disk.len()?;
+    if len <= 1 {
+        return Ok(None);
+    }
+    let head = byte_at(disk, 0)?;
+    if head != 1 {
+        return Ok(None);
+    }
+    Ok(Some(len))
+}
+
 /// What the file on a disk is, as a journal of the job with this identity and plan: blank, of the job, or another with
 /// the first byte that differs. An identity has fewer than 2^62 bytes and is compared in parts of the buffer's length.
 /// It fails where a call of the disk does.
@@ -69,45 +88,11 @@ pub fn find<D: Disk>(
     ensures counts { Counts (D.faults disk.old) (D.faults disk.new) result }
 {
     let _epochs = plan.epochs();
-    let len = disk.len()?;
-    if len <= 1 {
+    let Some(len) = begun_len(disk)? else {
         return Ok(Finding::Blank);
-    }
-    let head = byte_at(disk, 0)?;
-    if head != 1 {
-        return Ok(Finding::Blank);
-    }
-    find_begun(disk, id, plan, len, buffer)
-}
-
-// What a file of this length is whose head gate is open.
-fn find_begun<D: Disk>(
-    disk: &mut D,
-    id: &[u8],
-    plan: &JobPlan,
-    len: u64,
-    buffer: &mut [u8],
-) -> Result<Finding, Failed>
-    requires identity { IsIdentity id.now }
-    requires short { length id.now < 2 ^ 62 }
-    requires job { IsJob plan.now }
-    requires buffer { 0 < length buffer.old }
-    requires len { (1 < len) × (len < 2 ^ 63) }
-    requires length { WhereTold (D.seen disk.old) (λ image. len ≡ length image) }
-    requires begun { WhereTold (D.seen disk.old) (λ image. slice_index image 0 ≡ 1) }
-    ensures finds { IfOk result
-        (λ found. WhereTold (D.seen disk.old) (λ image. Finds id.now plan.now image found)) }
-    ensures place { IfOk result (FindsPlace plan.now) }
-    ensures behind { IfOk result (FindsBehind id.now) }
-    ensures looks { Looks D.seen D.moment D.may_leave disk.old disk.new }
-    ensures stays { D.stays disk.old disk.new }
-    ensures counts { Counts (D.faults disk.old) (D.faults disk.new) result }
-{
+    };
     match first_difference(disk, id, len, buffer)? {
-        Some(at) => {
-            let d = difference(disk, id, len, at)?;
-            Ok(Finding::Other(d))
-        }
+        Some(d) => Ok(Finding::Other(d)),
         None => {
             // the version is the identity's here, or that of an old journal
             let version = byte_at(disk, 8)?;

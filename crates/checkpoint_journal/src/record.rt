@@ -2,8 +2,7 @@
 ghost use Rattle.std.specs.Prelude.{◌≡◌, ℕ, ◌++◌, ◌+◌, ◌*◌, ◌≤◌, ◌<◌, ◌^◌, length, take, drop, OnOk, is_some, option_map};
 ghost use Rattle.dev_traits.specs.{Fault.{Counts}, Told.{WhereTold}, Moments.{Runs}};
 ghost use Rattle.corr_model.specs.Records.{cell_text};
-ghost use Rattle.piece_plan.specs.Epochs.{IsOfPlan, cell_count};
-ghost use Rattle.checkpoint_journal.specs.{Cells.{body_text}, Runs.{KeepsFront, put_over}};
+ghost use Rattle.checkpoint_journal.specs.{Cells.{body_text}, Runs.{KeepsFront, put_over}, Staged.{FitsAt}};
 ghost use Rattle.journal_image.specs.Image.{range_text};
 
 use atomic_sums::EpochSums;
@@ -24,10 +23,7 @@ pub(crate) fn write_record<D: Disk>(
     sums: &EpochSums,
     buffer: &mut [u8],
 ) -> Result<(), Failed>
-    requires of_plan { IsOfPlan e.now }
-    requires cells { length sums.now.cells ≡ cell_count e.now }
-    requires room { at + (28 + 24 * length sums.now.cells) + 1 < 2 ^ 63 }
-    requires buffer { length buffer.old ≡ 960000 }
+    requires fits { FitsAt e.now sums.now.cells at buffer.old }
     requires within { WhereTold (D.seen disk.old) (λ image. at ≤ length image) }
     ensures written { OnOk result
         (D.seen disk.new ≡ option_map (put_over at (range_text e.now ++ body_text sums.now.cells)) (D.seen disk.old)) }

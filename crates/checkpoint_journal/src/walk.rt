@@ -1,10 +1,10 @@
 //! The walk along the gates of a journal.
-ghost use Rattle.std.specs.Prelude.{◌≡◌, ◌+◌, ◌≤◌, ◌<◌, ◌^◌, ℕ, length, take, drop, option_map, IfOk, IfSome, true};
+ghost use Rattle.std.specs.Prelude.{◌≡◌, ◌+◌, ◌≤◌, ◌<◌, ◌^◌, ℕ, length, take, option_map, IfOk, IfSome, true};
 ghost use Rattle.dev_traits.specs.{Fault.{Counts}, Told.{WhereTold}};
-ghost use Rattle.checkpoint_journal.specs.{Runs.{Looks}, Finding.{Finds, FindsPlace, FindsBehind, HasPlace, due_of, record_size}};
+ghost use Rattle.checkpoint_journal.specs.{Runs.{Looks}, Finding.{Finds, FindsPlace, FindsBehind, StandsBehind, HasPlace, due_of, record_size}};
 ghost use Rattle.piece_plan.specs.{Epochs.{IsJob, IsEpoch, IsOfPlan}, Order.{place_after}};
 ghost use Rattle.plan_places.specs.Places.{place_at, IsPlace};
-ghost use Rattle.journal_image.specs.{Image.{IsIdentity, MayBeOld, begin, start}, Finding.{IsBehind, HasEpoch}};
+ghost use Rattle.journal_image.specs.{Image.{IsIdentity, MayBeOld, begin, start}, Finding.{HasEpoch}};
 
 use crate::finding::{Finding, Found};
 use crate::reader::{byte_at, load};
@@ -90,8 +90,7 @@ pub(crate) fn look_behind<D: Disk>(
     requires len { len < 2 ^ 63 }
     requires length { WhereTold (D.seen disk.old) (λ image. len ≡ length image) }
     ensures behind { IfOk result
-        (λ b. WhereTold (D.seen disk.old)
-        (λ image. IsBehind plan.now here.now.ranged (place_at place.now) (drop (here.now.gate + 1) image) (here.now.gate + 1) b)) }
+        (λ b. WhereTold (D.seen disk.old) (StandsBehind plan.now here.now (place_at place.now) b)) }
     ensures epoch { IfOk result (HasEpoch plan.now) }
     ensures looks { Looks D.seen D.moment D.may_leave disk.old disk.new }
     ensures stays { D.stays disk.old disk.new }

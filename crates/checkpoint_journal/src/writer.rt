@@ -2,8 +2,8 @@
 //! of its own.
 ghost use Rattle.std.specs.Prelude.{◌≡◌, ℕ, List, [], ◌∷◌, ◌++◌, ◌+◌, ◌*◌, ◌≤◌, ◌<◌, ◌^◌, length, take, OnOk, is_some, option_map};
 ghost use Rattle.dev_traits.specs.{Fault.{Counts}, Told.{WhereTold}, Images.{put_at, Torn, Shorn}, Moments.{Goes, Runs, IsDurable}};
-ghost use Rattle.piece_plan.specs.Epochs.{JobSizes, IsJob, IsOfPlan, cell_count};
-ghost use Rattle.checkpoint_journal.specs.{Cells.{body_text}, Runs.{Changes, KeepsFront, put_over, IsDue, Adds}, Staged.{IsStaged}};
+ghost use Rattle.piece_plan.specs.Epochs.{JobSizes, IsJob};
+ghost use Rattle.checkpoint_journal.specs.{Cells.{body_text}, Runs.{Changes, KeepsFront, put_over, IsDue, Adds}, Staged.{IsStaged, FitsAt}};
 ghost use Rattle.journal_image.specs.Image.{IsIdentity, Reading, Reads, Thing, Kept, Turn, mark_text, range_text, more};
 
 use crate::record::write_record;
@@ -56,8 +56,7 @@ pub(crate) fn keep_mark<D: Disk>(disk: &mut D, gate: u64) -> Result<(), Failed>
     ensures counts { Counts (D.faults disk.old) (D.faults disk.new) result }
 {
     stage_mark(disk, gate + 1)?;
-    open_gate(disk, gate)?;
-    Ok(())
+    open_gate(disk, gate)
 }
 
 // Writes the mark from a place on and a closed gate behind it, and then they are in their place.
@@ -93,10 +92,7 @@ pub(crate) fn keep_record<D: Disk>(
     sums: &EpochSums,
     buffer: &mut [u8],
 ) -> Result<(), Failed>
-    requires of_plan { IsOfPlan e.now }
-    requires cells { length sums.now.cells ≡ cell_count e.now }
-    requires room { gate + (28 + 24 * length sums.now.cells) + 2 < 2 ^ 63 }
-    requires buffer { length buffer.old ≡ 960000 }
+    requires fits { FitsAt e.now sums.now.cells (gate + 1) buffer.old }
     requires within { WhereTold (D.seen disk.old) (λ image. gate < length image) }
     requires durable { IsDurable (D.seen disk.old) (D.may_leave disk.old (D.moment disk.old)) }
     ensures durable { OnOk result (IsDurable (D.seen disk.new) (D.may_leave disk.new (D.moment disk.new))) }
@@ -113,8 +109,7 @@ pub(crate) fn keep_record<D: Disk>(
     ensures counts { Counts (D.faults disk.old) (D.faults disk.new) result }
 {
     stage_record(disk, gate + 1, e, sums, buffer)?;
-    open_gate(disk, gate)?;
-    Ok(())
+    open_gate(disk, gate)
 }
 
 // Writes a record from a place on and a closed gate behind it, and then they are in their place.
@@ -125,10 +120,7 @@ fn stage_record<D: Disk>(
     sums: &EpochSums,
     buffer: &mut [u8],
 ) -> Result<(), Failed>
-    requires of_plan { IsOfPlan e.now }
-    requires cells { length sums.now.cells ≡ cell_count e.now }
-    requires room { at + (28 + 24 * length sums.now.cells) + 1 < 2 ^ 63 }
-    requires buffer { length buffer.old ≡ 960000 }
+    requires fits { FitsAt e.now sums.now.cells at buffer.old }
     requires within { WhereTold (D.seen disk.old) (λ image. at ≤ length image) }
     ensures written { OnOk result (D.seen disk.new
         ≡ option_map (put_over at ((range_text e.now ++ body_text sums.now.cells) ++ 0 ∷ [])) (D.seen disk.old)) }

@@ -216,13 +216,22 @@ pub front_number : (a : ℕ) (head bytes : List ℕ) (x : ℕ) → a + 8 ≤ 28 
     → x ≡ little_from 0 8 (take (length head - a) (drop a head)) → x ≡ little_from a 8 bytes
 front_number a head bytes x inside front is = read_number 8 a head x is ∙ little_from-places 8 a a head bytes (λ k below. front (a + k) (omega arith))
 
+-- Of the first 28 bytes k are those of a head that begins with a place; so are the bytes themselves.
+pub place_same : (head bytes due : List ℕ) (p : Place) (k : ℕ) → k ≤ 20 → IsFrontOf head bytes → ((j : ℕ) → j < 20 → get_or due j 0 ≡ get_or (place_text p) j 0)
+    → ((j : ℕ) → j < k → get_or head j 0 ≡ get_or due j 0) → (j : ℕ) → j < k → get_or bytes j 0 ≡ get_or (place_text p) j 0
+place_same head bytes due p k low front is same j below = sym (front j (omega arith)) ∙ same j below ∙ is j (omega arith)
+
+-- the place and the end of a range, where the first 28 bytes begin with the place
+pub front_stands : (head bytes due : List ℕ) (p : Place) (k x : ℕ) → 28 ≤ length bytes → 20 ≤ k → IsFrontOf head bytes
+    → ((j : ℕ) → j < 20 → get_or due j 0 ≡ get_or (place_text p) j 0) → ((j : ℕ) → j < k → get_or head j 0 ≡ get_or due j 0)
+    → x ≡ little_from 0 8 (take (length head - 20) (drop 20 head)) → (take 20 bytes ≡ place_text p) × (x ≡ little_from 20 8 bytes)
+front_stands head bytes due p k x long whole front is same read = (
+  place_front p bytes (omega (arith, long)) (place_same head bytes due p 20 (omega arith) front is (λ j below. same j (omega (arith, below, whole)))),
+  front_number 20 head bytes x (omega arith) front read,
+)
+
 -- a fault at the file's end as it is answered
 pub fault_at : (job : JobSizes) (ranged : Bool) (p : Place) (bytes : List ℕ) (at left : ℕ) (answer : Behind) → length bytes ≡ left → answer ≡ Fault (end_of (at + left))
     → IsFault job ranged p bytes at (at + length bytes) (end_of (at + length bytes)) → IsBehind job ranged p bytes at answer
 fault_at job ranged p bytes at left answer long is fault =
     subst (IsBehind job ranged p bytes at) (sym (is ∙ ap (λ (n : ℕ). Fault (end_of (at + n))) (sym long))) fault
-
--- Of the first 28 bytes k are those of a head that begins with a place; so are the bytes themselves.
-pub place_same : (head bytes due : List ℕ) (p : Place) (k : ℕ) → k ≤ 20 → IsFrontOf head bytes → ((j : ℕ) → j < 20 → get_or due j 0 ≡ get_or (place_text p) j 0)
-    → ((j : ℕ) → j < k → get_or head j 0 ≡ get_or due j 0) → (j : ℕ) → j < k → get_or bytes j 0 ≡ get_or (place_text p) j 0
-place_same head bytes due p k low front is same j below = sym (front j (omega arith)) ∙ same j below ∙ is j (omega arith)

@@ -4,6 +4,7 @@ use Rattle.piece_plan.specs.declared.job.ScanSize.{ScanSize}
 use Rattle.piece_plan.specs.declared.epoch.EpochPlan.{EpochPlan}
 use Rattle.piece_plan.specs.Epochs.{JobSizes, IsOfPlan}
 use Rattle.piece_plan.specs.Order.{Place, place_of}
+use Rattle.piece_plan.proofs.RangeLemmas.{range-IsEpoch}
 use Rattle.plan_places.specs.Places.{IsPlace}
 use Rattle.plan_places.specs.Walk.{cut_at}
 use Rattle.plan_places.proofs.CutLemmas.{cut_of, size-same}
@@ -12,15 +13,7 @@ use Rattle.journal_image.specs.Difference.{IsRange}
 
 -- an epoch that ends at another sample
 abbrev ending : EpochPlan → ℕ → EpochPlan
-ending e to = record {
-  scan = e.scan;
-  m = e.m;
-  from = e.from;
-  to = to;
-  products = e.products;
-  baselines = e.baselines;
-  lags = e.lags;
-}
+ending e to = record e { to = to }
 
 -- an epoch begins where it is cut
 pub cut-begins : (job : JobSizes) (epoch : ℕ) (p : Place) (e : EpochPlan) → IsPlace job p → cut_at job epoch p ≡ Some e → place_of e ≡ p
@@ -34,18 +27,7 @@ longest-IsRange job p to e place cut some within =
     subst (λ (x : EpochPlan). IsRange job p to (ending x to)) first (record {
       begins = refl;
       ends = refl;
-      fits = record {
-        size = place.size;
-        scan = place.scan;
-        products = refl;
-        baselines = refl;
-        lags = refl;
-        begins = place.first;
-        from = place.from;
-        some = some;
-        to = omega (arith, inside);
-        short = omega (arith, inside);
-      };
+      fits = range-IsEpoch job p.scan place.size p.m p.from to place.scan place.first place.from some (omega (arith, inside)) (omega (arith, inside));
     })
 
 pub longest-IsOfPlan : (job : JobSizes) (p : Place) (to : ℕ) (e : EpochPlan) → IsPlace job p → cut_at job 4194304 p ≡ Some e

@@ -1,12 +1,12 @@
 -- The things that fit behind a gate are told from each other by their bytes.
 use Rattle.std.specs.Prelude.{slice_get}
 use Rattle.std.proofs.Common.{◌≡◌, ◌∙◌, ◌⊎◌, inl, inr, ⊎_elim, ℕ, ◌*◌, ◌<◌, ◌≤◌, Bool, true, false, if◌then◌else◌, List, ◌++◌, length, Some, None, refl, sym, ap, subst, arith, append_assoc, mul-pos}
-use Rattle.std.proofs.lemmas.Option.{slice_get_within, get_or_from_slice_get}
 use Rattle.byteorder.specs.Endian.{little_bytes}
 use Rattle.piece_plan.specs.declared.job.ScanSize.{ScanSize}
 use Rattle.piece_plan.specs.declared.epoch.EpochPlan.{EpochPlan}
-use Rattle.piece_plan.specs.Epochs.{JobSizes, IsJob, IsScan, IsEpoch, IsOfPlan, cell_count}
+use Rattle.piece_plan.specs.Epochs.{JobSizes, IsJob, IsEpoch, IsOfPlan, cell_count}
 use Rattle.piece_plan.specs.Order.{Place, place_of}
+use Rattle.piece_plan.proofs.EpochLemmas.{IsEpoch-IsOfPlan}
 use Rattle.plan_places.specs.Walk.{cut_at}
 use Rattle.journal_image.specs.Head.{place_text}
 use Rattle.journal_image.specs.Image.{Due, Thing, Kept, Turn, range_text, text, first_count, Fits, FitsRecord, FitsMark, Covers}
@@ -31,18 +31,7 @@ pub length-place : (p : Place) → length (place_text p) ≡ 20
 length-place p = refl
 
 pub epoch-IsOfPlan : (job : JobSizes) (e : EpochPlan) → IsJob job → IsEpoch job e → IsOfPlan e
-epoch-IsOfPlan job e is inside =
-    let scan : IsScan job.integration job.lags inside.size = subst (IsScan job.integration job.lags) (get_or_from_slice_get job.scans e.scan inside.size inside.size inside.scan)
-    (is.scans e.scan inside.size (slice_get_within job.scans e.scan inside.size inside.scan)) in
-    record {
-      some = inside.some;
-      to = omega (arith, inside.to, scan.samples);
-      short = inside.short;
-      products = omega (arith, inside.products, scan.products);
-      baselines = omega (arith, inside.baselines, scan.baselines);
-      lags = rw inside.lags is.lags;
-      cells = rw (inside.products, inside.baselines, inside.lags) scan.cells;
-    }
+epoch-IsOfPlan job e is inside = IsEpoch-IsOfPlan job e is inside
 
 pub some_cells : (e : EpochPlan) → IsOfPlan e → 1 ≤ cell_count e
 some_cells e is =

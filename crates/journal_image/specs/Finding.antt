@@ -1,7 +1,8 @@
 -- What is found behind an open gate.
-use Rattle.std.specs.Prelude.{◌≡◌, ℕ, ◌+◌, ◌<◌, Bool, List, length, slice_index}
-use Rattle.piece_plan.specs.Epochs.{JobSizes, IsEpoch, IsOfPlan}
+use Rattle.std.specs.Prelude.{◌≡◌, ℕ, ◌+◌, ◌<◌, ◌^◌, Bool, List, length, slice_index}
+use Rattle.piece_plan.specs.Epochs.{JobSizes, IsJob, IsEpoch, IsOfPlan}
 use Rattle.piece_plan.specs.Order.{Place}
+use Rattle.plan_places.specs.Places.{IsPlace}
 use Rattle.journal_image.specs.declared.difference.Differs.{Differs}
 use Rattle.journal_image.specs.declared.finding.Behind.{Behind}
 use Rattle.journal_image.specs.declared.finding.Behind.TheVariants.{Record, Mark, Fault}
@@ -28,3 +29,14 @@ HasEpoch job (Fault d) = Unit {0}
 -- 28 bytes are the first of these, with zeros past their end
 abbrev pub IsFrontOf : List ℕ → List ℕ → Type 0
 IsFrontOf head bytes = (k : ℕ) → k < 28 → slice_index head k ≡ slice_index bytes k
+
+-- 28 bytes behind an open gate at `at`, where a record from a place of a job on is due and so many bytes are left
+pub record IsOpen (sizes : JobSizes) (p : Place) (first : List ℕ) (at left : ℕ) : Type 0 where
+  pub head : length first ≡ 28
+  pub job : IsJob sizes
+  pub place : IsPlace sizes p
+  pub short : at + left < 2 ^ 63
+
+-- what is found is what stands at the front of any so many bytes of which these are the first
+abbrev pub IsReadAs : JobSizes → Bool → Place → List ℕ → ℕ → ℕ → Behind → Type 0
+IsReadAs job ranged p head left at found = (bytes : List ℕ) → length bytes ≡ left → IsFrontOf head bytes → IsBehind job ranged p bytes at found

@@ -2,7 +2,7 @@
 ghost use Rattle.std.specs.Prelude.{◌≡◌, ◌≢◌, ◌+◌, ◌*◌, ◌≤◌, ◌<◌, ◌^◌, ℕ, List, length, slice_index, if◌then◌else◌, true, false};
 ghost use Rattle.piece_plan.specs.Epochs.{IsJob};
 ghost use Rattle.plan_places.specs.Places.{place_at, IsPlace};
-ghost use Rattle.journal_image.specs.{declared.finding.Behind.TheVariants.{Fault}, Head.{place_text}, Difference.{end_of}, Finding.{HasEpoch, IsBehind, IsFrontOf}};
+ghost use Rattle.journal_image.specs.{declared.finding.Behind.TheVariants.{Fault}, Head.{place_text}, Difference.{end_of}, Finding.{HasEpoch, IsBehind, IsFrontOf, IsOpen, IsReadAs}};
 
 use crate::head::head_bytes;
 use crate::range::epoch_to;
@@ -48,12 +48,8 @@ pub fn behind(
 
 // The same where records have no range.
 fn behind_old(head: &[u8], left: u64, at: u64, place: &Place, plan: &JobPlan) -> Behind
-    requires head { length head.now ≡ 28 }
-    requires job { IsJob plan.now }
-    requires place { IsPlace plan.now (place_at place.now) }
-    requires short { at + left < 2 ^ 63 }
-    ensures is { (bytes : List ℕ) → length bytes ≡ left → IsFrontOf head.now bytes
-        → IsBehind plan.now false (place_at place.now) bytes at result }
+    requires { IsOpen plan.now (place_at place.now) head.now at left }
+    ensures is { IsReadAs plan.now false (place_at place.now) head.now left at result }
     ensures epoch { HasEpoch plan.now result }
 {
     let e = cut_own(plan, place);
@@ -72,12 +68,8 @@ fn behind_old(head: &[u8], left: u64, at: u64, place: &Place, plan: &JobPlan) ->
 
 // The same where they have one.
 fn behind_ranged(head: &[u8], left: u64, at: u64, place: &Place, plan: &JobPlan) -> Behind
-    requires head { length head.now ≡ 28 }
-    requires job { IsJob plan.now }
-    requires place { IsPlace plan.now (place_at place.now) }
-    requires short { at + left < 2 ^ 63 }
-    ensures is { (bytes : List ℕ) → length bytes ≡ left → IsFrontOf head.now bytes
-        → IsBehind plan.now true (place_at place.now) bytes at result }
+    requires { IsOpen plan.now (place_at place.now) head.now at left }
+    ensures is { IsReadAs plan.now true (place_at place.now) head.now left at result }
     ensures epoch { HasEpoch plan.now result }
 {
     let due = head_from(place);

@@ -23,12 +23,12 @@ is_of-true : (number m k j : ℕ) → k ≡ number → j ≡ m → ((k == number
 is_of-true number m k j scan here = ap (λ (b : Bool). b && (j == m)) (eq-eqb k number scan) ∙ eq-eqb j m here
 
 is_of-false : (number m k j : ℕ) → (k ≡ number → j ≡ m → ⊥) → ((k == number) && (j == m)) ≡ false
-is_of-false number m k j other = by (k == number) (j == m) refl refl
+is_of-false number m k j other = one_false (k == number) (j == m) (λ same here. other (eqb-true k number same) (eqb-true j m here))
   where
-    by : (a b : Bool) → (k == number) ≡ a → (j == m) ≡ b → ((k == number) && (j == m)) ≡ false
-    by true true same here = absurd (other (eqb-true k number same) (eqb-true j m here))
-    by true false same here = ap (λ (b : Bool). b && (j == m)) same ∙ here
-    by false b differs here = ap (λ (b : Bool). b && (j == m)) differs
+    one_false : (a b : Bool) → (a ≡ true → b ≡ true → ⊥) → (a && b) ≡ false
+    one_false true true never = absurd (never refl refl)
+    one_false true false never = refl
+    one_false false b never = refl
 
 module _ (f : EpochPlan → List Cell) (number m : ℕ) (job : JobSizes) where
   -- an epoch of the integration adds its cells, and one of another adds none

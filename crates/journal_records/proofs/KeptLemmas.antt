@@ -3,6 +3,7 @@ use Rattle.std.specs.Prelude.{replicate, slice_get, option_map, if◌then◌else
 use Rattle.std.specs.List.{range_with_len, enumerate_from}
 use Rattle.std.specs.Option.{option_map_or}
 use Rattle.std.proofs.Common.{◌≡◌, ◌∙◌, refl, sym, ap, subst, ℕ, zero, suc, ◌+◌, ◌*◌, ◌<◌, min, List, [], ◌∷◌, map, Option, Some, All, arith}
+use Rattle.std.proofs.Math.Nat.{zero-add}
 use Rattle.std.proofs.lemmas.Option.{slice_get-map}
 use Rattle.corr_model.specs.declared.cell.Cell.{Cell}
 use Rattle.corr_model.specs.Cell.{Samples, no_cell}
@@ -68,11 +69,7 @@ integration_cells-is : (plan : Plan) (z : Samples) (scan : ScanPlan) (m : ℕ)
     → range_cells plan z scan
     (integration_at (sizes_of plan) (size_of plan scan) m).from (integration_at (sizes_of plan) (size_of plan scan) m).to
     ≡ integration_cells plan z scan m
-integration_cells-is plan z scan m =
-    let from : 0 + m * plan.integration ≡ m * plan.integration = omega arith in
-    let to : 0 + (m + 1) * plan.integration ≡ (m + 1) * plan.integration = omega arith in
-    ap (λ (n : ℕ). range_cells plan z scan n (min (0 + (m + 1) * plan.integration) scan.samples)) from
-    ∙ ap (λ (n : ℕ). range_cells plan z scan (m * plan.integration) (min n scan.samples)) to
+integration_cells-is plan z scan m = rw (zero-add (m * plan.integration), zero-add ((m + 1) * plan.integration)) refl
 
 module _ (plan : Plan) (files : Files) (kept : List KeptEpoch) (is : IsPlan plan) (cover : CoverJob (sizes_of plan) (epochs_of kept))
     (sums : AreSums plan files kept) where

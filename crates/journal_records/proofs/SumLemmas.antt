@@ -5,8 +5,10 @@ use Rattle.corr_model.specs.declared.cell.Cell.{Cell}
 use Rattle.corr_model.specs.Cell.{no_cell}
 use Rattle.piece_plan.specs.declared.job.ScanSize.{ScanSize}
 use Rattle.piece_plan.specs.Epochs.{JobSizes}
+use Rattle.piece_plan.proofs.Quotients.{below_ceil}
 use Rattle.job_plan.specs.declared.plan.ScanPlan.{ScanPlan}
 use Rattle.job_plan.specs.declared.plan.Plan.{Plan}
+use Rattle.job_plan.specs.Output.{integrations_of}
 use Rattle.job_epochs.specs.Sizes.{size_of, sizes_of}
 use Rattle.job_epochs.specs.Added.{width_of}
 use Rattle.journal_image.specs.Image.{KeptEpoch}
@@ -27,13 +29,14 @@ Adds seen moment may_leave job from to start sums old new =
 
 module _ {D : Type 0} (seen : D → Option (List ℕ)) (moment : D → ℕ) (may_leave : D → ℕ → List ℕ → Type 0) (plan : Plan) (job : JobSizes)
     (same : job ≡ sizes_of plan) (number m : ℕ) (scan : ScanPlan) (there : slice_get plan.scans number ≡ Some scan)
-    (from to : ℕ) (begins : from ≡ m * plan.integration) (ends : to ≡ min (from + plan.integration) scan.samples) (begun : m * plan.integration < scan.samples)
-    (some : 1 ≤ plan.integration) (start sums : List Cell) (old new : Store D) (rests : Rests seen moment may_leave job old new)
+    (from to : ℕ) (begins : from ≡ m * plan.integration) (ends : to ≡ min (from + plan.integration) scan.samples)
+    (some : 1 ≤ plan.integration) (inside : m < integrations_of plan scan) (start sums : List Cell) (old new : Store D) (rests : Rests seen moment may_leave job old new)
     (adds : Adds seen moment may_leave job from to start sums old new) where
   is : IsIntegration job number (size_of plan scan) m from to
   is =
       let long : job.integration ≡ plan.integration = ap (λ (j : JobSizes). j.integration) same in
       let times : m * job.integration ≡ m * plan.integration = ap (λ n. m * n) long in
+      let begun : m * plan.integration < scan.samples = below_ceil scan.samples plan.integration m (omega (arith, some)) inside in
       let next : (m + 1) * job.integration ≡ m * plan.integration + plan.integration = omega (arith, times, long) in
       record {
         scan = size-cut plan job number scan same there;

@@ -27,9 +27,8 @@ held-untold told ready (Some h) are = record {
 }
 
 -- frames too
-pub framed-untold : (told : Option Files) (ready : Ready) (framed : Option Framed) → IfSome framed (IsFramed told ready) → IfSome framed (IsFramed None ready)
-framed-untold told ready None are = tt
-framed-untold told ready (Some f) are = record {
+pub framed-untold : (told : Option Files) (ready : Ready) (f : Framed) → IsFramed told ready f → IsFramed None ready f
+framed-untold told ready f are = record {
   fits = are.fits;
   scan = are.scan;
   of_scan = are.of_scan;

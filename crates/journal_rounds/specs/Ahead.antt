@@ -1,13 +1,16 @@
 -- What is summed and read ahead of the epochs that are kept.
-use Rattle.std.specs.Prelude.{◌≡◌, ℕ, ◌+◌, ◌*◌, ◌-◌, option_map, Option, None, Some, IfSome}
+use Rattle.std.specs.Prelude.{◌≡◌, ℕ, ◌+◌, ◌*◌, ◌-◌, ◌≤◌, option_map, Option, None, Some, IfSome}
 use Rattle.corr_model.specs.Files.{Files}
+use Rattle.dev_traits.specs.Told.{WhereTold}
 use Rattle.piece_plan.specs.declared.epoch.EpochPlan.{EpochPlan}
 use Rattle.piece_plan.specs.Epochs.{JobSizes, IsEpoch, IsOfPlan}
+use Rattle.piece_plan.specs.Limited.{IsPart}
 use Rattle.piece_plan.specs.Order.{Place, place_of}
 use Rattle.plan_places.specs.Places.{place_at, IsPlace}
 use Rattle.plan_places.specs.Walk.{cut_at}
 use Rattle.job_plan.specs.declared.plan.ScanPlan.{ScanPlan}
 use Rattle.ready_job.specs.declared.ready.Ready.{Ready}
+use Rattle.station_stream.specs.Recorded.{AreRecorded}
 use Rattle.run_sums.specs.Found.{IsOfScan}
 use Rattle.run_sums.specs.Frames.{HoldsFrames}
 use Rattle.run_sums.specs.Reach.{HoldsEpoch}
@@ -17,6 +20,12 @@ use Rattle.journal_rounds.specs.declared.values.Held.{Held}
 use Rattle.journal_rounds.specs.declared.sums.Summed.{Summed}
 use Rattle.journal_rounds.specs.declared.ahead.Ahead.{Ahead}
 use Rattle.journal_rounds.specs.Epochs.{IsNext, behind}
+
+-- a part of the job, the recordings of its plan where the files are told, and the length of an epoch, in its range
+pub record IsWalk (told : Option Files) (ready : Ready) (part : JobSizes) (epoch : ℕ) : Type 0 where
+  pub of_job : IsPart ready.epochs part
+  pub recorded : WhereTold told (λ files. AreRecorded files ready.plan.stations ready.recordings.items)
+  pub range : (1 ≤ epoch) × (epoch ≤ 4194304)
 
 -- values of an epoch of the job, at the samples that its lags reach where the files are told
 pub record IsHeld (told : Option Files) (ready : Ready) (held : Held) : Type 0 where
@@ -46,11 +55,6 @@ IsCut job epoch s = IsEpoch job s.epoch × (cut_at job epoch (place_of s.epoch) 
 abbrev pub epoch_read : Option Held → Option EpochPlan
 epoch_read None = None
 epoch_read (Some held) = Some held.epoch
-
--- the epoch whose frames are read
-abbrev pub epoch_framed : Option Framed → Option EpochPlan
-epoch_framed None = None
-epoch_framed (Some framed) = Some framed.epoch
 
 -- the epoch that is summed
 abbrev pub epoch_summed : Option Summed → Option EpochPlan

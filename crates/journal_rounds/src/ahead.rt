@@ -1,10 +1,9 @@
 //! What is summed and read ahead.
 ghost use Rattle.std.specs.Prelude.{◌≡◌, ◌≤◌, None, IfOk, IfSome, is_some, option_map};
-ghost use Rattle.dev_traits.specs.Told.{WhereTold};
-ghost use Rattle.station_stream.specs.{Faults.{CountsReads}, Recorded.{AreRecorded}};
-ghost use Rattle.piece_plan.specs.{Epochs.{IsEpoch}, Limited.{IsPart}};
+ghost use Rattle.station_stream.specs.Faults.{CountsReads};
+ghost use Rattle.piece_plan.specs.Epochs.{IsEpoch};
 ghost use Rattle.plan_places.specs.Places.{place_at, IsPlace};
-ghost use Rattle.journal_rounds.specs.{Epochs.{IsNext, behind}, Ahead.{AreSumsOf, IsHeld, epoch_read, epoch_summed}};
+ghost use Rattle.journal_rounds.specs.{Epochs.{IsNext, behind}, Ahead.{AreSumsOf, IsHeld, IsWalk, epoch_read, epoch_summed}};
 
 use crate::sums::{Summed, sum_held};
 use crate::values::{Held, held_from};
@@ -41,9 +40,7 @@ pub(crate) fn advance<R: Threads + Sync, F: Shelf + Send, G: Gate + Sync>(
     piece: u64,
     gate: &G,
 ) -> Result<Ahead, StreamFault>
-    requires part { IsPart ready.now.epochs part.now }
-    requires recorded { WhereTold (F.told shelf.old) (λ files. AreRecorded files ready.now.plan.stations ready.now.recordings.items) }
-    requires epoch { (1 ≤ epoch) × (epoch ≤ 4194304) }
+    requires walk { IsWalk (F.told shelf.old) ready.now part.now epoch }
     requires values { IfSome ahead.now.held (IsHeld (F.told shelf.old) ready.now) }
     requires place { IfSome ahead.now.next (λ p. IsPlace part.now (place_at p)) }
     requires workers { (1 ≤ workers) × (workers ≤ 64) }
@@ -63,10 +60,8 @@ pub(crate) fn advance<R: Threads + Sync, F: Shelf + Send, G: Gate + Sync>(
     let (made, summed) = join_mut(
         rt,
         &mut ||
-            requires part { IsPart ready.now.epochs part.now }
-            requires recorded { WhereTold (F.told shelf.now) (λ files. AreRecorded files ready.now.plan.stations ready.now.recordings.items) }
+            requires walk { IsWalk (F.told shelf.now) ready.now part.now epoch }
             requires place { IfSome ahead.now.next (λ p. IsPlace part.now (place_at p)) }
-            requires epoch { (1 ≤ epoch) × (epoch ≤ 4194304) }
             requires workers { (1 ≤ workers) × (workers ≤ 64) }
         {
             held_from(

@@ -1,13 +1,11 @@
 //! The rounds by which a journal is brought on.
 ghost use Rattle.std.specs.Prelude.{◌≡◌, ◌+◌, ◌<◌, ◌≤◌, Option, None, Some, IfOk, IfErr, IfSome, OnOk, is_some, option_map, true};
-ghost use Rattle.dev_traits.specs.Told.{WhereTold};
 ghost use Rattle.corr_model.specs.Files.{Files};
-ghost use Rattle.piece_plan.specs.{Order.{place_of, place_after}, Limited.{IsPart}};
+ghost use Rattle.piece_plan.specs.Order.{place_of, place_after};
 ghost use Rattle.plan_places.specs.Places.{place_at, IsPlace};
-ghost use Rattle.station_stream.specs.Recorded.{AreRecorded};
 ghost use Rattle.checkpoint_journal.specs.{Runs.{Changes}, Standing.{Stands}};
 ghost use Rattle.journal_rounds.specs.{Counted.{CountsReadsBeside, CountsJournal}, Extended.{IsSummed, Extends}, Refused.{KeepsNamed}, Epochs.{behind}};
-ghost use Rattle.journal_rounds.specs.{Ahead.{AreSumsOf, IsCut, IsHeld, IsAhead, epoch_summed, steps_done, steps_kept, kept_with}, Steps.{IsOfAppend, IsOfEpoch, StaysFull}};
+ghost use Rattle.journal_rounds.specs.{Ahead.{AreSumsOf, IsCut, IsHeld, IsAhead, IsWalk, epoch_summed, steps_done, steps_kept, kept_with}, Steps.{IsOfAppend, IsOfEpoch, StaysFull}};
 
 use crate::ahead::{Ahead, advance};
 use crate::fault::ResumeFault;
@@ -40,12 +38,10 @@ pub(crate) fn round<R: Threads + Sync, F: Shelf + Send, D: Disk + Send, G: Gate 
     piece: u64,
     gate: &G,
 ) -> Result<Ahead, ResumeFault>
-    requires part { IsPart ready.now.epochs part.now }
-    requires recorded { WhereTold (F.told shelf.old) (λ files. AreRecorded files ready.now.plan.stations ready.now.recordings.items) }
+    requires walk { IsWalk (F.told shelf.old) ready.now part.now epoch }
     requires stands { Stands id.now part.now journal.old (D.seen disk.old) (D.may_leave disk.old (D.moment disk.old)) }
     requires more { is_some journal.old.end.next ≡ true }
     requires ahead { IsAhead (F.told shelf.old) ready.now part.now epoch (option_map place_at journal.old.end.next) ahead.now }
-    requires epoch { (1 ≤ epoch) × (epoch ≤ 4194304) }
     requires workers { (1 ≤ workers) × (workers ≤ 64) }
     requires piece { (64 ≤ piece) × (piece ≤ 4194304) }
     ensures same { F.told shelf.new ≡ F.told shelf.old }
@@ -70,9 +66,7 @@ pub(crate) fn round<R: Threads + Sync, F: Shelf + Send, D: Disk + Send, G: Gate 
         workers > 1,
         &mut || append_summed(ready, part, id, disk, journal, epoch, &ahead.summed),
         &mut ||
-            requires part { IsPart ready.now.epochs part.now }
-            requires recorded { WhereTold (F.told shelf.now) (λ files. AreRecorded files ready.now.plan.stations ready.now.recordings.items) }
-            requires epoch { (1 ≤ epoch) × (epoch ≤ 4194304) }
+            requires walk { IsWalk (F.told shelf.now) ready.now part.now epoch }
             requires values { IfSome ahead.now.held (IsHeld (F.told shelf.now) ready.now) }
             requires place { IfSome ahead.now.next (λ p. IsPlace part.now (place_at p)) }
             requires workers { (1 ≤ workers) × (workers ≤ 64) }

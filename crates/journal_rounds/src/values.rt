@@ -3,10 +3,9 @@ ghost use Rattle.std.specs.Prelude.{◌≡◌, ◌≤◌, None, Option, IfOk, If
 ghost use Rattle.corr_model.specs.Files.{Files};
 ghost use Rattle.dev_traits.specs.Told.{WhereTold};
 ghost use Rattle.station_stream.specs.{Faults.{CountsReads}, Recorded.{AreRecorded}};
-ghost use Rattle.piece_plan.specs.Limited.{IsPart};
 ghost use Rattle.plan_places.specs.Places.{place_at, IsPlace};
 ghost use Rattle.run_sums.specs.Found.{IsOfJob};
-ghost use Rattle.journal_rounds.specs.{Epochs.{IsNext}, Ahead.{IsFramed, IsHeld, epoch_framed, epoch_read}};
+ghost use Rattle.journal_rounds.specs.{Epochs.{IsNext}, Ahead.{IsFramed, IsHeld, IsWalk, epoch_read}};
 
 use crate::epochs::epoch_from;
 use dev_traits::Shelf;
@@ -45,10 +44,8 @@ pub(crate) fn held_from<R: Threads + Sync, F: Shelf>(
     epoch: u64,
     workers: u32,
 ) -> Result<Option<Held>, StreamFault>
-    requires recorded { WhereTold (F.told shelf.old) (λ files. AreRecorded files ready.now.plan.stations ready.now.recordings.items) }
-    requires part { IsPart ready.now.epochs part.now }
+    requires walk { IsWalk (F.told shelf.old) ready.now part.now epoch }
     requires place { IfSome at (λ p. IsPlace part.now (place_at p)) }
-    requires epoch { (1 ≤ epoch) × (epoch ≤ 4194304) }
     requires workers { (1 ≤ workers) × (workers ≤ 64) }
     ensures same { F.told shelf.new ≡ F.told shelf.old }
     ensures values { IfOk result (λ held. IfSome held (IsHeld (F.told shelf.old) ready.now)) }
@@ -56,46 +53,21 @@ pub(crate) fn held_from<R: Threads + Sync, F: Shelf>(
     ensures read { IfOk result (λ held. is_some held ≡ is_some at) }
     ensures counts { CountsReads (F.faults shelf.old) (F.faults shelf.new) result }
 {
-    let framed = read_from(alloc, spare, ready, part, shelf, at, epoch)?;
+    let Some(place) = at else {
+        return Ok(None);
+    };
+    let e = epoch_from(ready, part, &place, epoch);
+    let framed = read_frames(alloc, spare, ready, shelf, e)?;
     are_framed(shelf, ready, &framed);
-    let held = make_from(rt, alloc, spare, ready, framed, workers)?;
-    Ok(held)
+    let held = make_held(rt, alloc, spare, ready, framed, workers)?;
+    Ok(Some(held))
 }
 
 // Frames are those of an epoch of the job also where the files are not told. The call does nothing: it brings this law.
-fn are_framed<F: Shelf>(_shelf: &F, _ready: &Ready, _framed: &Option<Framed>)
-    requires { IfSome _framed.now (IsFramed (F.told _shelf.now) _ready.now) }
-    ensures { IfSome _framed.now (IsFramed None _ready.now) }
+fn are_framed<F: Shelf>(_shelf: &F, _ready: &Ready, _framed: &Framed)
+    requires { IsFramed (F.told _shelf.now) _ready.now _framed.now }
+    ensures { IsFramed None _ready.now _framed.now }
 {}
-
-// Reads the frames of the epoch of a part of the job from a place on, where there is a place, in room of `spare`.
-fn read_from<F: Shelf>(
-    alloc: Global,
-    spare: &mut Spare,
-    ready: &Ready,
-    part: &JobPlan,
-    shelf: &mut F,
-    at: Option<Place>,
-    epoch: u64,
-) -> Result<Option<Framed>, StreamFault>
-    requires recorded { WhereTold (F.told shelf.old) (λ files. AreRecorded files ready.now.plan.stations ready.now.recordings.items) }
-    requires part { IsPart ready.now.epochs part.now }
-    requires place { IfSome at (λ p. IsPlace part.now (place_at p)) }
-    requires epoch { (1 ≤ epoch) × (epoch ≤ 4194304) }
-    ensures same { F.told shelf.new ≡ F.told shelf.old }
-    ensures frames { IfOk result (λ framed. IfSome framed (IsFramed (F.told shelf.old) ready.now)) }
-    ensures next { IfOk result (λ framed. IsNext part.now epoch (option_map place_at at) (epoch_framed framed)) }
-    ensures read { IfOk result (λ framed. is_some framed ≡ is_some at) }
-    ensures counts { CountsReads (F.faults shelf.old) (F.faults shelf.new) result }
-{
-    match at {
-        Some(place) => {
-            let e = epoch_from(ready, part, &place, epoch);
-            Ok(Some(read_frames(alloc, spare, ready, shelf, e)?))
-        }
-        None => Ok(None),
-    }
-}
 
 // Reads the frames of an epoch of the job.
 fn read_frames<F: Shelf>(
@@ -117,29 +89,7 @@ fn read_frames<F: Shelf>(
     Ok(Framed { epoch, frames })
 }
 
-// Makes the values of an epoch out of its frames, where there are such, by threads, of which about `workers` are at work, in room of
-// `spare`.
-fn make_from<R: Threads + Sync>(
-    rt: &R,
-    alloc: Global,
-    spare: &mut Spare,
-    ready: &Ready,
-    framed: Option<Framed>,
-    workers: u32,
-) -> Result<Option<Held>, AllocError>
-    requires framed { IfSome framed (IsFramed None ready.now) }
-    requires workers { (1 ≤ workers) × (workers ≤ 64) }
-    ensures epoch { IfOk result (λ held. epoch_read held ≡ epoch_framed framed) }
-    ensures there { IfOk result (λ held. is_some held ≡ is_some framed) }
-    ensures values { IfOk result (λ held. (told : Option Files) → IfSome framed (IsFramed told ready.now) → IfSome held (IsHeld told ready.now)) }
-{
-    match framed {
-        Some(framed) => Ok(Some(make_held(rt, alloc, spare, ready, framed, workers)?)),
-        None => Ok(None),
-    }
-}
-
-// Makes the values of an epoch of the job.
+// Makes the values of an epoch of the job out of its frames, by threads, of which about `workers` are at work, in room of `spare`.
 fn make_held<R: Threads + Sync>(
     rt: &R,
     alloc: Global,

@@ -9,6 +9,7 @@ mod mem_disk;
 mod mem_disk_tests;
 mod mem_shelf;
 mod mem_sink;
+mod read;
 #[cfg(test)]
 mod tests;
 

@@ -6,10 +6,11 @@ ghost use Rattle.mem_devices.specs.{MemDiskPlan.{fails_next, after_call}, MemDis
 mod fault_plan;
 mod torn_file;
 
+use crate::read::read_from;
 use dev_traits::{Disk, Failed};
 use fault_plan::FaultPlan;
 use std::alloc::{AllocError, Global};
-use torn_file::{TornFile, read_from};
+use torn_file::TornFile;
 
 /// A file in memory. Its calls are numbered from 0: those of its plan fail, and besides only a
 /// `write_at`, `cut` or `sync` that finds no memory, which changes nothing. It keeps a record of the

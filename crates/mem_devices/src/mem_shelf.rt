@@ -3,6 +3,7 @@ ghost use Rattle.std.specs.Option.{option_copied};
 ghost use Rattle.dev_traits.specs.{Fault.{Counts}, Files.{size_of, ReadsAt}};
 ghost use Rattle.mem_devices.specs.MemShelfState.{bytes_under, files_of, fails_next, after_call};
 
+use crate::read::read_from;
 use dev_traits::{Failed, Shelf};
 use std::marker::Model;
 
@@ -118,18 +119,4 @@ fn find<'a>(files: &'a [(String, Vec<u8>)], name: &str) -> Option<&'a [u8]>
         }
     }
     None
-}
-
-// Fills the front of `buf` from byte `at` of `bytes` on, and answers how many bytes that took.
-fn read_from(bytes: &[u8], at: u64, buf: &mut [u8]) -> usize
-    ensures { ReadsAt (Some bytes.now) at buf.old result buf.new }
-{
-    let at = at as usize;
-    if at >= bytes.len() {
-        return 0;
-    }
-    let rest = &bytes[at..];
-    let n = rest.len().min(buf.len());
-    buf[..n].copy_from_slice(&rest[..n]);
-    n
 }

@@ -150,33 +150,36 @@ IsFoundAfter-uncovered (Some files) job shard number m test found first tells no
     (sym (with_shard-without job number m kept cells (sym (tells files id kept read) ∙ not)))
     stands
 
+-- where the shard covers the integration, by what stands with the cells that were read
+IsFoundAfter-read : (told : Option Files) (job : JobSizes) (shard : Shard) (number m width : ℕ) (test : Bool) (found next : Found) (first first' cells : List Cell)
+    → IsCovering job shard number m test → test ≡ true
+    → ((before : List (List Cell)) → Stands found first before → Stands next first' (before ++ (cells ∷ [])))
+    → width ≡ width_at job number → WhereTold told (AreCellsOf job shard number m width cells)
+    → WhereTold told (IsFoundAfter job shard number m found next first first')
+IsFoundAfter-read None job shard number m width test found next first first' cells tells covered follows wide sums = tt
+IsFoundAfter-read (Some files) job shard number m width test found next first first' cells tells covered follows wide sums =
+    λ id kept before read stands.
+    let is : cells ≡ shard_cells job number m kept =
+    sums id kept read ∙ ap (λ n. added (replicate n no_cell) (kept_in number m kept)) wide in
+    subst (λ (all : List (List Cell)). Stands next first' all)
+    (sym
+    (with_shard-with job number m kept before (sym (tells files id kept read) ∙ covered)
+    ∙ ap (λ (c : List Cell). before ++ (c ∷ [])) (sym is)))
+    (follows before stands)
+
 pub IsFoundAfter-first : (told : Option Files) (job : JobSizes) (shard : Shard) (number m width : ℕ) (test : Bool) (found next : Found) (first cells : List Cell)
     → IsCovering job shard number m test → test ≡ true → found.some ≡ false → next.some ≡ true → next.least ≡ None
     → width ≡ width_at job number → WhereTold told (AreCellsOf job shard number m width cells)
     → WhereTold told (IsFoundAfter job shard number m found next first cells)
-IsFoundAfter-first None job shard number m width test found next first cells tells covered none some least wide read = tt
-IsFoundAfter-first (Some files) job shard number m width test found next first cells tells covered none some least wide sums =
-    λ id kept before read stands.
-    let is : cells ≡ shard_cells job number m kept =
-    sums id kept read ∙ ap (λ n. added (replicate n no_cell) (kept_in number m kept)) wide in
-    subst (λ (all : List (List Cell)). Stands next cells all)
-    (sym
-    (with_shard-with job number m kept before (sym (tells files id kept read) ∙ covered)
-    ∙ ap (λ (c : List Cell). before ++ (c ∷ [])) (sym is)))
-    (Stands-first found next first cells before none stands some least)
+IsFoundAfter-first told job shard number m width test found next first cells tells covered none some least =
+    IsFoundAfter-read told job shard number m width test found next first cells cells tells covered
+    (λ before stands. Stands-first found next first cells before none stands some least)
 
 pub IsFoundAfter-more : (told : Option Files) (job : JobSizes) (shard : Shard) (number m width : ℕ) (test : Bool) (found next : Found) (first cells : List Cell)
     → IsCovering job shard number m test → test ≡ true → found.some ≡ true → next.some ≡ true
     → option_map as_difference next.least ≡ earlier (option_map as_difference found.least) (difference 0 first cells)
     → width ≡ width_at job number → WhereTold told (AreCellsOf job shard number m width cells)
     → WhereTold told (IsFoundAfter job shard number m found next first first)
-IsFoundAfter-more None job shard number m width test found next first cells tells covered once some least wide read = tt
-IsFoundAfter-more (Some files) job shard number m width test found next first cells tells covered once some least wide sums =
-    λ id kept before read stands.
-    let is : cells ≡ shard_cells job number m kept =
-    sums id kept read ∙ ap (λ n. added (replicate n no_cell) (kept_in number m kept)) wide in
-    subst (λ (all : List (List Cell)). Stands next first all)
-    (sym
-    (with_shard-with job number m kept before (sym (tells files id kept read) ∙ covered)
-    ∙ ap (λ (c : List Cell). before ++ (c ∷ [])) (sym is)))
-    (Stands-more found next first cells before once stands some least)
+IsFoundAfter-more told job shard number m width test found next first cells tells covered once some least =
+    IsFoundAfter-read told job shard number m width test found next first first cells tells covered
+    (λ before stands. Stands-more found next first cells before once stands some least)

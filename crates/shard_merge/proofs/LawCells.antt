@@ -2,6 +2,7 @@
 use Rattle.std.specs.Prelude.{replicate, slice_get, option_map, filter}
 use Rattle.std.specs.Option.{option_map_or}
 use Rattle.std.proofs.Common.{◌≡◌, ◌∙◌, sym, ap, refl, ℕ, ◌+◌, ◌*◌, ◌^◌, ◌≤◌, min, true, false, ◌==◌, List, [], ◌∷◌, Option, Some, suc, arith}
+use Rattle.std.proofs.Math.Nat.{zero-add}
 use Rattle.std.proofs.lemmas.Bool.{eqb-true}
 use Rattle.std.proofs.lemmas.Option.{slice_get-map}
 use Rattle.corr_model.specs.declared.cell.Cell.{Cell}
@@ -67,11 +68,7 @@ integration_cells-is : (plan : Plan) (z : Samples) (scan : ScanPlan) (m : ℕ)
     → range_cells plan z scan
     (integration_at (sizes_of plan) (size_of plan scan) m).from (integration_at (sizes_of plan) (size_of plan scan) m).to
     ≡ integration_cells plan z scan m
-integration_cells-is plan z scan m =
-    let from : 0 + m * plan.integration ≡ m * plan.integration = omega arith in
-    let to : 0 + (m + 1) * plan.integration ≡ (m + 1) * plan.integration = omega arith in
-    ap (λ (n : ℕ). range_cells plan z scan n (min (0 + (m + 1) * plan.integration) scan.samples)) from
-    ∙ ap (λ (n : ℕ). range_cells plan z scan (m * plan.integration) (min n scan.samples)) to
+integration_cells-is plan z scan m = rw (zero-add (m * plan.integration), zero-add ((m + 1) * plan.integration)) refl
 
 -- kept epochs that are the job's and have its sums
 abbrev pub AreTrue : Plan → Files → List KeptEpoch → Type 0

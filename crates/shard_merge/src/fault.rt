@@ -80,13 +80,3 @@ pub enum OutputFault {
     #[error("a write failed")]
     Write,
 }
-
-impl From<AllocError> for OutputFault {
-    ghost use Rattle.shard_merge.specs.declared.fault.OutputFault.TheVariants.{Memory};
-
-    ghost from_gives = { λ _ fault. fault ≡ Memory };
-
-    fn from(_fault: AllocError) -> OutputFault {
-        OutputFault::Memory
-    }
-}

@@ -43,20 +43,17 @@ pub fn write_merged<F: Shelf, S: Sink>(
     ensures reads { CountsOutputReads (F.faults shelf.old) (F.faults shelf.new) result }
     ensures writes { CountsOutputWrites (S.faults out.old) (S.faults out.new) result }
 {
-    let Rooms {
-        head,
-        mut cells,
-        mut part,
-        mut buffer,
-    } = make_room(alloc, plan)?;
+    let Ok(mut rooms) = make_room(alloc, plan) else {
+        return Err(OutputFault::Memory);
+    };
     answer(write_file(
         shelf,
         shards,
         epochs,
-        &head,
-        &mut cells,
-        &mut part,
-        &mut buffer,
+        &rooms.head,
+        &mut rooms.cells,
+        &mut rooms.part,
+        &mut rooms.buffer,
         out,
     ))
 }

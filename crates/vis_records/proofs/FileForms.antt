@@ -14,10 +14,10 @@ use Rattle.vis_records.specs.Content.{Content, IsRecordFile}
 use Rattle.vis_records.specs.Reading.{head, record_due, end_due, record_file}
 use Rattle.vis_records.specs.Laws.{ReadsWhatIsWritten, ReadsBack, HasOneContent}
 use Rattle.vis_records.proofs.PartLemmas.{took-later, stops-first, stops-later}
-use Rattle.vis_records.proofs.PartForms.{read-parts, AreBytes-behind}
+use Rattle.vis_records.proofs.PartForms.{holding, read-parts, AreBytes-behind}
 use Rattle.vis_records.proofs.HeadForms.{took-what, took-rest, joined}
 use Rattle.vis_records.proofs.ScanForms.{HeadIs, head-is, head-reads}
-use Rattle.vis_records.proofs.RecordForms.{holding, IsPlace, Recorded, EndSaid, records-is, records-read, records_text-long, end-is, end-reads}
+use Rattle.vis_records.proofs.RecordForms.{IsPlace, Recorded, EndSaid, records-is, records-read, records_text-long, end-is, end-reads}
 
 -- all things of some lists
 All-flat_map : {X Y : Type 0} (P : Y → Type 0) (f : X → List Y) (xs : List X) → All (λ x. All P (f x)) xs → All P (flat_map f xs)
@@ -108,12 +108,14 @@ pub record FileSaid (t : List ℕ) (h : Head) (cells : List Cell) (rest : List �
   pub vis : IsVis h cells
   pub is : t ≡ vis_text h cells
   pub none : rest ≡ []
+  pub took : record_file t ≡ Took (record { head = h; cells = cells }) []
 
 pub file-is : (t : List ℕ) (h : Head) (cells : List Cell) (n : ℕ) (t₁ t₂ rest : List ℕ) → AreBytes t
     → head t ≡ Took h t₁
     → in_turn (record_due h.lags) [] (places_of h) t₁ ≡ Took cells t₂
     → end_due (length (places_of h)) t₂ ≡ Took n rest
     → FileSaid t h cells rest
+unfolding record_file
 file-is t h cells n t₁ t₂ rest bytes first second third =
     holding (head-is t h t₁ bytes first) (λ (p : HeadIs t h t₁).
     let left : AreBytes t₁ = AreBytes-behind (head_text h) t₁ (subst AreBytes p.is bytes) in
@@ -127,6 +129,7 @@ file-is t h cells n t₁ t₂ rest bytes first second third =
           ∙ sym (vis_text-right h r.cells)
           ∙ ap (vis_text h) (sym r.whole);
       none = e.none;
+      took = took-later _ first (took-later _ second (took-later _ third (ap (λ r. Took (record { head = h; cells = cells }) r) e.none)));
     })))
 
 -- the number of records, by the cells
@@ -163,29 +166,7 @@ pub one_content : (text : List ℕ) → HasOneContent text
 one_content text content other small first second =
     took-what (sym (reads_back text content small first) ∙ reads_back text other small second)
 
--- a whole file that was read
-pub file-took : (t : List ℕ) (h : Head) (cells : List Cell) (n : ℕ) (t₁ t₂ rest : List ℕ) → AreBytes t
-    → head t ≡ Took h t₁
-    → in_turn (record_due h.lags) [] (places_of h) t₁ ≡ Took cells t₂
-    → end_due (length (places_of h)) t₂ ≡ Took n rest
-    → record_file t ≡ Took (record { head = h; cells = cells }) []
-unfolding record_file
-file-took t h cells n t₁ t₂ rest bytes first second third =
-    took-later _ first (took-later _ second (took-later _ third
-    (ap (λ r. Took (record { head = h; cells = cells }) r) (file-is t h cells n t₁ t₂ rest bytes first second third).none)))
-
--- a file that breaks a rule in its head, in a record or at its end
-pub stops-in_head : {stop : Stop} (t : List ℕ) → StopsBy (head t) stop → StopsBy (record_file t) stop
-unfolding record_file
-stops-in_head t fact = stops-first _ fact
-
-pub stops-in_records : {stop : Stop} (t : List ℕ) (h : Head) (t₁ : List ℕ)
-    → head t ≡ Took h t₁
-    → StopsBy (in_turn (record_due h.lags) [] (places_of h) t₁) stop
-    → StopsBy (record_file t) stop
-unfolding record_file
-stops-in_records t h t₁ first fact = stops-later _ first (stops-first _ fact)
-
+-- a file that breaks a rule at its end
 pub stops-at_end : {stop : Stop} (t : List ℕ) (h : Head) (cells : List Cell) (t₁ t₂ : List ℕ)
     → head t ≡ Took h t₁
     → in_turn (record_due h.lags) [] (places_of h) t₁ ≡ Took cells t₂

@@ -9,5 +9,6 @@ pub mod ScanForms
 pub mod RecordReading
 pub mod RecordForms
 pub mod FileForms
+pub mod WrittenEach
 pub mod NumberedLines
 pub mod RecordLines

@@ -1,11 +1,11 @@
 -- The lines of some things, thing by thing.
-use Rattle.std.proofs.Common.{◌≡◌, ◌<◌, ◌≤◌, ℕ, ◌+◌, List, ◌++◌, Option, length, map, take, get_or, ap, refl, ◌∙◌, arith}
+use Rattle.std.proofs.Common.{◌≡◌, ◌<◌, ◌≤◌, ℕ, ◌+◌, List, ◌++◌, Option, length, map, take, get_or, ap, sym, refl, ◌∙◌, arith}
 use Rattle.std.proofs.Math.Nat.{zero-add}
 use Rattle.std.specs.List.{flat_map, enumerate_from}
 use Rattle.std.proofs.lemmas.List.{length-map, get_or-map}
 use Rattle.std.proofs.lemmas.List.FromFn.{length-enumerate_from, get_or-enumerate_from}
 use Rattle.sink_text.specs.Written.{StretchState, Puts}
-use Rattle.sink_text.proofs.WrittenText.{flat_map-next, Puts-all}
+use Rattle.sink_text.proofs.WrittenText.{flat_map-next, Puts-all, Puts-then}
 use Rattle.vis_records.specs.Dumped.{numbered}
 
 -- the lines of the first things
@@ -31,6 +31,14 @@ numbered_first-made f lines xs i d x within is =
     numbered_first-next lines (map f xs) i (f d) (f x) (omega (arith, length-map xs f, within))
     (get_or-map f xs i d (f d) within ∙ ap f is)
 
+pub Puts-made-next : {X A : Type 0} {s₀ s₁ s₂ : StretchState} {t₀ t₁ t₂ : Option (List ℕ)} {f₀ f₁ f₂ : ℕ} (f : X → A)
+    (lines : ℕ → A → List ℕ) (xs : List X) (i : ℕ) (x : X) → i < length xs
+    → x ≡ get_or xs i x
+    → Puts (numbered_first lines (map f xs) i) s₀ s₁ t₀ t₁ f₀ f₁
+    → Puts (lines i (f x)) s₁ s₂ t₁ t₂ f₁ f₂
+    → Puts (numbered_first lines (map f xs) (i + 1)) s₀ s₂ t₀ t₂ f₀ f₂
+Puts-made-next f lines xs i x within is first next = Puts-then (numbered_first-made f lines xs i x x within (sym is)) first next
+
 -- the lines of all things
 pub Puts-numbered : {A : Type 0} {s₀ s₁ : StretchState} {t₀ t₁ : Option (List ℕ)} {f₀ f₁ : ℕ} (lines : ℕ → A → List ℕ)
     (things : List A) (i : ℕ) → length things ≤ i
@@ -44,3 +52,6 @@ pub Puts-made : {X A : Type 0} {s₀ s₁ : StretchState} {t₀ t₁ : Option (L
     → Puts (numbered_first lines (map f xs) i) s₀ s₁ t₀ t₁ f₀ f₁
     → Puts (numbered lines (map f xs)) s₀ s₁ t₀ t₁ f₀ f₁
 Puts-made f lines xs i past puts = Puts-numbered lines (map f xs) i (omega (arith, length-map xs f, past)) puts
+
+-- what a loop over numbered things puts
+pub ruleset numbered_each = (Puts-made-next, Puts-made)

@@ -28,6 +28,10 @@ pub record IsForm {A : Type 0} (part : List ℕ → Part A) (Good : A → Type 0
 pub AreBytes-behind : (a t : List ℕ) → AreBytes (a ++ t) → AreBytes t
 AreBytes-behind a t bytes = λ k. subst (λ n. n < 256) (get_or-append-add a t k 0) (bytes (length a + k))
 
+-- a fact that is held by a name
+pub holding : {P C : Type 0} → P → (P → C) → C
+holding p f = f p
+
 -- one part that was read, and what came behind it
 pub record Read {A B : Type 0} (part : Part A) (behind : A → List ℕ → Part B) (b : B) (last : List ℕ) : Type 0 where
   pub what : A

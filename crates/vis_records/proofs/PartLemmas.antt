@@ -1,10 +1,9 @@
 -- Parts of a text, one after another.
-use Rattle.std.proofs.Common.{◌≡◌, ◌≤◌, ◌<◌, ◌+◌, ℕ, Bool, true, false, suc, List, [], ◌∷◌, ◌++◌, length, take, drop, get_or, map, subst, ap, sym, refl, ◌∙◌, arith, drop-cons}
+use Rattle.std.proofs.Common.{◌≡◌, ◌≤◌, ◌<◌, ◌+◌, ℕ, Bool, true, suc, List, [], ◌∷◌, ◌++◌, length, take, drop, get_or, map, subst, ap, sym, refl, ◌∙◌, arith, drop-cons}
 use Rattle.std.specs.List.{flat_map, range_with_len}
-use Rattle.std.proofs.lemmas.List.{take_more, take_all, take-append-drop}
+use Rattle.std.proofs.lemmas.List.{take_more, take_all, take-append-drop, map-append}
 use Rattle.std.proofs.lemmas.List.FromFn.{get_or-range_with_len, length-range_with_len}
 use Rattle.vis_records.specs.declared.fault.VisKind.{VisKind}
-use Rattle.vis_records.specs.declared.fault.VisKind.TheVariants.{Memory}
 use Rattle.vis_records.specs.declared.fault.Stop.{Stop}
 use Rattle.vis_records.specs.Parts.{Part, Took, Stops, chain, checked, in_turn, one_more, StopsBy}
 
@@ -33,21 +32,11 @@ stops-later behind first fact = record {
   stops = λ other. ap (λ part. chain part behind) first ∙ fact.stops other;
 }
 
--- want of memory is no rule
-pub stops-never : {A : Type 0} {part : Part A} {stop : Stop} → stop.kind ≡ Memory → StopsBy part stop
-stops-never want = record { stops = λ other. absurd (other want) }
-
 pub checked-ok : {A : Type 0} {ok : Bool} {a : A} {rest : List ℕ} (kind : VisKind) (left : ℕ)
     → ok ≡ true
     → checked ok a rest kind left ≡ Took a rest
 unfolding checked
 checked-ok kind left is = rw is refl
-
-pub checked-not : {A : Type 0} {ok : Bool} {kind : VisKind} {left : ℕ} (a : A) (rest : List ℕ)
-    → ok ≡ false
-    → checked ok a rest kind left ≡ Stops kind left
-unfolding checked
-checked-not a rest is = rw is refl
 
 -- things in two lists
 turns-append : {S Y : Type 0} (step : S → Y → List ℕ → Part S) (ys : List Y) (behind : S → List ℕ → Part S) (xs : List Y)
@@ -171,3 +160,6 @@ in_turn-flat_map step f (x ∷ xs) s text =
     in_turn-append step (f x) (flat_map f xs) s text
     ∙ turns-flat_map step f xs (in_turn step s (f x) text) (λ s' rest. in_turn-flat_map step f xs s' rest)
     ∙ sym (in_turn-cons (λ s' y. in_turn step s' (f y)) x xs s text)
+
+-- what a loop over the numbers below one reads
+pub ruleset turns = (in_turn-none, turns-next, turns-all, one_more-took, map-append)

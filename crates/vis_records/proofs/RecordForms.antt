@@ -16,12 +16,8 @@ use Rattle.vis_records.specs.declared.fault.VisKind.TheVariants.{Order}
 use Rattle.vis_records.specs.Parts.{Took, in_turn, one_more, AreBytes}
 use Rattle.vis_records.specs.Reading.{cell, place, record_due, nothing, due, end_due}
 use Rattle.vis_records.proofs.PartLemmas.{took-later, in_turn-none, in_turn-cons}
-use Rattle.vis_records.proofs.PartForms.{IsForm, Read, read-parts, peel, AreBytes-behind, FieldSaid, field-said, field-reads, word-form, signed_word-form, Listed, more-reads, more-is, form-item}
+use Rattle.vis_records.proofs.PartForms.{holding, IsForm, Read, read-parts, peel, AreBytes-behind, FieldSaid, field-said, field-reads, word-form, signed_word-form, Listed, more-reads, more-is, form-item}
 use Rattle.vis_records.proofs.HeadForms.{took-what, took-rest, joined, assoc-5}
-
--- a fact that is held by a name
-pub holding : {P C : Type 0} → P → (P → C) → C
-holding p f = f p
 
 assoc-3 : (a b c r : List ℕ) → ((a ++ b) ++ c) ++ r ≡ a ++ (b ++ (c ++ r))
 assoc-3 a b c r = simp append_assoc

@@ -1,5 +1,5 @@
 -- The records of a head, read place by place.
-use Rattle.std.proofs.Common.{◌≡◌, ◌≤◌, ◌<◌, ℕ, zero-add, List, [], ◌∷◌, length, map, get_or, subst, ap, sym, refl, ◌∙◌, arith}
+use Rattle.std.proofs.Common.{◌≡◌, ◌≤◌, ◌<◌, ℕ, zero-add, List, length, map, get_or, subst, ap, sym, refl, ◌∙◌, arith}
 use Rattle.std.specs.Int.{div_ceil}
 use Rattle.std.specs.List.{range_with_len, enumerate_from}
 use Rattle.std.proofs.lemmas.List.{length-map, get_or-map}
@@ -9,11 +9,10 @@ use Rattle.corr_model.specs.declared.records.RecordAt.{RecordAt}
 use Rattle.corr_model.specs.Records.{Head, HeadScan, IsHead, baseline_places, product_places, scan_places, places_of}
 use Rattle.corr_model.proofs.RecordLemmas.{places_of-scans}
 use Rattle.vis_records.specs.declared.head.VisScan.{VisScan}
-use Rattle.vis_records.specs.declared.fault.VisKind.TheVariants.{AfterEnd}
 use Rattle.vis_records.specs.Heads.{scan_of, baseline_of, product_of}
 use Rattle.vis_records.specs.declared.head.VisProduct.{VisProduct}
-use Rattle.vis_records.specs.Parts.{Took, Stops, in_turn}
-use Rattle.vis_records.specs.Reading.{record_due, nothing}
+use Rattle.vis_records.specs.Parts.{in_turn}
+use Rattle.vis_records.specs.Reading.{record_due}
 use Rattle.vis_records.proofs.PartLemmas.{in_turn-map, in_turn-flat_map}
 use Rattle.vis_records.proofs.HeadPieces.{scans-short}
 
@@ -76,12 +75,3 @@ pub short-scan : (h : Head) (scans : List VisScan) (i : ℕ) (x : VisScan) → I
     → length x.baselines ≤ 528
 short-scan h scans i x good same within is =
     subst (λ (s : VisScan). length s.baselines ≤ 528) (sym is) (scans-short h scans good same i x within).1
-
--- what stands behind the end
-pub nothing-none : (t : List ℕ) → length t ≡ 0 → nothing t ≡ Took 0 t
-nothing-none [] e = refl
-nothing-none (b ∷ t) e = absurd (omega arith)
-
-pub nothing-some : (t : List ℕ) → 0 < length t → nothing t ≡ Stops AfterEnd (length t)
-nothing-some [] e = absurd (omega arith)
-nothing-some (b ∷ t) e = refl

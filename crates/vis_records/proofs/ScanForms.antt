@@ -10,7 +10,7 @@ use Rattle.vis_records.specs.declared.fault.VisKind.TheVariants.{Head as OfHead}
 use Rattle.vis_records.specs.Parts.{Took, field, list_of, AreBytes}
 use Rattle.vis_records.specs.Reading.{lags, name, product, last_of, baseline, baselines, scan, head}
 use Rattle.vis_records.proofs.PartLemmas.{took-later}
-use Rattle.vis_records.proofs.PartForms.{IsForm, peel, field-form, list-form, form-item}
+use Rattle.vis_records.proofs.PartForms.{IsForm, holding, peel, field-form, list-form, form-item}
 use Rattle.vis_records.proofs.HeadForms.{took-what, took-rest, joined, assoc-5, assoc-10, name-form, product-form, magic-form, lags-form}
 use Rattle.vis_records.proofs.BaselineForms.{Rising, Rising-none, baseline-item}
 
@@ -37,6 +37,53 @@ not_above n high = omega arith
 none_below : (n : ℕ) → 0 ≤ n
 none_below n = omega arith
 
+-- what a scan that was read says
+record ScanIs (stations : ℕ) (t : List ℕ) (s : HeadScan) (rest : List ℕ) : Type 0 where
+  good : IsHeadScan stations s
+  is : t ≡ scan_text s ++ rest
+
+scan-made : (stations : ℕ) (n : List ℕ) (second samples count : ℕ) (bs : List (ℕ × ℕ)) → IsName n → second < 2 ^ 32 → samples ≤ 2 ^ 40
+    → (1 ≤ count) × (count ≤ 528) → Rising stations bs × (length bs ≡ count)
+    → IsHeadScan stations (record { name = n; second = second; samples = samples; baselines = bs })
+scan-made stations n second samples count bs a b c d e = record {
+  name = a;
+  second = b;
+  samples = c;
+  some_baseline = subst (λ k. 1 ≤ k) (sym e.1) d.0;
+  baselines = subst (λ k. k ≤ 528) (sym e.1) d.1;
+  each = e.0.0;
+  rising = e.0.1;
+}
+
+scan-written : (t n t₁ : List ℕ) (second : ℕ) (t₂ : List ℕ) (samples : ℕ) (t₃ : List ℕ) (count : ℕ) (t₄ : List ℕ) (bs : List (ℕ × ℕ)) (t₅ rest : List ℕ)
+    → t ≡ name_text n ++ t₁
+    → t₁ ≡ little_bytes 8 second ++ t₂
+    → t₂ ≡ little_bytes 8 samples ++ t₃
+    → t₃ ≡ little_bytes 4 count ++ t₄
+    → t₄ ≡ flat_map baseline_text bs ++ t₅
+    → length bs ≡ count
+    → t₅ ≡ rest
+    → t ≡ scan_text (record { name = n; second = second; samples = samples; baselines = bs }) ++ rest
+scan-written t n t₁ second t₂ samples t₃ count t₄ bs t₅ rest a b c d e counted last =
+    joined t (name_text n) t₁ _ a (joined t₁ (little_bytes 8 second) t₂ _ b (joined t₂ (little_bytes 8 samples) t₃ _ c
+    (joined t₃ (little_bytes 4 count) t₄ _ d (joined t₄ (flat_map baseline_text bs) t₅ _ e last))))
+    ∙ ap (λ k. name_text n ++ (little_bytes 8 second ++ (little_bytes 8 samples ++ (little_bytes 4 k ++ (flat_map baseline_text bs ++ rest))))) (sym counted)
+    ∙ sym (assoc-5 (name_text n) (little_bytes 8 second) (little_bytes 8 samples) (little_bytes 4 (length bs)) (flat_map baseline_text bs) rest)
+
+scan-is : (stations : ℕ) → 1 ≤ stations → stations ≤ 32 → (t : List ℕ) (s : HeadScan) (rest : List ℕ) → AreBytes t → scan stations t ≡ Took s rest
+    → ScanIs stations t s rest
+scan-is stations some few t s rest bytes e =
+    holding (peel _ t name-form bytes e) (λ p.
+    holding (peel _ p.rest second-form p.bytes p.more) (λ q.
+    holding (peel _ q.rest samples-form q.bytes q.more) (λ r.
+    holding (peel _ r.rest count-form r.bytes r.more) (λ c.
+    holding (peel _ c.rest (baselines-form stations c.what some few) c.bytes c.more) (λ b.
+    subst (λ s. ScanIs stations t s rest) (took-what b.more)
+    (record {
+      good = scan-made stations p.what q.what r.what c.what b.what p.good (below q.what q.good.1) r.good.1 c.good b.good;
+      is = scan-written t p.what p.rest q.what q.rest r.what r.rest c.what c.rest b.what b.rest rest p.is q.is r.is c.is b.is b.good.1 (took-rest b.more);
+    }))))))
+
 pub scan-form : (stations : ℕ) → 1 ≤ stations → stations ≤ 32 → IsForm (scan stations) (IsHeadScan stations) scan_text
 scan-form stations some few = record {
   reads = λ s rest good.
@@ -47,51 +94,9 @@ scan-form stations some few = record {
       (took-later _ (count-form.reads (length s.baselines) _ (good.some_baseline, good.baselines))
       (took-later _ ((baselines-form stations (length s.baselines) some few).reads s.baselines rest ((good.each, good.rising), refl))
       refl))));
-  good = λ t s rest bytes e.
-      let p = peel _ t name-form bytes e in
-      let q = peel _ p.rest second-form p.bytes p.more in
-      let r = peel _ q.rest samples-form q.bytes q.more in
-      let c = peel _ r.rest count-form r.bytes r.more in
-      let b = peel _ c.rest (baselines-form stations c.what some few) c.bytes c.more in
-      subst (IsHeadScan stations) (took-what b.more)
-      (made p.what q.what r.what c.what b.what p.good (below q.what q.good.1) r.good.1 c.good b.good);
-  is = λ t s rest bytes e.
-      let p = peel _ t name-form bytes e in
-      let q = peel _ p.rest second-form p.bytes p.more in
-      let r = peel _ q.rest samples-form q.bytes q.more in
-      let c = peel _ r.rest count-form r.bytes r.more in
-      let b = peel _ c.rest (baselines-form stations c.what some few) c.bytes c.more in
-      written t p.what p.rest q.what q.rest r.what r.rest c.what c.rest b.what b.rest rest p.is q.is r.is c.is b.is b.good.1 (took-rest b.more)
-      ∙ ap (λ s. scan_text s ++ rest) (took-what b.more);
+  good = λ t s rest bytes e. (scan-is stations some few t s rest bytes e).good;
+  is = λ t s rest bytes e. (scan-is stations some few t s rest bytes e).is;
 }
-  where
-    made : (n : List ℕ) (second samples count : ℕ) (bs : List (ℕ × ℕ)) → IsName n → second < 2 ^ 32 → samples ≤ 2 ^ 40
-        → (1 ≤ count) × (count ≤ 528) → Rising stations bs × (length bs ≡ count)
-        → IsHeadScan stations (record { name = n; second = second; samples = samples; baselines = bs })
-    made n second samples count bs a b c d e = record {
-      name = a;
-      second = b;
-      samples = c;
-      some_baseline = subst (λ k. 1 ≤ k) (sym e.1) d.0;
-      baselines = subst (λ k. k ≤ 528) (sym e.1) d.1;
-      each = e.0.0;
-      rising = e.0.1;
-    }
-
-    written : (t n t₁ : List ℕ) (second : ℕ) (t₂ : List ℕ) (samples : ℕ) (t₃ : List ℕ) (count : ℕ) (t₄ : List ℕ) (bs : List (ℕ × ℕ)) (t₅ rest : List ℕ)
-        → t ≡ name_text n ++ t₁
-        → t₁ ≡ little_bytes 8 second ++ t₂
-        → t₂ ≡ little_bytes 8 samples ++ t₃
-        → t₃ ≡ little_bytes 4 count ++ t₄
-        → t₄ ≡ flat_map baseline_text bs ++ t₅
-        → length bs ≡ count
-        → t₅ ≡ rest
-        → t ≡ scan_text (record { name = n; second = second; samples = samples; baselines = bs }) ++ rest
-    written t n t₁ second t₂ samples t₃ count t₄ bs t₅ rest a b c d e counted last =
-        joined t (name_text n) t₁ _ a (joined t₁ (little_bytes 8 second) t₂ _ b (joined t₂ (little_bytes 8 samples) t₃ _ c
-        (joined t₃ (little_bytes 4 count) t₄ _ d (joined t₄ (flat_map baseline_text bs) t₅ _ e last))))
-        ∙ ap (λ k. name_text n ++ (little_bytes 8 second ++ (little_bytes 8 samples ++ (little_bytes 4 k ++ (flat_map baseline_text bs ++ rest))))) (sym counted)
-        ∙ sym (assoc-5 (name_text n) (little_bytes 8 second) (little_bytes 8 samples) (little_bytes 4 (length bs)) (flat_map baseline_text bs) rest)
 
 -- the lists of a head
 names-form : (n : ℕ) → IsForm (list_of (λ _. name) n) (λ ns. All IsName ns × (length ns ≡ n)) (flat_map name_text)
@@ -206,10 +211,6 @@ head-made t mark t₁ lags t₂ integration t₃ rate t₄ n t₅ keys t₆ m t�
           (joined t₆ (little_bytes 4 m) t₇ _ e₇ (joined t₇ (flat_map product_text products) t₈ _ e₈ (joined t₈ (little_bytes 4 k) t₉ _ e₉ e₁₀))))))))
           ∙ rw (g₁, ← g₆.1, ← g₈.1, ← g₁₀.1) (sym (head_text-right h rest));
     }
-
--- a fact that is held by a name
-holding : {P C : Type 0} → P → (P → C) → C
-holding p f = f p
 
 pub head-is : (t : List ℕ) (h : Head) (rest : List ℕ) → AreBytes t → head t ≡ Took h rest → HeadIs t h rest
 head-is t h rest bytes e =

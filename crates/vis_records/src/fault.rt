@@ -1,46 +1,35 @@
 //! Why a text is no record file.
+ghost use Rattle.std.specs.Prelude.{◌≡◌};
+ghost use Rattle.vis_records.specs.{KindName.{kind_name}, declared.fault.VisKind.TheVariants.{Memory}};
+
 use std::alloc::{AllocError, AllocFailed};
 use thiserror::Error;
+use variant_name::name_of;
 
 /// Which rule a text breaks first, from the front.
 #[derive(Clone, Copy, Debug, PartialEq, Eq, Error)]
+#[error("{}", self.name())]
 pub enum VisKind {
     /// It has eight bytes or more and does not begin with the mark.
-    #[error("Magic")]
     Magic,
     /// It ends inside a field, or before its end is whole.
-    #[error("Short")]
     Short,
     /// A mark or number of a record or of the end is not the one that is due.
-    #[error("Order")]
     Order,
     /// It goes on behind its end.
-    #[error("AfterEnd")]
     AfterEnd,
     /// A number of the head is outside its range or order.
-    #[error("Head")]
     Head,
     /// There is no memory for what stands in the text.
-    #[error("Memory")]
     Memory,
 }
 
 impl VisKind {
-    ghost use Rattle.std.specs.Prelude.{◌≡◌};
-    ghost use Rattle.vis_records.specs.KindName.{kind_name};
-
     /// The rule's name, as it is written above.
     pub fn name(self) -> &'static str
         ensures { result.now ≡ kind_name self }
     {
-        match self {
-            VisKind::Magic => "Magic",
-            VisKind::Short => "Short",
-            VisKind::Order => "Order",
-            VisKind::AfterEnd => "AfterEnd",
-            VisKind::Head => "Head",
-            VisKind::Memory => "Memory",
-        }
+        name_of!(self: VisKind { Magic, Short, Order, AfterEnd, Head, Memory })
     }
 }
 
@@ -67,9 +56,6 @@ const NO_MEMORY: Stop = Stop {
 };
 
 impl From<AllocError> for Stop {
-    ghost use Rattle.std.specs.Prelude.{◌≡◌};
-    ghost use Rattle.vis_records.specs.declared.fault.VisKind.TheVariants.{Memory};
-
     ghost from_gives = { λ _ stop. stop.kind ≡ Memory };
 
     fn from(_: AllocError) -> Self {
@@ -78,9 +64,6 @@ impl From<AllocError> for Stop {
 }
 
 impl<T: Drop> From<AllocFailed<T>> for Stop {
-    ghost use Rattle.std.specs.Prelude.{◌≡◌};
-    ghost use Rattle.vis_records.specs.declared.fault.VisKind.TheVariants.{Memory};
-
     ghost from_gives = { λ _ stop. stop.kind ≡ Memory };
 
     fn from(_: AllocFailed<T>) -> Self {

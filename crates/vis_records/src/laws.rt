@@ -2,14 +2,10 @@
 ghost use Rattle.std.specs.Prelude.{ℕ, List};
 ghost use Rattle.vis_records.specs.Laws.{ReadsWhatIsWritten, ReadsBack, HasOneContent};
 
-/// A text that is read is the record file with the content that is read.
+/// A text that is read is the record file with the content that is read, and a record file is read to its content.
 pub fn reads_what_is_written()
-    ensures { (text : List ℕ) → ReadsWhatIsWritten text }
-{}
-
-/// A record file is read to its content.
-pub fn reads_back()
-    ensures { (text : List ℕ) → ReadsBack text }
+    ensures written { (text : List ℕ) → ReadsWhatIsWritten text }
+    ensures back { (text : List ℕ) → ReadsBack text }
 {}
 
 /// A text is the record file of at most one content.

@@ -79,6 +79,7 @@ fn put_station<S: Sink>(number: usize, key: &Name, lines: &mut Stretch, out: &mu
 }
 
 // Puts each product's line.
+#[tactic(auto, using(crate::proofs::NumberedLines::numbered_each))]
 fn put_products<S: Sink>(products: &[VisProduct], lines: &mut Stretch, out: &mut S)
     ensures { Puts (numbered product_line (map product_of products.now)) lines.old lines.new (S.told out.old) (S.told out.new) (S.faults out.old) (S.faults out.new) }
 {
@@ -106,6 +107,7 @@ fn put_product<S: Sink>(number: usize, product: &VisProduct, lines: &mut Stretch
 }
 
 // Puts each scan's lines.
+#[tactic(auto, using(crate::proofs::NumberedLines::numbered_each))]
 fn put_scans<S: Sink>(scans: &[VisScan], lines: &mut Stretch, out: &mut S)
     ensures { Puts (numbered scan_lines (map scan_of scans.now)) lines.old lines.new (S.told out.old) (S.told out.new) (S.faults out.old) (S.faults out.new) }
 {

@@ -41,6 +41,7 @@ fn placed(stop: Stop, len: usize) -> VisFault
 }
 
 // The content of a record file.
+#[tactic(auto, unfolding(crate::specs::Reading::record_file, crate::specs::Parts::chain))]
 fn read_file(alloc: Global, bytes: &[u8]) -> Result<Vis, Stop>
     ensures took { IfOk result (λ vis. record_file bytes.now ≡ Took vis []) }
     ensures content { IfOk result (λ vis. IsRecordFile bytes.now vis) }

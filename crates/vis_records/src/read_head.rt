@@ -1,4 +1,6 @@
 //! The head of a record file, read from the front.
+#![tactic(auto, using(crate::proofs::PartLemmas::turns), unfolding(crate::specs::Parts::chain, crate::specs::Parts::checked))]
+
 ghost use Rattle.std.specs.Prelude.{◌≡◌, ◌≤◌, ◌<◌, ◌^◌, map, IfOk, IfErr, option_map};
 ghost use Rattle.vis_records.specs.{Parts.{Took, StopsBy, AreBytes, list_of}, Reading.{magic, lags, name, product, least_first, least_second, baseline, baselines, scan, head}};
 ghost use Rattle.vis_records.specs.Heads.{product_of, baseline_of, scan_of};

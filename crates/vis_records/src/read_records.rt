@@ -1,4 +1,6 @@
 //! The records of a record file, read from the front.
+#![tactic(auto, using(crate::proofs::PartLemmas::turns), unfolding(crate::specs::Parts::chain))]
+
 ghost use Rattle.std.specs.Prelude.{◌≡◌, ◌≤◌, ◌<◌, ◌^◌, length, OnOk, IfOk, IfErr};
 ghost use Rattle.std.specs.List.{range_with_len};
 ghost use Rattle.corr_model.specs.Records.{IsHead, baseline_places, product_places, scan_places, places_of};

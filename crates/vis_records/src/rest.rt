@@ -1,4 +1,6 @@
 //! What is left of a text that is read from the front.
+#![tactic(auto, unfolding(crate::specs::Parts::chain, crate::specs::Parts::checked, crate::specs::Parts::piece, crate::specs::Parts::field))]
+
 ghost use Rattle.std.specs.Prelude.{◌≡◌, ◌≤◌, length, IfOk, IfErr};
 ghost use Rattle.std.specs.Int.{w64, cast_signed};
 ghost use Rattle.vis_records.specs.{Parts.{piece, number_of, field, Took, StopsBy}, Reading.{word, signed_word}};

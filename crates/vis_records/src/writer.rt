@@ -1,4 +1,6 @@
 //! The writer of the record file: a head, the records, an end. Each call appends its text to a sink.
+#![tactic(auto, using(crate::proofs::WrittenEach::each))]
+
 ghost use Rattle.std.specs.Prelude.{◌≡◌, ◌≤◌, length, flat_map};
 ghost use Rattle.std.specs.List.{All};
 ghost use Rattle.corr_model.specs.Records.{head_text, record_text, end_text, name_text, product_text, scan_text, baseline_text, cell_text, IsName};

@@ -139,6 +139,14 @@ scan-at head listed k scan same h is =
     ∙ slice_get-map scan_of listed k
     ∙ ap (option_map scan_of) (slice_get_read listed (length listed) k scan refl h is)
 
+-- the same by the number of scans of the head
+pub scan-there : (head : Head) (listed : List VisScan) (k : ℕ) (scan : VisScan) → map scan_of listed ≡ head.scans
+    → k < length head.scans → scan ≡ get_or listed k scan
+    → slice_get head.scans k ≡ Some (scan_of scan)
+scan-there head listed k scan same inside is =
+    let many : length head.scans ≡ length listed = sym (ap length same) ∙ length-map listed scan_of in
+    scan-at head listed k scan same (omega (arith, many, inside)) is
+
 pub text_at-some : (head : Head) (of : CellsOf) (k : ℕ) (s : HeadScan) → slice_get head.scans k ≡ Some s
     → scan_text_by head of k s ≡ text_at head of k
 text_at-some head of k s there = ap (λ (o : Option HeadScan). option_map_or (scan_text_by head of k) o []) (sym there)

@@ -60,10 +60,7 @@ flat_map-rest f k n h =
 pub length-rows : {A B : Type 0} (f : A → List B) (w : ℕ) (xs : List A) → ((x : A) → length (f x) ≡ w)
     → length (flat_map f xs) ≡ length xs * w
 length-rows f w [] each = omega arith
-length-rows f w (x ∷ xs) each =
-    let one = each x in
-    let more = length-rows f w xs each in
-    length-append (f x) (flat_map f xs) ∙ omega (arith, one, more)
+length-rows f w (x ∷ xs) each = length-append (f x) (flat_map f xs) ∙ omega (arith, each x, length-rows f w xs each)
 
 -- records, and then others
 pub records_text-append : (lags : ℕ) (p q : List RecordAt) (c d : List Cell) → length c ≡ length p * lags

@@ -1,6 +1,6 @@
 // A file in memory with a record of what was done to it, and so with all its images.
-ghost use Rattle.std.specs.Prelude.{◌≡◌, ℕ, ◌+◌, ◌<◌, ◌≤◌, ◌^◌, ◌||◌, [], length, take, IfOk, OnOk, OnErr, Some, if◌then◌else◌, nat_le, slice_index};
-ghost use Rattle.dev_traits.specs.{Files.{ReadsAt}, Images.{put_at, Same, Torn, Shorn}, Moments.{Goes}};
+ghost use Rattle.std.specs.Prelude.{◌≡◌, ℕ, ◌+◌, ◌<◌, ◌≤◌, ◌^◌, ◌||◌, [], length, take, IfOk, OnOk, OnErr, if◌then◌else◌, nat_le, slice_index};
+ghost use Rattle.dev_traits.specs.{Images.{put_at, Same, Torn, Shorn}, Moments.{Goes}};
 ghost use Rattle.mem_devices.specs.{MemDiskState.{start, after_write, after_cut, after_sync, is_torn, filled, filled_by}, MemDiskRecord.{replay, torn_next, call_end}};
 
 use std::alloc::{AllocError, Global};
@@ -162,20 +162,6 @@ fn next_bytes(
     } else {
         old.to_vec(alloc)
     }
-}
-
-/// Fills the front of `buf` with the bytes from `at` on, and answers how many there were and fit.
-pub fn read_from(bytes: &[u8], at: u64, buf: &mut [u8]) -> usize
-    ensures { ReadsAt (Some bytes.now) at buf.old result buf.new }
-{
-    let at = at as usize;
-    if at >= bytes.len() {
-        return 0;
-    }
-    let rest = &bytes[at..];
-    let n = rest.len().min(buf.len());
-    buf[..n].copy_from_slice(&rest[..n]);
-    n
 }
 
 // The ranges written since the last sync, one call on.

@@ -1,14 +1,13 @@
-use Rattle.std.proofs.Common.{◌≡◌, ℕ, ◌+◌, List, length, drop, sym, arith}
+use Rattle.std.proofs.Common.{◌≡◌, length, sym, arith}
 use Rattle.std.proofs.lemmas.Result.{IfOk-weaker}
 use Rattle.dev_traits.specs.Told.{WhereTold}
 use Rattle.dev_traits.proofs.ToldLemmas.{WhereTold-weaker}
 use Rattle.plan_places.specs.Places.{place_at}
-use Rattle.checkpoint_journal.proofs.RunLemmas.{looks_of, looks_both}
+use Rattle.checkpoint_journal.proofs.RunLemmas.{looks_after}
 use Rattle.checkpoint_journal.proofs.ToldLemmas.{told_again}
-use Rattle.journal_image.specs.declared.finding.Behind.{Behind}
 use Rattle.journal_image.specs.declared.finding.Behind.TheVariants.{Fault}
 use Rattle.journal_image.specs.Difference.{end_of}
-use Rattle.journal_image.specs.Finding.{IsBehind}
+use Rattle.checkpoint_journal.specs.Finding.{StandsBehind}
 use Rattle.checkpoint_journal.specs.Next.{TellsThing}
 use Rattle.checkpoint_journal.proofs.NextLemmas.{more_there, thing_of}
 use Rattle.checkpoint_journal.proofs.cursor.look.Goals as goal
@@ -27,16 +26,11 @@ returns-clause-told g c =
     let job = c.args.plan.now in
     let here = c.args.here.now in
     let p = c.args.place.now in
-    let seen = g.D.Disk.seen c.args.disk.now in
-    let looked = g.D.Disk.seen c.len.new.self in
-    let Stands : Behind → List ℕ → Type 0 = λ (b : Behind). λ (image : List ℕ). IsBehind job here.ranged (place_at p) (drop (here.gate + 1) image) (here.gate + 1) b in
-    IfOk-weaker c.look_behind.result (λ b. WhereTold looked (Stands b)) (λ b. WhereTold seen (λ image. TellsThing job image here b))
-    (λ b told. WhereTold-weaker seen (Stands b) (λ image. TellsThing job image here b)
+    IfOk-weaker c.look_behind.result (λ b. WhereTold _ (StandsBehind job here (place_at p) b)) (λ b. WhereTold _ (λ image. TellsThing job image here b))
+    (λ b told. WhereTold-weaker _ (StandsBehind job here (place_at p) b) (λ image. TellsThing job image here b)
     (λ image behind id r has. thing_of id job image r here has c.requires.job p c.requires.due b (λ inside. behind))
-    (told_again seen looked (Stands b) (sym c.len.ensures.same) told))
+    (told_again _ _ (StandsBehind job here (place_at p) b) (sym c.len.ensures.same) told))
     c.look_behind.ensures.behind
 
 pub returns-clause-looks : goal.returns-clause-looks
-returns-clause-looks g c =
-    let first = looks_of g.D.Disk.seen g.D.Disk.moment g.D.Disk.may_leave _ _ c.len.ensures.same c.len.ensures.goes in
-    looks_both g.D.Disk.seen g.D.Disk.moment g.D.Disk.may_leave _ _ _ first c.look_behind.ensures.looks
+returns-clause-looks g c = looks_after g.D.Disk.seen g.D.Disk.moment g.D.Disk.may_leave _ _ _ c.len.ensures.same c.len.ensures.goes c.look_behind.ensures.looks

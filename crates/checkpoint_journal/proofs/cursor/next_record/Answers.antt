@@ -24,7 +24,7 @@ returns-in_ok-behind-in-Mark-clause-told g c =
     let is : turned ≡ record here { gate = min (here.gate + 25) last; ranged = true } =
     turned_at here c.past_mark.result turned last c.past_mark.ensures c.up_to-turned.ensures in
     told_both seen (λ image. TellsThing job image here Mark) (λ image. TellsThing job image turned behind) (λ image. TellsRecord job image here last turned e)
-    (λ image mark tells. tells_behind job image here turned last behind c.args.place.now e c.requires.due is mark tells c.epoch_of.ensures.same)
+    (λ image mark tells. tells_behind job image here turned last behind c.args.place.now e c.requires.next.due is mark tells c.epoch_of.ensures.same)
     (subst (λ (b : Behind). WhereTold seen (λ image. TellsThing job image here b)) c.in-Mark.is c.in_ok-found.ensures.told)
     (told_again seen (g.D.Disk.seen c.look.new.disk) (λ image. TellsThing job image turned behind) (sym c.look.ensures.looks.same) c.in_ok-behind-in-Mark.ensures.told)
 
@@ -39,9 +39,9 @@ returns-in_default g c =
     let e = c.epoch_of-in_default.result in
     record {
       epoch = c.epoch_of-in_default.ensures.fits;
-      gate = record { kept = refl; next = refl; after = omega arith; within = c.requires.before };
+      gate = record { kept = refl; next = refl; after = omega arith; within = c.requires.next.before };
       told = WhereTold-weaker (g.D.Disk.seen c.args.disk.now) (λ image. TellsThing job image here found) (λ image. TellsRecord job image here c.args.last here e)
-          (λ image tells. tells_here job image here c.args.last found c.args.place.now e c.requires.due c.in_default.not-Mark tells c.epoch_of-in_default.ensures.same)
+          (λ image tells. tells_here job image here c.args.last found c.args.place.now e c.requires.next.due c.in_default.not-Mark tells c.epoch_of-in_default.ensures.same)
           c.in_ok-found.ensures.told;
       looks = c.look.ensures.looks;
       stays = c.look.ensures.stays;

@@ -11,7 +11,7 @@ pub returns-clause-placed : goal.returns-clause-placed
 returns-clause-placed g c = record {
   epoch = c.in_ok-next.ensures.epoch.epoch;
   of_plan = c.in_ok-next.ensures.epoch.of_plan;
-  place = body_within c.in_ok-next.next.gate.gate c.args.last c.body_place.result c.in_ok-next.next.gate.ranged c.in_ok-next.ensures.gate.within c.requires.short c.body_place.ensures;
+  place = body_within c.in_ok-next.next.gate.gate c.args.last c.body_place.result c.in_ok-next.next.gate.ranged c.in_ok-next.ensures.gate.within c.requires.next.short c.body_place.ensures;
 }
 
 pub returns-clause-told : goal.returns-clause-told

@@ -22,12 +22,12 @@ returns-in_default-clause-lists g c =
     (λ image before found. lists_covered id job image last here listed c.epochs-epochs.ensures.job c.in_default.is before found)
     c.loop-here.invariant.list
 
-pub returns-in_err-passed-clause-looks : goal.returns-in_err-passed-clause-looks
-returns-in_err-passed-clause-looks g c =
+pub returns-in_default-pass_record-clause-looks : goal.returns-in_default-pass_record-clause-looks
+returns-in_default-pass_record-clause-looks g c =
     looks_both g.D.Disk.seen g.D.Disk.moment g.D.Disk.may_leave _ _ _ c.loop-here.invariant.looks c.pass_record.ensures.looks
 
-pub returns-in_err-add-clause-looks : goal.returns-in_err-add-clause-looks
-returns-in_err-add-clause-looks g c =
+pub returns-in_default-add-clause-looks : goal.returns-in_default-add-clause-looks
+returns-in_default-add-clause-looks g c =
     looks_both g.D.Disk.seen g.D.Disk.moment g.D.Disk.may_leave _ _ _ c.loop-here.invariant.looks c.pass_record.ensures.looks
 
 pub loop-here-preserved : goal.loop-here-preserved
@@ -38,18 +38,18 @@ loop-here-preserved g c =
     let seen = g.D.Disk.seen c.args.disk.now in
     let here = c.loop-here.here in
     let listed = c.loop-here.kept.items in
-    let a = c.in_ok-passed.passed.0 in
-    let behind = c.in_ok-passed.passed.1 in
+    let a = c.in-Ok.passed.0 in
+    let behind = c.in-Ok.passed.1 in
     record {
       looks = looks_both g.D.Disk.seen g.D.Disk.moment g.D.Disk.may_leave _ _ _ c.loop-here.invariant.looks c.pass_record.ensures.looks;
       stays = g.met.D.Disk.stays_on.both _ _ _ c.loop-here.invariant.stays c.pass_record.ensures.stays;
       faults = search rules;
-      list = subst (λ (l : List KeptAt). WhereTold seen (λ image. IsListed id job image last behind l)) (sym {A = List KeptAt} c.in_ok-add.ensures)
+      list = subst (λ (l : List KeptAt). WhereTold seen (λ image. IsListed id job image last behind l)) (sym {A = List KeptAt} c.in-Ok-add.ensures)
           (told_both seen (λ image. IsListed id job image last here listed) (λ image. TellsListed job image here last.gate a behind) (λ image. IsListed id job image last behind (listed ++ a ∷ []))
-          (λ image before tells. listed_more id job image last here behind a listed c.loop-here-test.true c.in_ok-passed.ensures.past.kept tells before)
+          (λ image before tells. listed_more id job image last here behind a listed c.loop-here-test.true c.in-Ok.ensures.past.kept tells before)
           c.loop-here.invariant.list
-          (told_again seen _ (λ image. TellsListed job image here last.gate a behind) (sym c.loop-here.invariant.looks.same) c.in_ok-passed.ensures.told));
-      placed = subst (All (IsPlaced job)) (sym {A = List KeptAt} c.in_ok-add.ensures) (All-push (IsPlaced job) listed a c.loop-here.invariant.placed c.in_ok-passed.ensures.placed);
-      place = c.in_ok-passed.ensures.past.place;
-      within = c.in_ok-passed.ensures.past.within;
+          (told_again seen _ (λ image. TellsListed job image here last.gate a behind) (sym c.loop-here.invariant.looks.same) c.in-Ok.ensures.told));
+      placed = subst (All (IsPlaced job)) (sym {A = List KeptAt} c.in-Ok-add.ensures) (All-push (IsPlaced job) listed a c.loop-here.invariant.placed c.in-Ok.ensures.placed);
+      place = c.in-Ok.ensures.past.place;
+      within = c.in-Ok.ensures.past.within;
     }

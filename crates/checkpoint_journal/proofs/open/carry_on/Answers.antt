@@ -5,7 +5,7 @@ use Rattle.checkpoint_journal.specs.declared.finding.Found.{Found}
 use Rattle.checkpoint_journal.specs.Finding.{IsFound}
 use Rattle.checkpoint_journal.specs.Runs.{KeepsEpochs}
 use Rattle.checkpoint_journal.proofs.BeginLemmas.{epochs_stay}
-use Rattle.checkpoint_journal.proofs.OpenLemmas.{mark_due, mark_found, part_mark}
+use Rattle.checkpoint_journal.proofs.OpenLemmas.{mark_due, mark_found, mark_keeps}
 use Rattle.checkpoint_journal.proofs.open.carry_on.Goals as goal
 
 pub returns-then-not-lacks_mark-clause-changes : goal.returns-then-not-lacks_mark-clause-changes
@@ -18,17 +18,13 @@ returns-then-found-clause-changes g c = λ id job named is found.
 
 pub returns-in_err-keep_mark-clause-changes : goal.returns-in_err-keep_mark-clause-changes
 returns-in_err-keep_mark-clause-changes g c = λ id job named is found.
-    let f = c.args.found.now in
-    let lacks : (f.ranged ≡ false) × (f.next ≢ None) = c.lacks_mark.ensures.lacks (search rules) in
-    let m = mark_due id job f (g.D.Disk.seen c.args.disk.now) lacks.0 lacks.1 found in
-    part_mark id job named is m.reading g.D.Disk.seen g.D.Disk.moment g.D.Disk.may_leave g.met.D.Disk.seen_is_image f.gate _ _ c.requires.durable m.due c.keep_mark.ensures.tells (c.keep_mark.ensures.changes id job m.reading named is m.due)
+    mark_keeps g.D.Disk.seen g.D.Disk.moment g.D.Disk.may_leave g.met.D.Disk.seen_is_image id job named is c.args.found.now (c.lacks_mark.ensures.lacks (search rules)) _ _ found c.requires.durable
+    c.keep_mark.ensures.tells (λ r due. c.keep_mark.ensures.changes id job r named is due)
 
 pub returns-clause-changes : goal.returns-clause-changes
 returns-clause-changes g c = λ id job named is found.
-    let f = c.args.found.now in
-    let lacks : (f.ranged ≡ false) × (f.next ≢ None) = c.lacks_mark.ensures.lacks (search rules) in
-    let m = mark_due id job f (g.D.Disk.seen c.args.disk.now) lacks.0 lacks.1 found in
-    part_mark id job named is m.reading g.D.Disk.seen g.D.Disk.moment g.D.Disk.may_leave g.met.D.Disk.seen_is_image f.gate _ _ c.requires.durable m.due c.keep_mark.ensures.tells (c.keep_mark.ensures.changes id job m.reading named is m.due)
+    mark_keeps g.D.Disk.seen g.D.Disk.moment g.D.Disk.may_leave g.met.D.Disk.seen_is_image id job named is c.args.found.now (c.lacks_mark.ensures.lacks (search rules)) _ _ found c.requires.durable
+    c.keep_mark.ensures.tells (λ r due. c.keep_mark.ensures.changes id job r named is due)
 
 pub returns-clause-opens : goal.returns-clause-opens
 returns-clause-opens g c = λ id job named is found.

@@ -1,48 +1,34 @@
 use Rattle.std.specs.Prelude.{IfOk}
-use Rattle.std.proofs.Common.{◌≡◌, ◌∙◌, ◌<◌, ◌++◌, ◌∷◌, [], List, ℕ, length, Option, true, inl, inr, subst, sym}
-use Rattle.dev_traits.specs.Told.{WhereTold}
+use Rattle.std.proofs.Common.{◌≡◌, ◌∙◌, ◌<◌, ◌++◌, ◌∷◌, [], List, ℕ, length, Option, inl, inr, subst, sym}
 use Rattle.dev_traits.proofs.ToldLemmas.{WhereTold-weaker}
-use Rattle.checkpoint_journal.proofs.RunLemmas.{looks_of, looks_both, changes_looks, changes_both, durable_looks}
-use Rattle.checkpoint_journal.proofs.ToldLemmas.{told_again}
-use Rattle.journal_image.specs.Image.{is_blank}
-use Rattle.checkpoint_journal.specs.declared.finding.Finding.{Finding}
-use Rattle.checkpoint_journal.specs.Finding.{Finds, FindsPlace, FindsBehind, IsFound, IsOther}
+use Rattle.checkpoint_journal.proofs.RunLemmas.{looks_of, looks_after, durable_looks}
+use Rattle.checkpoint_journal.specs.Finding.{FindsPlace, FindsBehind, IsFound}
 use Rattle.checkpoint_journal.specs.Opening.{Opens}
-use Rattle.checkpoint_journal.specs.Runs.{KeepsEpochs, IsOurs}
-use Rattle.checkpoint_journal.proofs.BeginLemmas.{epochs_stay, epochs_joined}
-use Rattle.checkpoint_journal.proofs.OpenLemmas.{found_inside, found_ours, blank_ours, begun_found, begun_ready}
+use Rattle.checkpoint_journal.proofs.BeginLemmas.{epochs_quiet, epochs_after}
+use Rattle.checkpoint_journal.proofs.OpenLemmas.{told_finds, found_inside, blank_spared, found_spared, begun_found, begun_ready}
 use Rattle.checkpoint_journal.proofs.open.open.Goals as goal
 
 pub returns-in_err-sync-clause-changes : goal.returns-in_err-sync-clause-changes
 returns-in_err-sync-clause-changes g c =
-    let first = looks_of g.D.Disk.seen g.D.Disk.moment g.D.Disk.may_leave _ _ c.sync.ensures.same c.sync.ensures.goes in
-    changes_looks g.D.Disk.seen g.D.Disk.moment g.D.Disk.may_leave (KeepsEpochs c.args.id.now c.args.plan.now) (epochs_stay c.args.id.now c.args.plan.now) _ _ first
+    epochs_quiet g.D.Disk.seen g.D.Disk.moment g.D.Disk.may_leave c.args.id.now c.args.plan.now _ _ (looks_of g.D.Disk.seen g.D.Disk.moment g.D.Disk.may_leave _ _ c.sync.ensures.same c.sync.ensures.goes)
 
 pub returns-in_err-sync-clause-spares : goal.returns-in_err-sync-clause-spares
 returns-in_err-sync-clause-spares g c = inl (looks_of g.D.Disk.seen g.D.Disk.moment g.D.Disk.may_leave _ _ c.sync.ensures.same c.sync.ensures.goes)
 
 pub returns-in_err-finding-clause-changes : goal.returns-in_err-finding-clause-changes
 returns-in_err-finding-clause-changes g c =
-    let first = looks_of g.D.Disk.seen g.D.Disk.moment g.D.Disk.may_leave _ _ c.sync.ensures.same c.sync.ensures.goes in
-    let looks = looks_both g.D.Disk.seen g.D.Disk.moment g.D.Disk.may_leave _ _ _ first c.find.ensures.looks in
-    changes_looks g.D.Disk.seen g.D.Disk.moment g.D.Disk.may_leave (KeepsEpochs c.args.id.now c.args.plan.now) (epochs_stay c.args.id.now c.args.plan.now) _ _ looks
+    epochs_quiet g.D.Disk.seen g.D.Disk.moment g.D.Disk.may_leave c.args.id.now c.args.plan.now _ _ (looks_after g.D.Disk.seen g.D.Disk.moment g.D.Disk.may_leave _ _ _ c.sync.ensures.same c.sync.ensures.goes c.find.ensures.looks)
 
 pub returns-in_err-finding-clause-spares : goal.returns-in_err-finding-clause-spares
-returns-in_err-finding-clause-spares g c =
-    let first = looks_of g.D.Disk.seen g.D.Disk.moment g.D.Disk.may_leave _ _ c.sync.ensures.same c.sync.ensures.goes in
-    inl (looks_both g.D.Disk.seen g.D.Disk.moment g.D.Disk.may_leave _ _ _ first c.find.ensures.looks)
+returns-in_err-finding-clause-spares g c = inl (looks_after g.D.Disk.seen g.D.Disk.moment g.D.Disk.may_leave _ _ _ c.sync.ensures.same c.sync.ensures.goes c.find.ensures.looks)
 
 -- another job's file
 pub returns-in-Other-clause-changes : goal.returns-in-Other-clause-changes
 returns-in-Other-clause-changes g c =
-    let first = looks_of g.D.Disk.seen g.D.Disk.moment g.D.Disk.may_leave _ _ c.sync.ensures.same c.sync.ensures.goes in
-    let looks = looks_both g.D.Disk.seen g.D.Disk.moment g.D.Disk.may_leave _ _ _ first c.find.ensures.looks in
-    changes_looks g.D.Disk.seen g.D.Disk.moment g.D.Disk.may_leave (KeepsEpochs c.args.id.now c.args.plan.now) (epochs_stay c.args.id.now c.args.plan.now) _ _ looks
+    epochs_quiet g.D.Disk.seen g.D.Disk.moment g.D.Disk.may_leave c.args.id.now c.args.plan.now _ _ (looks_after g.D.Disk.seen g.D.Disk.moment g.D.Disk.may_leave _ _ _ c.sync.ensures.same c.sync.ensures.goes c.find.ensures.looks)
 
 pub returns-in-Other-clause-spares : goal.returns-in-Other-clause-spares
-returns-in-Other-clause-spares g c =
-    let first = looks_of g.D.Disk.seen g.D.Disk.moment g.D.Disk.may_leave _ _ c.sync.ensures.same c.sync.ensures.goes in
-    inl (looks_both g.D.Disk.seen g.D.Disk.moment g.D.Disk.may_leave _ _ _ first c.find.ensures.looks)
+returns-in-Other-clause-spares g c = inl (looks_after g.D.Disk.seen g.D.Disk.moment g.D.Disk.may_leave _ _ _ c.sync.ensures.same c.sync.ensures.goes c.find.ensures.looks)
 
 pub returns-in-Other-clause-durable : goal.returns-in-Other-clause-durable
 returns-in-Other-clause-durable g c =
@@ -50,11 +36,7 @@ returns-in-Other-clause-durable g c =
 
 pub returns-in-Other-clause-opens : goal.returns-in-Other-clause-opens
 returns-in-Other-clause-opens g c =
-    let id = c.args.id.now in
-    let job = c.args.plan.now in
-    let d = c.in-Other.d in
-    let finds = subst (λ (f : Finding). WhereTold (g.D.Disk.seen c.sync.new.self) (λ image. Finds id job image f)) c.in-Other.is c.in_ok-finding.ensures.finds in
-    (c.find.ensures.looks.same ∙ c.sync.ensures.same, told_again _ _ (λ image. IsOther id job image d) (sym c.sync.ensures.same) finds)
+    (c.find.ensures.looks.same ∙ c.sync.ensures.same, told_finds c.args.id.now c.args.plan.now _ _ _ _ c.in-Other.is (sym c.sync.ensures.same) c.in_ok-finding.ensures.finds)
 
 -- a blank file
 pub begin-requires-clause-durable : goal.begin-requires-clause-durable
@@ -63,40 +45,21 @@ begin-requires-clause-durable g c =
 
 pub begin-requires-clause-blank : goal.begin-requires-clause-blank
 begin-requires-clause-blank g c =
-    let finds = subst (λ (f : Finding). WhereTold (g.D.Disk.seen c.sync.new.self) (λ image. Finds c.args.id.now c.args.plan.now image f)) c.in-Blank.is c.in_ok-finding.ensures.finds in
-    told_again _ _ (λ image. is_blank image ≡ true) c.find.ensures.looks.same finds
+    told_finds c.args.id.now c.args.plan.now _ _ _ _ c.in-Blank.is c.find.ensures.looks.same c.in_ok-finding.ensures.finds
 
 pub returns-in_err-begin-in-Blank-clause-changes : goal.returns-in_err-begin-in-Blank-clause-changes
 returns-in_err-begin-in-Blank-clause-changes g c =
-    let id = c.args.id.now in
-    let job = c.args.plan.now in
-    let first = looks_of g.D.Disk.seen g.D.Disk.moment g.D.Disk.may_leave _ _ c.sync.ensures.same c.sync.ensures.goes in
-    let looks = looks_both g.D.Disk.seen g.D.Disk.moment g.D.Disk.may_leave _ _ _ first c.find.ensures.looks in
-    let quiet = changes_looks g.D.Disk.seen g.D.Disk.moment g.D.Disk.may_leave (KeepsEpochs id job) (epochs_stay id job) _ _ looks in
-    changes_both g.D.Disk.seen g.D.Disk.moment g.D.Disk.may_leave (KeepsEpochs id job) (epochs_stay id job) (epochs_joined id job) _ _ _ quiet (c.begin.ensures.changes job c.find.ensures.job)
+    epochs_after g.D.Disk.seen g.D.Disk.moment g.D.Disk.may_leave c.args.id.now c.args.plan.now _ _ _ (looks_after g.D.Disk.seen g.D.Disk.moment g.D.Disk.may_leave _ _ _ c.sync.ensures.same c.sync.ensures.goes c.find.ensures.looks) (c.begin.ensures.changes c.args.plan.now c.find.ensures.job)
 
 pub returns-in_ok-begin-in-Blank-clause-changes : goal.returns-in_ok-begin-in-Blank-clause-changes
 returns-in_ok-begin-in-Blank-clause-changes g c =
-    let id = c.args.id.now in
-    let job = c.args.plan.now in
-    let first = looks_of g.D.Disk.seen g.D.Disk.moment g.D.Disk.may_leave _ _ c.sync.ensures.same c.sync.ensures.goes in
-    let looks = looks_both g.D.Disk.seen g.D.Disk.moment g.D.Disk.may_leave _ _ _ first c.find.ensures.looks in
-    let quiet = changes_looks g.D.Disk.seen g.D.Disk.moment g.D.Disk.may_leave (KeepsEpochs id job) (epochs_stay id job) _ _ looks in
-    changes_both g.D.Disk.seen g.D.Disk.moment g.D.Disk.may_leave (KeepsEpochs id job) (epochs_stay id job) (epochs_joined id job) _ _ _ quiet (c.begin.ensures.changes job c.find.ensures.job)
+    epochs_after g.D.Disk.seen g.D.Disk.moment g.D.Disk.may_leave c.args.id.now c.args.plan.now _ _ _ (looks_after g.D.Disk.seen g.D.Disk.moment g.D.Disk.may_leave _ _ _ c.sync.ensures.same c.sync.ensures.goes c.find.ensures.looks) (c.begin.ensures.changes c.args.plan.now c.find.ensures.job)
 
 pub returns-in_err-begin-in-Blank-clause-spares : goal.returns-in_err-begin-in-Blank-clause-spares
-returns-in_err-begin-in-Blank-clause-spares g c =
-    let id = c.args.id.now in
-    let job = c.args.plan.now in
-    let finds = subst (λ (f : Finding). WhereTold (g.D.Disk.seen c.sync.new.self) (λ image. Finds id job image f)) c.in-Blank.is c.in_ok-finding.ensures.finds in
-    inr (told_again _ _ (IsOurs id job) (sym c.sync.ensures.same) (WhereTold-weaker _ (λ image. is_blank image ≡ true) (IsOurs id job) (blank_ours id job) finds))
+returns-in_err-begin-in-Blank-clause-spares g c = inr (blank_spared c.args.id.now c.args.plan.now _ _ _ c.in-Blank.is c.sync.ensures.same c.in_ok-finding.ensures.finds)
 
 pub returns-in_ok-begin-in-Blank-clause-spares : goal.returns-in_ok-begin-in-Blank-clause-spares
-returns-in_ok-begin-in-Blank-clause-spares g c =
-    let id = c.args.id.now in
-    let job = c.args.plan.now in
-    let finds = subst (λ (f : Finding). WhereTold (g.D.Disk.seen c.sync.new.self) (λ image. Finds id job image f)) c.in-Blank.is c.in_ok-finding.ensures.finds in
-    inr (told_again _ _ (IsOurs id job) (sym c.sync.ensures.same) (WhereTold-weaker _ (λ image. is_blank image ≡ true) (IsOurs id job) (blank_ours id job) finds))
+returns-in_ok-begin-in-Blank-clause-spares g c = inr (blank_spared c.args.id.now c.args.plan.now _ _ _ c.in-Blank.is c.sync.ensures.same c.in_ok-finding.ensures.finds)
 
 pub returns-in_ok-begin-in-Blank-clause-opens : goal.returns-in_ok-begin-in-Blank-clause-opens
 returns-in_ok-begin-in-Blank-clause-opens g c =
@@ -121,9 +84,8 @@ carry_on-requires-clause-within g c =
     let id = c.args.id.now in
     let job = c.args.plan.now in
     let f = c.in-Ours.found in
-    let finds = subst (λ (f : Finding). WhereTold (g.D.Disk.seen c.sync.new.self) (λ image. Finds id job image f)) c.in-Ours.is c.in_ok-finding.ensures.finds in
-    told_again _ _ (λ image. f.gate < length image) c.find.ensures.looks.same
-    (WhereTold-weaker _ (λ image. IsFound id job image f) (λ image. f.gate < length image) (λ image found. found_inside id job image f found) finds)
+    let told = told_finds id job _ _ _ _ c.in-Ours.is c.find.ensures.looks.same c.in_ok-finding.ensures.finds in
+    WhereTold-weaker _ (λ image. IsFound id job image f) (λ image. f.gate < length image) (λ image found. found_inside id job image f found) told
 
 pub carry_on-requires-clause-durable : goal.carry_on-requires-clause-durable
 carry_on-requires-clause-durable g c =
@@ -133,9 +95,7 @@ pub returns-in-Ours-clause-opens : goal.returns-in-Ours-clause-opens
 returns-in-Ours-clause-opens g c =
     let id = c.args.id.now in
     let job = c.args.plan.now in
-    let f = c.in-Ours.found in
-    let finds = subst (λ (f : Finding). WhereTold (g.D.Disk.seen c.sync.new.self) (λ image. Finds id job image f)) c.in-Ours.is c.in_ok-finding.ensures.finds in
-    let told = told_again _ _ (λ image. IsFound id job image f) c.find.ensures.looks.same finds in
+    let told = told_finds id job _ _ _ _ c.in-Ours.is c.find.ensures.looks.same c.in_ok-finding.ensures.finds in
     subst (λ (o : Option (List ℕ)). IfOk c.carry_on.result (Opens id job o (g.D.Disk.seen c.carry_on.new.disk))) (c.find.ensures.looks.same ∙ c.sync.ensures.same)
     (c.carry_on.ensures.opens id job c.requires.named c.find.ensures.job told)
 
@@ -147,18 +107,8 @@ pub returns-in-Ours-clause-changes : goal.returns-in-Ours-clause-changes
 returns-in-Ours-clause-changes g c =
     let id = c.args.id.now in
     let job = c.args.plan.now in
-    let f = c.in-Ours.found in
-    let finds = subst (λ (f : Finding). WhereTold (g.D.Disk.seen c.sync.new.self) (λ image. Finds id job image f)) c.in-Ours.is c.in_ok-finding.ensures.finds in
-    let told = told_again _ _ (λ image. IsFound id job image f) c.find.ensures.looks.same finds in
-    let first = looks_of g.D.Disk.seen g.D.Disk.moment g.D.Disk.may_leave _ _ c.sync.ensures.same c.sync.ensures.goes in
-    let looks = looks_both g.D.Disk.seen g.D.Disk.moment g.D.Disk.may_leave _ _ _ first c.find.ensures.looks in
-    let quiet = changes_looks g.D.Disk.seen g.D.Disk.moment g.D.Disk.may_leave (KeepsEpochs id job) (epochs_stay id job) _ _ looks in
-    changes_both g.D.Disk.seen g.D.Disk.moment g.D.Disk.may_leave (KeepsEpochs id job) (epochs_stay id job) (epochs_joined id job) _ _ _ quiet (c.carry_on.ensures.changes id job c.requires.named c.find.ensures.job told)
+    let told = told_finds id job _ _ _ _ c.in-Ours.is c.find.ensures.looks.same c.in_ok-finding.ensures.finds in
+    epochs_after g.D.Disk.seen g.D.Disk.moment g.D.Disk.may_leave id job _ _ _ (looks_after g.D.Disk.seen g.D.Disk.moment g.D.Disk.may_leave _ _ _ c.sync.ensures.same c.sync.ensures.goes c.find.ensures.looks) (c.carry_on.ensures.changes id job c.requires.named c.find.ensures.job told)
 
 pub returns-in-Ours-clause-spares : goal.returns-in-Ours-clause-spares
-returns-in-Ours-clause-spares g c =
-    let id = c.args.id.now in
-    let job = c.args.plan.now in
-    let f = c.in-Ours.found in
-    let finds = subst (λ (f : Finding). WhereTold (g.D.Disk.seen c.sync.new.self) (λ image. Finds id job image f)) c.in-Ours.is c.in_ok-finding.ensures.finds in
-    inr (told_again _ _ (IsOurs id job) (sym c.sync.ensures.same) (WhereTold-weaker _ (λ image. IsFound id job image f) (IsOurs id job) (λ image found. found_ours id job image f found) finds))
+returns-in-Ours-clause-spares g c = inr (found_spared c.args.id.now c.args.plan.now _ _ _ _ c.in-Ours.is c.sync.ensures.same c.in_ok-finding.ensures.finds)

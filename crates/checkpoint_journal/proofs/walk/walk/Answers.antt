@@ -1,16 +1,14 @@
-use Rattle.std.proofs.Common.{◌≡◌, ◌∙◌, ℕ, ◌+◌, ◌≤◌, List, length, get_or, take, drop, true, IfSome, refl, sym, ap, subst, arith, rules}
-use Rattle.dev_traits.specs.Told.{WhereTold}
+use Rattle.std.proofs.Common.{◌≡◌, ◌∙◌, ◌+◌, ◌≤◌, length, get_or, take, true, IfSome, refl, sym, ap, subst, arith, rules}
+use Rattle.dev_traits.proofs.ToldLemmas.{WhereTold-weaker}
 use Rattle.plan_places.specs.Places.{place_at, IsPlace}
-use Rattle.checkpoint_journal.proofs.RunLemmas.{looks_none, looks_both, stays_joined}
-use Rattle.checkpoint_journal.proofs.ToldLemmas.{told_both, told_three, told_again, told_four}
-use Rattle.journal_image.specs.declared.finding.Behind.{Behind}
+use Rattle.checkpoint_journal.proofs.RunLemmas.{looks_none, looks_both, looks_three, stays_joined}
+use Rattle.checkpoint_journal.proofs.ToldLemmas.{told_both, told_three, told_again}
 use Rattle.journal_image.specs.declared.finding.Behind.TheVariants.{Record, Mark, Fault}
 use Rattle.journal_image.specs.Image.{MayBeOld, begin}
 use Rattle.journal_image.specs.Difference.{end_of}
-use Rattle.journal_image.specs.Finding.{IsBehind}
 use Rattle.checkpoint_journal.specs.declared.finding.Found.{Found}
 use Rattle.checkpoint_journal.specs.Finding.{IsAt, IsFound, IsOther}
-use Rattle.checkpoint_journal.proofs.StepLemmas.{first_at, found_here, step_record, step_mark, step_fault, step_past}
+use Rattle.checkpoint_journal.proofs.StepLemmas.{first_at, found_here, step_record, step_mark, step_fault, step_past, IsSeen, told_seen}
 use Rattle.checkpoint_journal.proofs.walk.walk.Goals as goal
 
 pub loop-here-init : goal.loop-here-init
@@ -62,14 +60,10 @@ look_behind-requires-clause-length g c =
     told_again _ _ (λ image. c.args.len ≡ length image) (c.byte_at.ensures.looks.same ∙ c.loop-here.invariant.looks.same) c.requires.length
 
 pub returns-in_err-e-clause-looks : goal.returns-in_err-e-clause-looks
-returns-in_err-e-clause-looks g c =
-    let first = looks_both g.D.Disk.seen g.D.Disk.moment g.D.Disk.may_leave _ _ _ c.loop-here.invariant.looks c.byte_at.ensures.looks in
-    looks_both g.D.Disk.seen g.D.Disk.moment g.D.Disk.may_leave _ _ _ first c.look_behind.ensures.looks
+returns-in_err-e-clause-looks g c = looks_three g.D.Disk.seen g.D.Disk.moment g.D.Disk.may_leave _ _ _ _ c.loop-here.invariant.looks c.byte_at.ensures.looks c.look_behind.ensures.looks
 
 pub returns-in-Fault-clause-looks : goal.returns-in-Fault-clause-looks
-returns-in-Fault-clause-looks g c =
-    let first = looks_both g.D.Disk.seen g.D.Disk.moment g.D.Disk.may_leave _ _ _ c.loop-here.invariant.looks c.byte_at.ensures.looks in
-    looks_both g.D.Disk.seen g.D.Disk.moment g.D.Disk.may_leave _ _ _ first c.look_behind.ensures.looks
+returns-in-Fault-clause-looks g c = looks_three g.D.Disk.seen g.D.Disk.moment g.D.Disk.may_leave _ _ _ _ c.loop-here.invariant.looks c.byte_at.ensures.looks c.look_behind.ensures.looks
 
 pub loop-here-preserved-in-Record : goal.loop-here-preserved-in-Record
 loop-here-preserved-in-Record g c =
@@ -77,24 +71,17 @@ loop-here-preserved-in-Record g c =
     let job = c.args.plan.now in
     let here = c.loop-here.here in
     let later = c.past_record-here.result in
-    let p = c.in-Some.place in
-    let seen = g.D.Disk.seen c.args.disk.now in
-    let Stands : Behind → List ℕ → Type 0 = λ (b : Behind). λ (image : List ℕ). IsBehind job here.ranged (place_at p) (drop (here.gate + 1) image) (here.gate + 1) b in
-    let first = looks_both g.D.Disk.seen g.D.Disk.moment g.D.Disk.may_leave _ _ _ c.loop-here.invariant.looks c.byte_at.ensures.looks in
-    let found = told_again seen (g.D.Disk.seen c.byte_at.new.disk) (Stands (Record c.in-Record.e)) (sym first.same) (subst (λ (b : Behind). WhereTold (g.D.Disk.seen c.byte_at.new.disk) (Stands b)) c.in-Record.is c.in_ok-e.ensures.behind) in
+    let seen = told_seen id job here c.in-Some.place c.args.len c.in_ok-gate.gate _ _ _ _ _ c.loop-here.invariant.looks.same c.byte_at.ensures.looks.same c.in-Record.is c.requires.length c.in_ok-gate.ensures.byte c.in_ok-e.ensures.behind c.loop-here.invariant.at in
     record {
-      looks = looks_both g.D.Disk.seen g.D.Disk.moment g.D.Disk.may_leave _ _ _ first c.look_behind.ensures.looks;
+      looks = looks_three g.D.Disk.seen g.D.Disk.moment g.D.Disk.may_leave _ _ _ _ c.loop-here.invariant.looks c.byte_at.ensures.looks c.look_behind.ensures.looks;
       stays = stays_joined g.D.Disk.stays g.met.D.Disk.stays_on _ _ _ _ c.loop-here.invariant.stays c.byte_at.ensures.stays c.look_behind.ensures.stays;
       faults = search rules;
       old = c.past_record-here.ensures.same.0 ∙ c.loop-here.invariant.old;
-      at = told_four seen (λ image. c.args.len ≡ length image) (λ image. c.in_ok-gate.gate ≡ get_or image here.gate 0) (Stands (Record c.in-Record.e)) (λ image. IsAt id job image here) (λ image. IsAt id job image later)
-          (λ image is byte behind walked.
-          step_record id job image here walked p c.in-Some.is (omega (arith, c.loop-here-test.true)) (sym byte ∙ c.if-gate-ne1.false) c.in-Record.e later behind
+      at = WhereTold-weaker _ (IsSeen id job here c.in-Some.place c.args.len c.in_ok-gate.gate (Record c.in-Record.e)) (λ image. IsAt id job image later)
+          (λ image s.
+          step_record id job image here s.before c.in-Some.place c.in-Some.is (omega (arith, c.loop-here-test.true, s.length_is)) (sym s.byte ∙ c.if-gate-ne1.false) c.in-Record.e later s.behind
           c.past_record-here.ensures.kept c.past_record-here.ensures.gate c.past_record-here.ensures.next c.past_record-here.ensures.same.1 c.past_record-here.ensures.same.0)
-          c.requires.length
-          (told_again _ _ (λ image. c.in_ok-gate.gate ≡ get_or image here.gate 0) (sym c.loop-here.invariant.looks.same) c.in_ok-gate.ensures.byte)
-          found
-          c.loop-here.invariant.at;
+          seen;
       place = c.past_record-here.ensures.place;
       many = omega (arith, c.past_record-here.ensures.kept, c.past_record-here.ensures.gate, c.loop-here.invariant.many);
       behind = omega (arith, c.past_record-here.ensures.gate, c.loop-here.invariant.behind);
@@ -105,25 +92,18 @@ loop-here-preserved g c =
     let id = c.args.id.now in
     let job = c.args.plan.now in
     let here = c.loop-here.here in
-    let p = c.in-Some.place in
-    let seen = g.D.Disk.seen c.args.disk.now in
-    let Stands : Behind → List ℕ → Type 0 = λ (b : Behind). λ (image : List ℕ). IsBehind job here.ranged (place_at p) (drop (here.gate + 1) image) (here.gate + 1) b in
-    let first = looks_both g.D.Disk.seen g.D.Disk.moment g.D.Disk.may_leave _ _ _ c.loop-here.invariant.looks c.byte_at.ensures.looks in
-    let found = told_again seen (g.D.Disk.seen c.byte_at.new.disk) (Stands Mark) (sym first.same) (subst (λ (b : Behind). WhereTold (g.D.Disk.seen c.byte_at.new.disk) (Stands b)) c.in-Mark.is c.in_ok-e.ensures.behind) in
     let later : c.past_mark-here.result ≡ record here { gate = here.gate + 25; ranged = true } = c.past_mark-here.ensures in
+    let seen = told_seen id job here c.in-Some.place c.args.len c.in_ok-gate.gate _ _ _ _ _ c.loop-here.invariant.looks.same c.byte_at.ensures.looks.same c.in-Mark.is c.requires.length c.in_ok-gate.ensures.byte c.in_ok-e.ensures.behind c.loop-here.invariant.at in
     record {
-      looks = looks_both g.D.Disk.seen g.D.Disk.moment g.D.Disk.may_leave _ _ _ first c.look_behind.ensures.looks;
+      looks = looks_three g.D.Disk.seen g.D.Disk.moment g.D.Disk.may_leave _ _ _ _ c.loop-here.invariant.looks c.byte_at.ensures.looks c.look_behind.ensures.looks;
       stays = stays_joined g.D.Disk.stays g.met.D.Disk.stays_on _ _ _ _ c.loop-here.invariant.stays c.byte_at.ensures.stays c.look_behind.ensures.stays;
       faults = search rules;
       old = ap (λ (f : Found). f.old) later ∙ c.loop-here.invariant.old;
-      at = told_four seen (λ image. c.args.len ≡ length image) (λ image. c.in_ok-gate.gate ≡ get_or image here.gate 0) (Stands Mark) (λ image. IsAt id job image here) (λ image. IsAt id job image c.past_mark-here.result)
-          (λ image is byte behind walked.
+      at = WhereTold-weaker _ (IsSeen id job here c.in-Some.place c.args.len c.in_ok-gate.gate Mark) (λ image. IsAt id job image c.past_mark-here.result)
+          (λ image s.
           subst (λ (f : Found). IsAt id job image f) (sym later)
-          (step_mark id job image here walked p c.in-Some.is (omega (arith, c.loop-here-test.true)) (sym byte ∙ c.if-gate-ne1.false) behind))
-          c.requires.length
-          (told_again _ _ (λ image. c.in_ok-gate.gate ≡ get_or image here.gate 0) (sym c.loop-here.invariant.looks.same) c.in_ok-gate.ensures.byte)
-          found
-          c.loop-here.invariant.at;
+          (step_mark id job image here s.before c.in-Some.place c.in-Some.is (omega (arith, c.loop-here-test.true, s.length_is)) (sym s.byte ∙ c.if-gate-ne1.false) s.behind))
+          seen;
       place = subst (λ (f : Found). IfSome f.next (λ q. IsPlace job (place_at q))) (sym later) c.loop-here.invariant.place;
       many = subst (λ (f : Found). f.kept ≤ f.gate) (sym later) (omega (arith, c.loop-here.invariant.many));
       behind = subst (λ (f : Found). 1 + length id ≤ f.gate) (sym later) (omega (arith, c.loop-here.invariant.behind));
@@ -134,23 +114,11 @@ returns-in-Fault-clause-finds g c =
     let id = c.args.id.now in
     let job = c.args.plan.now in
     let here = c.loop-here.here in
-    let p = c.in-Some.place in
-    let d = c.in-Fault.d in
-    let seen = g.D.Disk.seen c.args.disk.now in
-    let Stands : Behind → List ℕ → Type 0 = λ (b : Behind). λ (image : List ℕ). IsBehind job here.ranged (place_at p) (drop (here.gate + 1) image) (here.gate + 1) b in
-    let first = looks_both g.D.Disk.seen g.D.Disk.moment g.D.Disk.may_leave _ _ _ c.loop-here.invariant.looks c.byte_at.ensures.looks in
-    let found = told_again seen (g.D.Disk.seen c.byte_at.new.disk) (Stands (Fault d)) (sym first.same) (subst (λ (b : Behind). WhereTold (g.D.Disk.seen c.byte_at.new.disk) (Stands b)) c.in-Fault.is c.in_ok-e.ensures.behind) in
-    told_both seen (λ image. take (1 + length id) image ≡ begin id c.args.old) (λ image. take (1 + length id) image ≡ begin id c.args.old → IsOther id job image d) (λ image. IsOther id job image d)
-    (λ image begun follows. follows begun)
+    told_both _ (λ image. take (1 + length id) image ≡ begin id c.args.old) (IsSeen id job here c.in-Some.place c.args.len c.in_ok-gate.gate (Fault c.in-Fault.d)) (λ image. IsOther id job image c.in-Fault.d)
+    (λ image begun s.
+    step_fault id job image here s.before c.in-Some.place c.in-Some.is (omega (arith, c.loop-here-test.true, s.length_is)) (sym s.byte ∙ c.if-gate-ne1.false) c.in-Fault.d c.requires.identity c.requires.job (rw c.loop-here.invariant.old begun) s.behind)
     c.requires.begun
-    (told_four seen (λ image. c.args.len ≡ length image) (λ image. c.in_ok-gate.gate ≡ get_or image here.gate 0) (Stands (Fault d)) (λ image. IsAt id job image here)
-    (λ image. take (1 + length id) image ≡ begin id c.args.old → IsOther id job image d)
-    (λ image is byte behind walked begun.
-    step_fault id job image here walked p c.in-Some.is (omega (arith, c.loop-here-test.true)) (sym byte ∙ c.if-gate-ne1.false) d c.requires.identity c.requires.job (rw c.loop-here.invariant.old begun) behind)
-    c.requires.length
-    (told_again _ _ (λ image. c.in_ok-gate.gate ≡ get_or image here.gate 0) (sym c.loop-here.invariant.looks.same) c.in_ok-gate.ensures.byte)
-    found
-    c.loop-here.invariant.at)
+    (told_seen id job here c.in-Some.place c.args.len c.in_ok-gate.gate _ _ _ _ _ c.loop-here.invariant.looks.same c.byte_at.ensures.looks.same c.in-Fault.is c.requires.length c.in_ok-gate.ensures.byte c.in_ok-e.ensures.behind c.loop-here.invariant.at)
 
 pub returns-clause-finds : goal.returns-clause-finds
 returns-clause-finds g c =

@@ -11,25 +11,16 @@ returns-in_err-stage_record-clause-changes g c = λ id job r named is due.
     part_stage id job named is r (Kept e body) c.args.gate (range_text e ++ body) g.D.Disk.seen g.D.Disk.moment g.D.Disk.may_leave g.met.D.Disk.seen_is_image _ _ c.requires.durable due
     c.stage_record.ensures.tells c.stage_record.ensures.runs
 
-pub returns-in_err-open_gate-clause-changes : goal.returns-in_err-open_gate-clause-changes
-returns-in_err-open_gate-clause-changes g c = λ id job r named is due.
-    let e = c.args.e.now in
-    let body = body_text c.args.sums.now.cells in
-    let staged = told_staged id job named is r (Kept e body) c.args.gate (range_text e ++ body) _ _ due c.in_ok-stage_record.ensures.written in
-    both_parts id job named is r (Kept e body) c.args.gate (range_text e ++ body) g.D.Disk.seen g.D.Disk.moment g.D.Disk.may_leave g.met.D.Disk.seen_is_image _ _ _ c.requires.durable due
-    c.stage_record.ensures.tells c.stage_record.ensures.runs (c.open_gate.ensures.changes id job r (Kept e body) (range_text e ++ body) named is staged)
-
 pub returns-clause-changes : goal.returns-clause-changes
 returns-clause-changes g c = λ id job r named is due.
     let e = c.args.e.now in
     let body = body_text c.args.sums.now.cells in
-    let staged = told_staged id job named is r (Kept e body) c.args.gate (range_text e ++ body) _ _ due c.in_ok-stage_record.ensures.written in
     both_parts id job named is r (Kept e body) c.args.gate (range_text e ++ body) g.D.Disk.seen g.D.Disk.moment g.D.Disk.may_leave g.met.D.Disk.seen_is_image _ _ _ c.requires.durable due
-    c.stage_record.ensures.tells c.stage_record.ensures.runs (c.open_gate.ensures.changes id job r (Kept e body) (range_text e ++ body) named is staged)
+    c.stage_record.ensures.tells c.stage_record.ensures.runs c.in_ok-stage_record.ensures.written (λ staged. c.open_gate.ensures.changes id job r (Kept e body) (range_text e ++ body) named is staged)
 
 pub returns-clause-added : goal.returns-clause-added
 returns-clause-added g c = λ id job r named is due.
     let e = c.args.e.now in
     let body = body_text c.args.sums.now.cells in
     let staged = told_staged id job named is r (Kept e body) c.args.gate (range_text e ++ body) _ _ due c.in_ok-stage_record.ensures.written in
-    c.in_ok-open_gate.ensures.added id job r (Kept e body) (range_text e ++ body) named is staged
+    c.open_gate.ensures.added id job r (Kept e body) (range_text e ++ body) named is staged

@@ -25,5 +25,5 @@ returns-clause-written g c =
     let at = c.args.at in
     let body = body_text c.args.sums.now.cells in
     let text = range_text c.args.e.now ++ body in
-    let place : at + c.record_len.result ≡ at + length text = omega (arith, length-append (range_text c.args.e.now) body, length-body_text c.args.sums.now.cells, c.requires.cells, c.record_len.ensures.is, c.cells.ensures) in
+    let place : at + c.record_len.result ≡ at + length text = omega (arith, length-append (range_text c.args.e.now) body, length-body_text c.args.sums.now.cells, c.requires.fits.many, c.record_len.ensures.is, c.cells.ensures) in
     written_more at (at + c.record_len.result) text (0 ∷ []) _ _ _ c.requires.within place c.in_ok-write_record.ensures.written c.in_ok-write_synced.ensures.written

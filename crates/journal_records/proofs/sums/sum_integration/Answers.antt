@@ -1,33 +1,24 @@
-use Rattle.std.proofs.Common.{◌∙◌, ◌<◌, ◌*◌, ℕ, ap, refl, arith}
+use Rattle.std.proofs.Common.{◌∙◌, ◌*◌, ℕ, ap, refl}
 use Rattle.std.specs.Prelude.{replicate}
 use Rattle.std.proofs.lemmas.Result.{on_ok_weaker}
 use Rattle.corr_model.specs.Cell.{no_cell}
-use Rattle.piece_plan.proofs.Quotients.{below_ceil}
 use Rattle.journal_records.specs.Store.{store}
 use Rattle.journal_records.proofs.SumLemmas.{integration-summed, integration-reached}
 use Rattle.journal_records.proofs.sums.sum_integration.Goals as goal
 
 pub returns-clause-sums : goal.returns-clause-sums
 returns-clause-sums g c =
-    let some = c.requires.cut.plan_is.some_integration in
-    let begun : c.args.m * c.args.plan.now.integration < c.args.scan.now.samples =
-    below_ceil c.args.scan.now.samples c.args.plan.now.integration c.args.m (omega (arith, some)) c.requires.inside in
-    on_ok_weaker c.add_epochs.result
-    (λ added. λ number there.
+    on_ok_weaker c.add_epochs.result (λ added. λ number there.
     integration-summed g.D.Disk.seen g.D.Disk.moment g.D.Disk.may_leave c.args.plan.now c.args.epochs.now c.requires.cut.same number c.args.m c.args.scan.now there
-    (c.args.m * c.args.plan.now.integration) c.min-to.result refl c.min-to.ensures begun some c.clear.new.cells c.add_epochs.new.sums
+    (c.args.m * c.args.plan.now.integration) c.min-to.result refl c.min-to.ensures c.requires.cut.plan_is.some_integration c.requires.inside c.clear.new.cells c.add_epochs.new.sums
     (store c.args.journal.now c.args.disk.now) (store c.add_epochs.new.journal c.add_epochs.new.disk) c.add_epochs.ensures.rests added
     (c.clear.ensures ∙ ap (λ (n : ℕ). replicate n no_cell) c.requires.room))
     c.add_epochs.ensures.added
 
 pub returns-clause-reaches : goal.returns-clause-reaches
 returns-clause-reaches g c =
-    let some = c.requires.cut.plan_is.some_integration in
-    let begun : c.args.m * c.args.plan.now.integration < c.args.scan.now.samples =
-    below_ceil c.args.scan.now.samples c.args.plan.now.integration c.args.m (omega (arith, some)) c.requires.inside in
-    on_ok_weaker c.add_epochs.result
-    (λ added. λ number there.
+    on_ok_weaker c.add_epochs.result (λ added. λ number there.
     integration-reached g.D.Disk.seen g.D.Disk.moment g.D.Disk.may_leave c.args.plan.now c.args.epochs.now c.requires.cut.same number c.args.m c.args.scan.now there
-    (c.args.m * c.args.plan.now.integration) c.min-to.result refl c.min-to.ensures begun some c.clear.new.cells c.add_epochs.new.sums
+    (c.args.m * c.args.plan.now.integration) c.min-to.result refl c.min-to.ensures c.requires.cut.plan_is.some_integration c.requires.inside c.clear.new.cells c.add_epochs.new.sums
     (store c.args.journal.now c.args.disk.now) (store c.add_epochs.new.journal c.add_epochs.new.disk) c.add_epochs.ensures.rests added)
     c.add_epochs.ensures.added

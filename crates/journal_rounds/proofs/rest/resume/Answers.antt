@@ -18,10 +18,14 @@ use Rattle.journal_rounds.proofs.RoomLemmas.{begins_told, opened-no_place, round
 use Rattle.journal_rounds.proofs.WalkLemmas.{left-some, left-none, at-some, at-none}
 use Rattle.journal_rounds.proofs.rest.resume.Goals as goal
 
-pub round-requires-clause-recorded : goal.round-requires-clause-recorded
-round-requires-clause-recorded g c = λ κs lives.
+pub round-requires-clause-walk : goal.round-requires-clause-walk
+round-requires-clause-walk g c = λ κs lives.
     let ready = c.args.ready.now in
-    told_again _ _ (λ (files : Files). AreRecorded files ready.plan.stations ready.recordings.items) c.epochs.invariant.same c.requires.recorded
+    record {
+      of_job = c.requires.part;
+      recorded = told_again _ _ (λ (files : Files). AreRecorded files ready.plan.stations ready.recordings.items) c.epochs.invariant.same c.requires.recorded;
+      range = c.requires.epoch;
+    }
 
 pub round-requires-clause-more : goal.round-requires-clause-more
 round-requires-clause-more g c = λ κs lives.
@@ -35,7 +39,6 @@ round-requires-clause-ahead g c = λ κs lives.
 
 pub epochs-init : goal.epochs-init
 epochs-init g c =
-    let ready = c.args.ready.now in
     let job = c.args.part.now in
     let opened = c.in_ok-journal.ensures in
     let journal = c.in_ok-journal.journal in
@@ -43,11 +46,11 @@ epochs-init g c =
     record {
       same = refl;
       stands = opened.stands;
-      ahead = ahead-none (g.F.Shelf.told c.args.shelf.now) ready job c.args.epoch journal.end.next c.next_place-first.result c.next_place-first.ensures opened.place;
+      ahead = ahead-none (g.F.Shelf.told c.args.shelf.now) c.args.ready.now job c.args.epoch journal.end.next c.next_place-first.result c.next_place-first.ensures opened.place;
       left = left;
       begins = begins_told c.args.id.now job c.args.epoch c.left-due.result journal _ _ opened.changes.read opened.stands.image left;
       ours = opened.ours;
-      changes = goes_kept g.D.Disk.seen g.D.Disk.moment g.D.Disk.may_leave (IsSummed (g.F.Shelf.told c.args.shelf.now) ready.plan job c.args.epoch) c.args.id.now job _ _ opened.changes;
+      changes = goes_kept g.D.Disk.seen g.D.Disk.moment g.D.Disk.may_leave (IsSummed (g.F.Shelf.told c.args.shelf.now) c.args.ready.now.plan job c.args.epoch) c.args.id.now job _ _ opened.changes;
       reads = refl;
       counts = opened.counts;
     }

@@ -1,16 +1,13 @@
-use Rattle.std.proofs.Common.{◌≡◌, [], ◌∷◌, ◌++◌, length, map, rules, ap, sym, subst, ◌∙◌}
+use Rattle.std.proofs.Common.{◌≡◌, [], ◌∷◌, ◌++◌, length, map, rules, ap, subst, ◌∙◌}
 use Rattle.std.specs.Prelude.{slice_get, ◌-◌}
 use Rattle.std.proofs.lemmas.List.{map-append}
 use Rattle.vis_records.specs.Heads.{baseline_of}
 use Rattle.vis_records.specs.Parts.{Took, StopsBy}
 use Rattle.vis_records.specs.Reading.{baseline, last_of}
-use Rattle.vis_records.proofs.PartLemmas.{stops-first, in_turn-none, turns-next, turns-stop, turns-all, one_more-took}
+use Rattle.vis_records.proofs.PartLemmas.{stops-first, turns-next, turns-stop, one_more-took}
 use Rattle.vis_records.proofs.HeadReading.{last_of-map}
 use Rattle.vis_records.proofs.FieldLemmas.{passed-on}
 use Rattle.vis_records.proofs.read_head.read_baselines.Goals as goal
-
-pub loop-i-init : goal.loop-i-init
-loop-i-init c = in_turn-none _ _ _ ∙ ap (λ xs. Took (map baseline_of xs) c.args.rest.now) (sym c.new-baselines.ensures.items)
 
 pub returns-in_err-one-clause-stops : goal.returns-in_err-one-clause-stops
 returns-in_err-one-clause-stops c =
@@ -26,7 +23,3 @@ loop-i-preserved c =
     turns-next _ _ _ c.args.count c.loop-i.i c.loop-i-test.true c.loop-i.invariant
     (one_more-took (λ before. baseline c.args.stations (last_of before)) c.loop-i.i c.loop-i.rest grown (subst (λ before. baseline c.args.stations before c.loop-i.rest ≡ Took (baseline_of c.in_ok-one.one) c.read_baseline.new.rest)
     (last_of-map c.loop-i.baselines.items c.copied-before.result (c.copied-before.ensures ∙ c.last.ensures.value ∙ ap (λ bs. slice_get bs (length bs - 1)) c.deref.ensures.value)) c.in_ok-one.ensures.took))
-
-pub returns-clause-took : goal.returns-clause-took
-returns-clause-took c =
-    turns-all _ _ _ c.args.count c.loop-i.i c.loop-i-test.false c.loop-i.invariant

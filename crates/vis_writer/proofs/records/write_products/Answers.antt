@@ -1,8 +1,17 @@
-use Rattle.std.proofs.Common.{refl}
-use Rattle.corr_model.specs.Records.{baseline_places}
-use Rattle.vis_records.specs.Heads.{scan_of}
+use Rattle.std.proofs.Common.{◌≡◌, ℕ, ◌*◌, List, length, map, refl}
+use Rattle.corr_model.specs.declared.cell.Cell.{Cell}
+use Rattle.corr_model.specs.Records.{Head, baseline_places}
+use Rattle.vis_records.specs.declared.head.VisScan.{VisScan}
+use Rattle.vis_records.specs.declared.head.VisBaseline.{VisBaseline}
+use Rattle.vis_records.specs.declared.head.VisProduct.{VisProduct}
+use Rattle.vis_records.specs.Heads.{product_of, scan_of}
 use Rattle.vis_writer.proofs.Rows.{rows-none, IsCounted, products-next, products-exit, products-all}
 use Rattle.vis_writer.proofs.records.write_products.Goals as goal
+
+counted : (head : Head) (number m : ℕ) (scan : VisScan) (cells : List Cell) (baselines : List VisBaseline) (lags : ℕ) (products : List VisProduct)
+    → baselines ≡ scan.baselines → lags ≡ head.lags → map product_of products ≡ head.products
+    → length cells ≡ length head.products * length (scan_of scan).baselines * head.lags → IsCounted head number m scan cells baselines lags products
+counted head number m scan cells baselines lags products a b c d = record { baselines = a; lags_are = b; products = c; room = d }
 
 pub loop-product-init : goal.loop-product-init
 loop-product-init g c = record {
@@ -12,12 +21,7 @@ loop-product-init g c = record {
 
 pub returns-in_err-write_baselines : goal.returns-in_err-write_baselines
 returns-in_err-write_baselines g c =
-    let is : IsCounted c.args.head.now c.args.number c.args.m c.args.scan.now c.args.cells.now c.items.result.now c.lags-lags.result c.products-product-end.result.now = record {
-      baselines = c.items.ensures;
-      lags_are = c.lags-lags.ensures;
-      products = c.products-product-end.ensures.products;
-      room = c.requires.room;
-    } in
+    let is = counted c.args.head.now c.args.number c.args.m c.args.scan.now c.args.cells.now _ _ _ c.items.ensures c.lags-lags.ensures c.products-product-end.ensures.products c.requires.room in
     products-exit c.args.head.now c.args.number c.args.m c.args.scan.now c.args.cells.now c.items.result.now c.lags-lags.result c.products-product-end.result.now
     c.loop-product.product is c.loop-product-test.true c.from_residual.ensures.0
     (products-next c.args.head.now c.args.number c.args.m c.args.scan.now c.args.cells.now c.items.result.now c.lags-lags.result c.products-product-end.result.now
@@ -25,12 +29,7 @@ returns-in_err-write_baselines g c =
 
 pub loop-product-preserved : goal.loop-product-preserved
 loop-product-preserved g c =
-    let is : IsCounted c.args.head.now c.args.number c.args.m c.args.scan.now c.args.cells.now c.items.result.now c.lags-lags.result c.products-product-end.result.now = record {
-      baselines = c.items.ensures;
-      lags_are = c.lags-lags.ensures;
-      products = c.products-product-end.ensures.products;
-      room = c.requires.room;
-    } in
+    let is = counted c.args.head.now c.args.number c.args.m c.args.scan.now c.args.cells.now _ _ _ c.items.ensures c.lags-lags.ensures c.products-product-end.ensures.products c.requires.room in
     let all =
     products-next c.args.head.now c.args.number c.args.m c.args.scan.now c.args.cells.now c.items.result.now c.lags-lags.result c.products-product-end.result.now
     c.loop-product.product is c.loop-product-test.true c.loop-product.invariant.told c.loop-product.invariant.kept c.in_ok-write_baselines.ensures in
@@ -38,12 +37,7 @@ loop-product-preserved g c =
 
 pub returns : goal.returns
 returns g c =
-    let is : IsCounted c.args.head.now c.args.number c.args.m c.args.scan.now c.args.cells.now c.items.result.now c.lags-lags.result c.products-product-end.result.now = record {
-      baselines = c.items.ensures;
-      lags_are = c.lags-lags.ensures;
-      products = c.products-product-end.ensures.products;
-      room = c.requires.room;
-    } in
+    let is = counted c.args.head.now c.args.number c.args.m c.args.scan.now c.args.cells.now _ _ _ c.items.ensures c.lags-lags.ensures c.products-product-end.ensures.products c.requires.room in
     products-all c.args.head.now c.args.number c.args.m c.args.scan.now c.args.cells.now c.items.result.now c.lags-lags.result c.products-product-end.result.now
     tt c.loop-product.product is c.loop-product.auto.product-end c.loop-product-test.false
     c.loop-product.invariant.told c.loop-product.invariant.kept

@@ -1,4 +1,4 @@
-use Rattle.std.proofs.Common.{sym, subst, arith}
+use Rattle.std.proofs.Common.{sym, subst, arith, rules}
 use Rattle.checkpoint_journal.proofs.RunLemmas.{changes_none}
 use Rattle.journal_image.proofs.ThingLemmas.{epoch-IsOfPlan}
 use Rattle.checkpoint_journal.specs.Kept.{kept_epoch}
@@ -49,5 +49,10 @@ returns-in-Err-clause-changes g c = λ id stands.
 pub past_record-end-requires-clause-of_plan : goal.past_record-end-requires-clause-of_plan
 past_record-end-requires-clause-of_plan g c = epoch-IsOfPlan c.args.plan.now c.args.e.now c.requires.stands.1.plan c.requires.fits
 
-pub keep_record-requires-clause-of_plan : goal.keep_record-requires-clause-of_plan
-keep_record-requires-clause-of_plan g c = epoch-IsOfPlan c.args.plan.now c.args.e.now c.requires.stands.1.plan c.requires.fits
+pub keep_record-requires-clause-fits : goal.keep_record-requires-clause-fits
+keep_record-requires-clause-fits g c = record {
+  of_plan = epoch-IsOfPlan c.args.plan.now c.args.e.now c.requires.stands.1.plan c.requires.fits;
+  many = c.requires.cells;
+  room = search rules;
+  parts = search rules;
+}

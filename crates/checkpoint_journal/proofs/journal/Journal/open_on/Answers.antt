@@ -5,12 +5,12 @@ use Rattle.checkpoint_journal.proofs.BeginLemmas.{epochs_stay}
 use Rattle.checkpoint_journal.proofs.AnswerLemmas.{opening-stands, opening-rewound, opening-refused, opening-unread, opening-no_fault, opening-fault}
 use Rattle.checkpoint_journal.proofs.journal.Journal.open_on.Goals as goal
 
-pub returns-in_err-buffer-clause-changes : goal.returns-in_err-buffer-clause-changes
-returns-in_err-buffer-clause-changes g c =
+pub returns-in_default-clause-changes : goal.returns-in_default-clause-changes
+returns-in_default-clause-changes g c =
     changes_none g.D.Disk.seen g.D.Disk.moment g.D.Disk.may_leave (KeepsEpochs c.args.id.now c.args.plan.now) (epochs_stay c.args.id.now c.args.plan.now) c.args.disk.now
 
-pub returns-in_err-buffer-clause-spares : goal.returns-in_err-buffer-clause-spares
-returns-in_err-buffer-clause-spares g c = inl (looks_none g.D.Disk.seen g.D.Disk.moment g.D.Disk.may_leave c.args.disk.now)
+pub returns-in_default-clause-spares : goal.returns-in_default-clause-spares
+returns-in_default-clause-spares g c = inl (looks_none g.D.Disk.seen g.D.Disk.moment g.D.Disk.may_leave c.args.disk.now)
 
 pub returns-clause-stands : goal.returns-clause-stands
 returns-clause-stands g c = rw (sym c.bytes-bytes.ensures.is)

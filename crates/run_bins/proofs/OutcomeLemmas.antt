@@ -1,6 +1,7 @@
 -- What the files of a job and a pulse come to, step by step, and what the command tells of it.
-use Rattle.std.specs.Prelude.{option_map, IfErr}
+use Rattle.std.specs.Prelude.{option_map, IfErr, IsErrAnd}
 use Rattle.std.proofs.Common.{◌≡◌, ℕ, List, Option, Some, None, Result, Ok, sym, ap}
+use Rattle.std.proofs.lemmas.Result.{err_from_is_err_and}
 use Rattle.corr_model.specs.Files.{Files}
 use Rattle.dev_traits.specs.Told.{WhereTold}
 use Rattle.job_plan.specs.declared.plan.Plan.{Plan}
@@ -22,6 +23,10 @@ use Rattle.run_ready.specs.Recordings.{recordings_answer}
 use Rattle.run_ready.proofs.StepLemmas.{IsCause-first, IsCause-next, IsCause-unless}
 use Rattle.run_bins.specs.Texts.{BinPlan, bin_output}
 use Rattle.run_bins.specs.Outcome.{scan_name, uncovered, too_many_cells, BinsUnder, BinsOf}
+
+-- what holds of a refusal holds where it is handed on
+pub handed-on : {T : Type 0} (P : Refusal → Type 0) (r : Result T Refusal) {e : Refusal} → IsErrAnd r (λ y. y ≡ e) → P e → IfErr r P
+handed-on P r failed fact = let p = err_from_is_err_and r failed in rw (p.1, p.2) fact
 
 -- ---- the text of phases
 

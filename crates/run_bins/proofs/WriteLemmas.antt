@@ -25,23 +25,19 @@ use Rattle.job_plan.specs.declared.plan.Plan.{Plan}
 use Rattle.job_plan.specs.Ranges.{IsPlan, IsScanPlan}
 use Rattle.job_plan.specs.Values.{rotated}
 use Rattle.pulsar_bins.specs.Bins.{BinsFields}
+use Rattle.bin_sums.specs.declared.ahead.BinsAhead.{BinsAhead}
+use Rattle.bin_sums.specs.Ahead.{IsAheadOf}
 use Rattle.bin_sums.specs.Binned.{bin_width}
 use Rattle.run_bins.specs.Texts.{BinPlan, integration_text}
-use Rattle.run_bins.specs.Writes.{WritesText, of_sink, of_stream}
+use Rattle.run_bins.specs.declared.job.BinJob.{BinJob}
+use Rattle.run_bins.specs.Writes.{WritesText, IsReady, of_sink, of_stream}
 
-appended-then : {T U E : Type 0} {old mid new : Option (List ℕ)} {text a b : List ℕ} {x : U} (r : Result T E)
-    → text ≡ a ++ b
-    → Appended {T = U} {E = E} old a mid (Ok x)
-    → Appended mid b new r
-    → Appended old text new r
-appended-then {T = T} {U = U} {E = E} {old = old} {mid = mid} {new = new} {text = text} {a = a} {b = b} r whole first second =
-    let both : Appended old (a ++ b) new r = record {
-      all = on_ok_weaker r (λ (told : new ≡ more mid b). told ∙ ap (λ t. more t b) first.all ∙ more-more old a b) second.all;
-      part =
-          on_err_weaker r
-          (λ (part : PrefixMore mid b new). PrefixMore-after old new a b (subst (λ t. PrefixMore t b new) first.all part))
-          second.part;
-    } in subst (λ t. Appended old t new r) (sym whole) both
+appended-then : {T U E : Type 0} {old mid new : Option (List ℕ)} {a b : List ℕ} {x : U} (r : Result T E)
+    → Appended {T = U} {E = E} old a mid (Ok x) → Appended mid b new r → Appended old (a ++ b) new r
+appended-then {T = T} {U = U} {E = E} {old = old} {mid = mid} {new = new} {a = a} {b = b} r first second = record {
+  all = on_ok_weaker r (λ (told : new ≡ more mid b). told ∙ ap (λ t. more t b) first.all ∙ more-more old a b) second.all;
+  part = on_err_weaker r (λ (part : PrefixMore mid b new). PrefixMore-after old new a b (subst (λ t. PrefixMore t b new) first.all part)) second.part;
+}
 
 -- nothing yet
 pub writes-none : {T : Type 0} (x : T) (files : Option Files) (reads : ℕ) (told : Option (List ℕ)) (writes : ℕ)
@@ -67,7 +63,7 @@ writes-then {T = T} {U = U} {x = x} {r = r} text a b {files = files} {mid = mid}
     record {
       same = second.same ∙ first.same;
       written =
-          where_both files First Second (λ f. Appended old (text f) new r) (λ f p q. appended-then r (whole f) p q) first.written
+          where_both files First Second (λ f. Appended old (text f) new r) (λ f p q. subst (λ t. Appended old t new r) (sym (whole f)) (appended-then r p q)) first.written
           (subst (λ (o : Option Files). WhereTold o Second) first.same second.written);
       stage = second.stage;
       read = subst (λ n. CountsReads n reads'' r) first.read second.read;
@@ -202,6 +198,12 @@ writes-all {T = T} {x = x} text k n {files = files} {files' = files'} {reads = r
 -- the records of integration m of a scan, by what the files hold
 abbrev pub integration-at : BinPlan → ℕ → ScanPlan → ℕ → Files → List ℕ
 integration-at x number scan m files = integration_text x (rotated x.plan files scan) number scan m
+
+-- what is read ahead after a call that leaves the shelf as it was
+pub still-ready : (job : BinJob) {files files' : Option Files} {old new : BinsAhead} → files' ≡ files → IsReady files job old → IsAheadOf files job.ready new
+    → IsReady files' job new
+still-ready job {files = files} {files' = files'} {old = old} {new = new} same was ahead =
+    subst (λ (o : Option Files). IsReady o job new) (sym same) (record { recorded = was.recorded; ahead = ahead })
 
 -- ---- a list's things by their numbers
 

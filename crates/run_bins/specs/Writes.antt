@@ -4,6 +4,9 @@ use Rattle.std.specs.Option.{option_map_or}
 use Rattle.dev_traits.specs.Told.{WhereTold}
 use Rattle.corr_model.specs.Files.{Files}
 use Rattle.job_plan.specs.declared.plan.ScanPlan.{ScanPlan}
+use Rattle.bin_sums.specs.declared.ahead.BinsAhead.{BinsAhead}
+use Rattle.bin_sums.specs.Ahead.{IsAheadOf}
+use Rattle.station_stream.specs.Recorded.{AreRecorded}
 use Rattle.station_stream.specs.declared.fault.StreamFault.{StreamFault}
 use Rattle.station_stream.specs.declared.fault.StreamFault.TheVariants.{Read as StreamRead, Memory as StreamMemory}
 use Rattle.vis_records.specs.declared.writer.SinkFault.{SinkFault}
@@ -12,6 +15,7 @@ use Rattle.run_notes.specs.declared.refusal.Refusal.{Refusal}
 use Rattle.run_notes.specs.declared.refusal.Refusal.TheVariants.{Memory, Read, Write}
 use Rattle.run_notes.specs.Commands.{IsOfOutput}
 use Rattle.run_notes.specs.Counted.{CountsReads, CountsWrites}
+use Rattle.run_bins.specs.declared.job.BinJob.{BinJob}
 use Rattle.run_bins.specs.Texts.{BinPlan, scan_text}
 
 -- What the shelf tells and its count of faults before and now, the text by what the shelf tells, what the sink told before and tells
@@ -23,6 +27,11 @@ pub record WritesText {T : Type 0} (files files' : Option Files) (reads reads' :
   pub stage : IfErr result IsOfOutput
   pub read : CountsReads reads reads' result
   pub wrote : CountsWrites writes writes' result
+
+-- a job that may be summed: its recordings, where the files are told, and what is read ahead of them
+pub record IsReady (files : Option Files) (job : BinJob) (read : BinsAhead) : Type 0 where
+  pub recorded : WhereTold files (λ told. AreRecorded told job.ready.plan.stations job.ready.recordings.items)
+  pub ahead : IsAheadOf files job.ready read
 
 -- the answer of a sink as that of the command
 abbrev pub of_sink : {T : Type 0} → Result T SinkFault → Result T Refusal

@@ -6,8 +6,8 @@ ghost use Rattle.corr_model.specs.Records.{places_of};
 ghost use Rattle.sink_text.specs.Appends.{Appends};
 ghost use Rattle.job_plan.specs.{Output.{head_of, integrations_of}, Values.{rotated}};
 ghost use Rattle.station_stream.specs.Recorded.{AreRecorded};
-ghost use Rattle.bin_sums.specs.{Ahead.{IsAheadOf}, Binned.{bin_width}};
-ghost use Rattle.run_bins.specs.{Jobs.{plan_of}, Rows.{sums_text}, Texts.{bin_output, scan_text, integration_text}, Writes.{WritesText, of_sink, of_stream, scan_text_at}};
+ghost use Rattle.bin_sums.specs.Binned.{bin_width};
+ghost use Rattle.run_bins.specs.{Jobs.{plan_of}, Rows.{sums_text}, Texts.{bin_output, scan_text, integration_text}, Writes.{WritesText, IsReady, of_sink, of_stream, scan_text_at}};
 
 use crate::job::BinJob;
 use crate::limit::{widest, width_of};
@@ -83,8 +83,7 @@ fn write_text<R: Threads + Sync, F: Shelf + Send, S: Sink, G: Gate + Sync>(
     gate: &G,
 ) -> Result<(), Refusal>
     requires head { head.now ≡ head_of job.now.ready.plan }
-    requires recorded { WhereTold (F.told shelf.old) (λ files. AreRecorded files job.now.ready.plan.stations job.now.ready.recordings.items) }
-    requires ahead { IsAheadOf (F.told shelf.old) job.now.ready ahead.old }
+    requires ready { IsReady (F.told shelf.old) job.now ahead.old }
     requires room { All (λ scan. bin_width job.now.ready.plan job.now.bins scan ≤ length cells.old) job.now.ready.plan.scans }
     requires workers { (1 ≤ workers) × (workers ≤ 64) }
     requires piece { (64 ≤ piece) × (piece ≤ 4194304) }
@@ -146,8 +145,7 @@ fn write_scans<R: Threads + Sync, F: Shelf + Send, S: Sink, G: Gate + Sync>(
     out: &mut S,
     gate: &G,
 ) -> Result<(), Refusal>
-    requires recorded { WhereTold (F.told shelf.old) (λ files. AreRecorded files job.now.ready.plan.stations job.now.ready.recordings.items) }
-    requires ahead { IsAheadOf (F.told shelf.old) job.now.ready ahead.old }
+    requires ready { IsReady (F.told shelf.old) job.now ahead.old }
     requires room { All (λ scan. bin_width job.now.ready.plan job.now.bins scan ≤ length cells.old) job.now.ready.plan.scans }
     requires workers { (1 ≤ workers) × (workers ≤ 64) }
     requires piece { (64 ≤ piece) × (piece ≤ 4194304) }
@@ -188,14 +186,13 @@ fn write_scan<R: Threads + Sync, F: Shelf + Send, S: Sink, G: Gate + Sync>(
     gate: &G,
 ) -> Result<(), Refusal>
     requires inside { number < length job.now.ready.plan.scans }
-    requires recorded { WhereTold (F.told shelf.old) (λ files. AreRecorded files job.now.ready.plan.stations job.now.ready.recordings.items) }
-    requires ahead { IsAheadOf (F.told shelf.old) job.now.ready ahead.old }
+    requires ready { IsReady (F.told shelf.old) job.now ahead.old }
     requires room { All (λ scan. bin_width job.now.ready.plan job.now.bins scan ≤ length cells.old) job.now.ready.plan.scans }
     requires workers { (1 ≤ workers) × (workers ≤ 64) }
     requires piece { (64 ≤ piece) × (piece ≤ 4194304) }
     ensures written { WritesText (F.told shelf.old) (F.told shelf.new) (F.faults shelf.old) (F.faults shelf.new) (scan_text_at (plan_of job.now) number)
         (S.told out.old) (S.told out.new) (S.faults out.old) (S.faults out.new) result }
-    ensures ahead { IsAheadOf (F.told shelf.new) job.now.ready ahead.new }
+    ensures ready { IsReady (F.told shelf.new) job.now ahead.new }
 {
     let plan = job.ready.plan.plan();
     let scan = &plan.scans.items()[number as usize];
@@ -220,14 +217,13 @@ fn write_integrations<R: Threads + Sync, F: Shelf + Send, S: Sink, G: Gate + Syn
     gate: &G,
 ) -> Result<(), Refusal>
     requires scan { slice_get job.now.ready.plan.scans number ≡ Some scan.now }
-    requires recorded { WhereTold (F.told shelf.old) (λ files. AreRecorded files job.now.ready.plan.stations job.now.ready.recordings.items) }
-    requires ahead { IsAheadOf (F.told shelf.old) job.now.ready ahead.old }
+    requires ready { IsReady (F.told shelf.old) job.now ahead.old }
     requires room { bin_width job.now.ready.plan job.now.bins scan.now ≤ length cells.old }
     requires workers { (1 ≤ workers) × (workers ≤ 64) }
     requires piece { (64 ≤ piece) × (piece ≤ 4194304) }
     ensures written { WritesText (F.told shelf.old) (F.told shelf.new) (F.faults shelf.old) (F.faults shelf.new) (λ files. scan_text (plan_of job.now) files (number, scan.now))
         (S.told out.old) (S.told out.new) (S.faults out.old) (S.faults out.new) result }
-    ensures ahead { IsAheadOf (F.told shelf.new) job.now.ready ahead.new }
+    ensures ready { IsReady (F.told shelf.new) job.now ahead.new }
 {
     for m in 0..scan.samples.div_ceil(job.ready.plan.plan().integration) {
         write_integration(
@@ -255,15 +251,14 @@ fn write_integration<R: Threads + Sync, F: Shelf + Send, S: Sink, G: Gate + Sync
 ) -> Result<(), Refusal>
     requires scan { slice_get job.now.ready.plan.scans number ≡ Some scan.now }
     requires inside { m < integrations_of job.now.ready.plan scan.now }
-    requires recorded { WhereTold (F.told shelf.old) (λ files. AreRecorded files job.now.ready.plan.stations job.now.ready.recordings.items) }
-    requires ahead { IsAheadOf (F.told shelf.old) job.now.ready ahead.old }
+    requires ready { IsReady (F.told shelf.old) job.now ahead.old }
     requires room { bin_width job.now.ready.plan job.now.bins scan.now ≤ length cells.old }
     requires workers { (1 ≤ workers) × (workers ≤ 64) }
     requires piece { (64 ≤ piece) × (piece ≤ 4194304) }
     ensures written { WritesText (F.told shelf.old) (F.told shelf.new) (F.faults shelf.old) (F.faults shelf.new)
         (λ files. integration_text (plan_of job.now) (rotated job.now.ready.plan files scan.now) number scan.now m)
         (S.told out.old) (S.told out.new) (S.faults out.old) (S.faults out.new) result }
-    ensures ahead { IsAheadOf (F.told shelf.new) job.now.ready ahead.new }
+    ensures ready { IsReady (F.told shelf.new) job.now ahead.new }
 {
     let plan = job.ready.plan.plan();
     let sums = &mut cells[..width_of(plan, &job.bins, scan)];

@@ -28,8 +28,7 @@ pub fn load_records<F: Shelf>(alloc: Global, shelf: &mut F, name: &Name) -> Resu
 {
     let records = Measure::Job(Quantity::Records);
     let text = load_text(alloc, shelf, name, records, MOST_RECORD_BYTES)?;
-    let vis = content_of(alloc, &text)?;
-    Ok(vis)
+    Ok(content_of(alloc, &text)?)
 }
 
 // The content of a record file's text.

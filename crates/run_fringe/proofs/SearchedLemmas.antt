@@ -20,13 +20,8 @@ use Rattle.run_fringe.specs.Searched.{SmallOf, FringeOf, CheckOf, VerifyOf, IsVe
 
 -- a verdict speaks of files
 pub IsOfFiles-verdict : (r : Refusal) → IsVerdict r → IsOfFiles r
-IsOfFiles-verdict Memory verdict = absurd verdict
-IsOfFiles-verdict (Words fault) verdict = absurd verdict
 IsOfFiles-verdict (DueRefusal due) verdict = tt
-IsOfFiles-verdict (Other d) verdict = absurd verdict
-IsOfFiles-verdict Read verdict = absurd verdict
-IsOfFiles-verdict (Journal kept) verdict = absurd verdict
-IsOfFiles-verdict Write verdict = absurd verdict
+IsOfFiles-verdict r verdict = absurd verdict
 
 -- ---- a search
 

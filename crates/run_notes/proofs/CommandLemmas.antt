@@ -35,37 +35,19 @@ tells-appended outcomes text x old new (Err (Journal kept)) is all part stage = 
 -- what holds of all refusals holds where they are verdicts on files, and what is refused for the output is none; and where they are want of
 -- memory
 pub verdict-refused : (r : Refusal) (P : Type 0) → P → WhereVerdict r P
-verdict-refused Memory P p = tt
-verdict-refused (Words fault) P p = tt
 verdict-refused (DueRefusal due) P p = p
-verdict-refused (Other d) P p = tt
-verdict-refused Read P p = tt
-verdict-refused (Journal kept) P p = tt
-verdict-refused Write P p = tt
+verdict-refused r P p = tt
 
 pub verdict-written : (r : Refusal) (P : Type 0) → IsOfOutput r → WhereVerdict r P
-verdict-written Memory P stage = tt
-verdict-written (Words fault) P stage = tt
 verdict-written (DueRefusal due) P stage = absurd stage
-verdict-written (Other d) P stage = tt
-verdict-written Read P stage = tt
-verdict-written (Journal kept) P stage = tt
-verdict-written Write P stage = tt
+verdict-written r P stage = tt
 
 pub memory-refused : (r : Refusal) (P : Type 0) → P → WhereMemory r P
 memory-refused Memory P p = p
-memory-refused (Words fault) P p = tt
-memory-refused (DueRefusal due) P p = tt
-memory-refused (Other d) P p = tt
-memory-refused Read P p = tt
-memory-refused (Journal kept) P p = tt
-memory-refused Write P p = tt
+memory-refused r P p = tt
 
 pub stage-output : (r : Refusal) → IsOfOutput r → IsOfFilesOrOutput r
 stage-output Memory stage = tt
-stage-output (Words fault) stage = absurd stage
-stage-output (DueRefusal due) stage = tt
-stage-output (Other d) stage = absurd stage
 stage-output Read stage = tt
-stage-output (Journal kept) stage = absurd stage
 stage-output Write stage = tt
+stage-output r stage = absurd stage

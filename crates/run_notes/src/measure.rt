@@ -1,4 +1,7 @@
 //! What has a greatest value.
+ghost use Rattle.std.specs.Prelude.{◌≡◌};
+ghost use Rattle.run_notes.specs.Measures.{measure_name};
+
 use job_join::Quantity;
 
 /// A measure that has a greatest value.
@@ -19,9 +22,6 @@ pub enum Measure {
 }
 
 impl Measure {
-    ghost use Rattle.std.specs.Prelude.{◌≡◌};
-    ghost use Rattle.run_notes.specs.Measures.{measure_name};
-
     /// The measure's name, in small letters.
     pub fn name(self) -> &'static str
         ensures { result.now ≡ measure_name self }

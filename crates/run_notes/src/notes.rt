@@ -1,14 +1,15 @@
 //! Statuses and notes.
-ghost use Rattle.std.specs.Prelude.{◌≡◌, [], ◌∷◌};
+ghost use Rattle.std.specs.Prelude.{◌≡◌, [], ◌∷◌, ◌++◌, codes, decimal};
 ghost use Rattle.hex.specs.Hex.{encode_lower};
-ghost use Rattle.sink_text.specs.{Appends.{Appends}, Written.{Puts}};
-ghost use Rattle.run_notes.specs.{Refusals.{answer_of, due_answer}, Answers.{words_answer, byte_answer, byte_or_none, other_answer, differs_answer, cell_text, place_text}};
+ghost use Rattle.sink_text.specs.{Appends.{Appends}, Pieces.{piece_text}, Written.{Puts}};
+ghost use Rattle.run_notes.specs.{Refusals.{answer_of, due_answer}, Answers.{joined, words_answer, byte_or_none, other_answer, differs_answer, cell_text, place_text}};
 
 use crate::refusal::{Due, Refusal};
 use corr_model::Cell;
 use dev_traits::{Failed, Sink};
 use hex::encode_to_slice;
 use journal_image::Differs;
+use num_time::Name;
 use run_words::WordsFault;
 use sink_text::{Piece, Stretch, append_pieces};
 
@@ -85,36 +86,15 @@ fn write_due<N: Sink>(due: &Due, notes: &mut N) -> Result<(), Failed>
     ensures { Appends (N.told notes.old) (N.told notes.new) (due_answer due.now).note (N.faults notes.old) (N.faults notes.new) result }
 {
     match due {
-        Due::Vex(fault) => write_at_byte(fault.kind.name(), fault.at, notes),
-        Due::Schedule(fault) => write_at_byte(fault.kind.name(), fault.at, notes),
-        Due::Job(fault) => append_pieces(
-            &[
-                Piece::Text("vlbi: job: "),
-                Piece::Text(fault.kind.name()),
-                Piece::Text(" in line "),
-                Piece::Number(fault.line as u64),
-                Piece::Text("\n"),
-            ],
-            notes,
-        ),
-        Due::Join(fault, name) => append_pieces(
-            &[
-                Piece::Text("vlbi: job: "),
-                Piece::Text(fault.name()),
-                Piece::Text(" for "),
-                Piece::Bytes(name.bytes()),
-                Piece::Text("\n"),
-            ],
-            notes,
-        ),
-        Due::Limit(measure, value) => append_pieces(
-            &[
-                Piece::Text("vlbi: limit: "),
-                Piece::Text(measure.name()),
-                Piece::Text(" "),
-                Piece::Wide(*value),
-                Piece::Text("\n"),
-            ],
+        Due::Vex(fault) => write_at_byte("schedule: ", fault.kind.name(), fault.at, notes),
+        Due::Schedule(fault) => write_at_byte("schedule: ", fault.kind.name(), fault.at, notes),
+        Due::Job(fault) => write_in_line("job: ", fault.kind.name(), fault.line, notes),
+        Due::Join(fault, name) => write_for("job: ", fault.name(), name, notes),
+        Due::Limit(measure, value) => write_pair(
+            "limit: ",
+            measure.name().as_bytes(),
+            " ",
+            Piece::Wide(*value),
             notes,
         ),
         Due::NoFile(name) => append_pieces(
@@ -125,70 +105,25 @@ fn write_due<N: Sink>(due: &Due, notes: &mut N) -> Result<(), Failed>
             ],
             notes,
         ),
-        Due::Recording(key, field) => append_pieces(
-            &[
-                Piece::Text("vlbi: recording: "),
-                Piece::Bytes(key.bytes()),
-                Piece::Text(" "),
-                Piece::Text(field.name()),
-                Piece::Text("\n"),
-            ],
+        Due::Recording(key, field) => write_pair(
+            "recording: ",
+            key.bytes(),
+            " ",
+            Piece::Text(field.name()),
             notes,
         ),
-        Due::Records(fault) => append_pieces(
-            &[
-                Piece::Text("vlbi: records: "),
-                Piece::Text(fault.kind.name()),
-                Piece::Text(" at byte "),
-                Piece::Number(fault.at),
-                Piece::Text("\n"),
-            ],
+        Due::Records(fault) => write_at_byte("records: ", fault.kind.name(), fault.at, notes),
+        Due::Certificate(at) => write_number("certificate at byte ", *at, notes),
+        Due::Bins(fault) => write_in_line("bins: ", fault.kind.name(), fault.line, notes),
+        Due::NoPhase(scan) => write_for("bins: ", "NoPhase", scan, notes),
+        Due::NotShard(name, at) => write_pair(
+            "merge: NotShard ",
+            name.bytes(),
+            " at byte ",
+            Piece::Number(*at),
             notes,
         ),
-        Due::Certificate(at) => append_pieces(
-            &[
-                Piece::Text("vlbi: certificate at byte "),
-                Piece::Number(*at),
-                Piece::Text("\n"),
-            ],
-            notes,
-        ),
-        Due::Bins(fault) => append_pieces(
-            &[
-                Piece::Text("vlbi: bins: "),
-                Piece::Text(fault.kind.name()),
-                Piece::Text(" in line "),
-                Piece::Number(fault.line as u64),
-                Piece::Text("\n"),
-            ],
-            notes,
-        ),
-        Due::NoPhase(scan) => append_pieces(
-            &[
-                Piece::Text("vlbi: bins: NoPhase for "),
-                Piece::Bytes(scan.bytes()),
-                Piece::Text("\n"),
-            ],
-            notes,
-        ),
-        Due::NotShard(name, at) => append_pieces(
-            &[
-                Piece::Text("vlbi: merge: NotShard "),
-                Piece::Bytes(name.bytes()),
-                Piece::Text(" at byte "),
-                Piece::Number(*at),
-                Piece::Text("\n"),
-            ],
-            notes,
-        ),
-        Due::Uncovered(integration) => append_pieces(
-            &[
-                Piece::Text("vlbi: merge: Uncovered "),
-                Piece::Number(*integration),
-                Piece::Text("\n"),
-            ],
-            notes,
-        ),
+        Due::Uncovered(integration) => write_number("merge: Uncovered ", *integration, notes),
         Due::Differs {
             integration,
             group,
@@ -199,16 +134,71 @@ fn write_due<N: Sink>(due: &Due, notes: &mut N) -> Result<(), Failed>
     }
 }
 
-// Writes the line of a fault at a byte of the schedule.
-fn write_at_byte<N: Sink>(name: &str, at: u64, notes: &mut N) -> Result<(), Failed>
-    ensures { Appends (N.told notes.old) (N.told notes.new) (byte_answer name.now at).note (N.faults notes.old) (N.faults notes.new) result }
+// Writes the line of a fault at a byte of a text.
+fn write_at_byte<N: Sink>(text: &str, kind: &str, at: u64, notes: &mut N) -> Result<(), Failed>
+    ensures { Appends (N.told notes.old) (N.told notes.new) (codes "vlbi: " ++ joined (text.now ∷ kind.now ∷ codes " at byte " ∷ decimal at ∷ [])) (N.faults notes.old) (N.faults notes.new) result }
+{
+    write_pair(text, kind.as_bytes(), " at byte ", Piece::Number(at), notes)
+}
+
+// Writes the line of a fault in a line of a text.
+fn write_in_line<N: Sink>(text: &str, kind: &str, at: u32, notes: &mut N) -> Result<(), Failed>
+    ensures { Appends (N.told notes.old) (N.told notes.new) (codes "vlbi: " ++ joined (text.now ∷ kind.now ∷ codes " in line " ∷ decimal at ∷ [])) (N.faults notes.old) (N.faults notes.new) result }
+{
+    write_pair(
+        text,
+        kind.as_bytes(),
+        " in line ",
+        Piece::Number(u64::from(at)),
+        notes,
+    )
+}
+
+// Writes the line of a fault for a name.
+fn write_for<N: Sink>(text: &str, kind: &str, name: &Name, notes: &mut N) -> Result<(), Failed>
+    ensures { Appends (N.told notes.old) (N.told notes.new) (codes "vlbi: " ++ joined (text.now ∷ kind.now ∷ codes " for " ∷ name.now ∷ [])) (N.faults notes.old) (N.faults notes.new) result }
+{
+    write_pair(
+        text,
+        kind.as_bytes(),
+        " for ",
+        Piece::Bytes(name.bytes()),
+        notes,
+    )
+}
+
+// Writes a line of two things, each behind a text.
+fn write_pair<'a, N: Sink>(
+    before: &'a str,
+    first: &'a [u8],
+    between: &'a str,
+    second: Piece<'a>,
+    notes: &mut N,
+) -> Result<(), Failed>
+    ensures { Appends (N.told notes.old) (N.told notes.new) (codes "vlbi: " ++ joined (before.now ∷ first.now ∷ between.now ∷ piece_text second.entry ∷ [])) (N.faults notes.old) (N.faults notes.new) result }
 {
     append_pieces(
         &[
-            Piece::Text("vlbi: schedule: "),
-            Piece::Text(name),
-            Piece::Text(" at byte "),
-            Piece::Number(at),
+            Piece::Text("vlbi: "),
+            Piece::Text(before),
+            Piece::Bytes(first),
+            Piece::Text(between),
+            second,
+            Piece::Text("\n"),
+        ],
+        notes,
+    )
+}
+
+// Writes the line of a number.
+fn write_number<N: Sink>(text: &str, number: u64, notes: &mut N) -> Result<(), Failed>
+    ensures { Appends (N.told notes.old) (N.told notes.new) (codes "vlbi: " ++ joined (text.now ∷ decimal number ∷ [])) (N.faults notes.old) (N.faults notes.new) result }
+{
+    append_pieces(
+        &[
+            Piece::Text("vlbi: "),
+            Piece::Text(text),
+            Piece::Number(number),
             Piece::Text("\n"),
         ],
         notes,

@@ -25,6 +25,7 @@ use Rattle.run_ready.specs.declared.recordings.StationFiles.{StationFiles}
 use Rattle.run_ready.specs.Recordings.{slot_count, slot_total, foreign_answer}
 use Rattle.station_stream.specs.Recorded.{AreNamed, AreRecorded}
 use Rattle.run_ready.specs.Sizes.{IsSizedBy, AreShelved, slots_together}
+use Rattle.run_ready.proofs.ToldLemmas.{WhereTold-then}
 
 -- the bytes of the files are those under their names
 bytes_on-names : (files : Files) (fs : List FileRef) → bytes_on files fs ≡ map (bytes_under files) (map (λ (f : FileRef). f.name) fs)
@@ -72,14 +73,13 @@ slot_count-sized files s z is are =
 pub slot_total-sized : (files : Files) (stations : List StationPlan) (sized : List StationFiles) → AllZip IsSizedBy stations sized → AreShelved sized files
     → slots_together sized ≡ slot_total files stations
 slot_total-sized files [] [] all are = refl
-slot_total-sized files [] (z ∷ sized) all are = absurd all
-slot_total-sized files (s ∷ stations) [] all are = absurd all
 slot_total-sized files (s ∷ stations) (z ∷ sized) all are =
     sum_by-cons (λ (z : StationFiles). z.slots) z sized
     ∙ ap₂ (λ m n. m + n)
     (slot_count-sized files s z all.0 (are 0 z (omega arith)))
     (slot_total-sized files stations sized all.1 (All-tail (λ (y : StationFiles). AreOnShelf y.files files) z sized are))
     ∙ sym (sum_by-cons (slot_count files) s stations)
+slot_total-sized files stations sized all are = absurd all
 
 -- each station has less than 2^96 of them
 pub bound-sized : (stations : List StationPlan) (sized : List StationFiles) → AllZip IsSizedBy stations sized → All (λ (z : StationFiles). z.slots < 2 ^ 96) sized
@@ -99,6 +99,12 @@ few-together sized few k d inside = omega (arith, sum_by_more_le (λ (z : Statio
 -- one more item
 pub All-more : {A : Type 0} (P : A → Type 0) (xs : List A) (x : A) → All P xs → P x → All P (xs ++ x ∷ [])
 All-more P xs x all here = All-append P xs (x ∷ []) all (All-cons P x [] here (λ k d inside. absurd (omega arith)))
+
+-- the same where the files are told
+pub told-more : {A : Type 0} {told later : Option Files} (P : Files → A → Type 0) (xs : List A) {ys : List A} (x : A) → ys ≡ xs ++ x ∷ [] → later ≡ told
+    → WhereTold told (λ files. All (P files) xs) → WhereTold later (λ files. P files x) → WhereTold told (λ files. All (P files) ys)
+told-more {A} {told} {later} P xs {ys} x more same all here =
+    WhereTold-then told later _ _ _ (λ files are is. subst (All (P files)) (sym more) (All-more (P files) xs x are is)) same all here
 
 -- one more name
 pub names-more : (fs : List FileRef) (f : FileRef) (names : List (List ℕ)) (i : ℕ) (x : List ℕ)

@@ -4,6 +4,7 @@ use Rattle.std.specs.Prelude.{find, flat_map, option_map}
 use Rattle.std.specs.Option.{option_or}
 use Rattle.std.proofs.lemmas.List.{drop_more, drop_all}
 use Rattle.std.proofs.lemmas.List.Folds.{find-append}
+use Rattle.dev_traits.specs.Told.{WhereTold}
 use Rattle.corr_model.specs.Files.{Files}
 use Rattle.job_plan.specs.declared.plan.StationPlan.{StationPlan}
 use Rattle.run_notes.specs.Answers.{Answer, no_file_answer}
@@ -12,6 +13,7 @@ use Rattle.run_notes.specs.declared.refusal.Refusal.TheVariants.{Memory, Words, 
 use Rattle.run_ready.specs.Steps.{or_else}
 use Rattle.run_ready.specs.Due.{IsDue}
 use Rattle.run_ready.specs.Sizes.{no_file, no_file_of, no_file_for}
+use Rattle.run_ready.proofs.ToldLemmas.{WhereTold-then}
 
 -- what is due by the first answer is due by the first of two
 pub IsDue-or_else : (r : Refusal) (v w : Option Answer) → IsDue r v → IsDue r (or_else v w)
@@ -54,6 +56,15 @@ first-stop f F is xs i x r inside at so_far due =
 pub first-end : {A : Type 0} (f : A → Option Answer) (F : List A → Option Answer) (is : IsFirst f F) (xs : List A) (i : ℕ)
     → length xs ≤ i → F (drop i xs) ≡ F xs → F xs ≡ None
 first-end f F is xs i all so_far = sym so_far ∙ ap F (drop_all i xs all) ∙ is.none
+
+-- the same where the files are told, before the item and at it
+module _ {A : Type 0} {told later : Option Files} (f : Files → A → Option Answer) (F : Files → List A → Option Answer) (is : (files : Files) → IsFirst (f files) (F files))
+    (xs : List A) (i : ℕ) (x : A) (inside : i < length xs) (at : x ≡ get_or xs i x) (same : later ≡ told) (so_far : WhereTold told (λ files. F files (drop i xs) ≡ F files xs)) where
+  pub told-next : WhereTold later (λ files. f files x ≡ None) → WhereTold told (λ files. F files (drop (i + 1) xs) ≡ F files xs)
+  told-next none = WhereTold-then told later _ _ _ (λ files. first-next (f files) (F files) (is files) xs i x inside at) same so_far none
+
+  pub told-stop : (r : Refusal) → WhereTold later (λ files. IsDue r (f files x)) → WhereTold told (λ files. IsDue r (F files xs))
+  told-stop r due = WhereTold-then told later _ _ _ (λ files. first-stop (f files) (F files) (is files) xs i x r inside at) same so_far due
 
 no_file_of-more : (files : Files) (name : List ℕ) (names : List (List ℕ)) → no_file_of files (name ∷ names) ≡ or_else (no_file files name) (no_file_of files names)
 no_file_of-more files name names = by (is_none (files name))

@@ -13,9 +13,10 @@ use Rattle.frame_index.specs.Recording.{IsOnShelf, AreOnShelf}
 use Rattle.job_plan.specs.declared.plan.StationPlan.{StationPlan}
 use Rattle.checkpoint_journal.specs.Identity.{identity_of}
 use Rattle.run_ready.specs.declared.recordings.StationFiles.{StationFiles}
-use Rattle.run_ready.specs.Identities.{lengths_of}
+use Rattle.run_ready.specs.Identities.{lengths_of, schedule_text}
 use Rattle.run_ready.specs.Sizes.{IsSizedBy, AreShelved, sizes_in}
 use Rattle.run_ready.proofs.FilesLemmas.{length-shelved}
+use Rattle.run_ready.proofs.ToldLemmas.{WhereTold-moved}
 
 -- one station more
 pub sizes_in-more : (sized : List StationFiles) (i : ℕ) (d : StationFiles) → i < length sized
@@ -87,14 +88,13 @@ sizes-shelved files (f ∷ fs) are =
 pub sizes_in-shelved : (files : Files) (stations : List StationPlan) (sized : List StationFiles) → AllZip IsSizedBy stations sized → AreShelved sized files
     → sizes_in sized ≡ lengths_of files stations
 sizes_in-shelved files [] [] all are = refl
-sizes_in-shelved files [] (z ∷ sized) all are = absurd all
-sizes_in-shelved files (s ∷ stations) [] all are = absurd all
 sizes_in-shelved files (s ∷ stations) (z ∷ sized) all are =
     let count : List ℕ → ℕ = λ name. length (bytes_under files name) in
     ap₂ (λ (a b : List ℕ). a ++ b)
     (sizes-shelved files z.files (are 0 z (omega arith)) ∙ ap (map count) all.0.names)
     (sizes_in-shelved files stations sized all.1 (All-tail (λ (y : StationFiles). AreOnShelf y.files files) z sized are))
     ∙ sym (map-append count s.files (flat_map (λ (t : StationPlan). t.files) stations))
+sizes_in-shelved files stations sized all are = absurd all
 
 -- the bytes under a name at which a text stands
 pub bytes_under-there : (files : Files) (name text : List ℕ) → files name ≡ Some text → bytes_under files name ≡ text
@@ -105,12 +105,15 @@ bytes_under-there files name text is = by (files name) is
     by (Some bytes) there = cc
 
 -- the identity by the texts is that by what stands under their names
-pub identity-there : (told : Option Files) (schedule job vex name a b id : List ℕ) (stations : List StationPlan)
-    → WhereTold told (λ files. files vex ≡ Some schedule) → WhereTold told (λ files. files name ≡ Some job) → a ≡ schedule → b ≡ job
-    → WhereTold told (λ files. id ≡ identity_of a b (lengths_of files stations))
-    → WhereTold told (λ files. id ≡ identity_of (bytes_under files vex) (bytes_under files name) (lengths_of files stations))
-identity-there None schedule job vex name a b id stations scheduled written first second is = tt
-identity-there (Some files) schedule job vex name a b id stations scheduled written first second is =
-    is
-    ∙ ap₂ (λ (v j : List ℕ). identity_of v j (lengths_of files stations))
-    (first ∙ sym (bytes_under-there files vex schedule scheduled)) (second ∙ sym (bytes_under-there files name job written))
+pub told-identity : (told later : Option Files) (job : List ℕ) (vex : Option (List ℕ)) (schedule text id : List ℕ) (stations : List StationPlan) → later ≡ told
+    → WhereTold told (λ files. schedule ≡ schedule_text files vex) → WhereTold told (λ files. text ≡ bytes_under files job)
+    → WhereTold later (λ files. id ≡ identity_of schedule text (lengths_of files stations))
+    → WhereTold told (λ files. id ≡ identity_of (schedule_text files vex) (bytes_under files job) (lengths_of files stations))
+told-identity told later job vex schedule text id stations moved scheduled written is =
+    by told scheduled written (WhereTold-moved told later (λ files. id ≡ identity_of schedule text (lengths_of files stations)) moved is)
+  where
+    by : (t : Option Files) → WhereTold t (λ files. schedule ≡ schedule_text files vex) → WhereTold t (λ files. text ≡ bytes_under files job)
+        → WhereTold t (λ files. id ≡ identity_of schedule text (lengths_of files stations))
+        → WhereTold t (λ files. id ≡ identity_of (schedule_text files vex) (bytes_under files job) (lengths_of files stations))
+    by None scheduled written is = tt
+    by (Some files) scheduled written is = is ∙ ap₂ (λ (v j : List ℕ). identity_of v j (lengths_of files stations)) scheduled written

@@ -1,7 +1,7 @@
 -- What a job that was read has: few files of each station, and a rate where it states its scans itself.
 use Rattle.std.proofs.Common.{◌≡◌, ◌≤◌, ◌<◌, ◌^◌, ℕ, Bool, true, cond, List, [], ◌∷◌, length, get_or, filter_map, Option, Some, None, Ok, sym, subst, arith}
 use Rattle.std.specs.Prelude.{IsSome}
-use Rattle.std.specs.List.{All, cons_option}
+use Rattle.std.specs.List.{All}
 use Rattle.std.specs.Str.Lines.{lines}
 use Rattle.std.proofs.lemmas.List.Elements.{All-map}
 use Rattle.job_lines.specs.Words.{are_one}
@@ -18,11 +18,7 @@ use Rattle.run_ready.specs.Sizes.{HasFewFiles}
 
 length-filter_map : {A B : Type 0} (f : A → Option B) (xs : List A) → length (filter_map f xs) ≤ length xs
 length-filter_map f [] = omega arith
-length-filter_map {A} {B} f (x ∷ xs) = by (f x) (length-filter_map f xs)
-  where
-    by : (o : Option B) → length (filter_map f xs) ≤ length xs → length (cons_option o (filter_map f xs)) ≤ length (x ∷ xs)
-    by None h = omega (arith, h)
-    by (Some y) h = omega (arith, h)
+length-filter_map f (x ∷ xs) = grind (arith, length-filter_map f xs)
 
 length-each : {A : Type 0} (w : Word) (read : List (List ℕ) → Option A) (rows : List Row) → length (each w read rows) ≤ length rows
 unfolding each

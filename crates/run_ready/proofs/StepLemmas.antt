@@ -12,6 +12,7 @@ use Rattle.run_notes.specs.declared.refusal.Refusal.TheVariants.{Memory, Words, 
 use Rattle.run_ready.specs.Steps.{Is, Then, unless}
 use Rattle.run_ready.specs.Due.{IsDue}
 use Rattle.run_ready.specs.Stage.{IsOfFiles, IsOfTexts}
+use Rattle.run_ready.proofs.ToldLemmas.{WhereTold-then}
 
 -- a cause in the first step is one of both
 pub IsCause-first : {A B : Type 0} (r : Refusal) (first : Outcomes A) (next : A → Outcomes B) → IsOfFiles r → IsCause r first → IsCause r (Then first next)
@@ -46,21 +47,12 @@ IsCause-unless Write v x due = absurd due
 -- what texts may be refused for is of the files, and no read fault
 pub IsOfFiles-texts : (r : Refusal) → IsOfTexts r → IsOfFiles r
 IsOfFiles-texts Memory stage = tt
-IsOfFiles-texts (Words fault) stage = absurd stage
 IsOfFiles-texts (DueRefusal due) stage = tt
-IsOfFiles-texts (Other d) stage = absurd stage
-IsOfFiles-texts Read stage = absurd stage
-IsOfFiles-texts (Journal kept) stage = absurd stage
-IsOfFiles-texts Write stage = absurd stage
+IsOfFiles-texts r stage = absurd stage
 
 pub MatchRead-texts : (r : Refusal) (P Q : Type 0) → IsOfTexts r → Q → MatchRead r P Q
-MatchRead-texts Memory P Q stage q = q
-MatchRead-texts (Words fault) P Q stage q = q
-MatchRead-texts (DueRefusal due) P Q stage q = q
-MatchRead-texts (Other d) P Q stage q = q
 MatchRead-texts Read P Q stage q = absurd stage
-MatchRead-texts (Journal kept) P Q stage q = absurd stage
-MatchRead-texts Write P Q stage q = absurd stage
+MatchRead-texts r P Q stage q = q
 
 pub CountsReads-texts : {T : Type 0} (result : Result T Refusal) (before now : ℕ) → IfErr result IsOfTexts → now ≡ before → CountsReads before now result
 CountsReads-texts (Ok x) before now stage same = same
@@ -85,6 +77,17 @@ IfOk-both (Err y) P Q R follows p q = tt
 pub IfErr-both : {T E : Type 0} (r : Result T E) (P Q R : E → Type 0) → ((y : E) → P y → Q y → R y) → IfErr r P → IfErr r Q → IfErr r R
 IfErr-both (Ok x) P Q R follows p q = tt
 IfErr-both (Err y) P Q R follows p q = follows y p q
+
+-- what is told later was told before
+pub IfOk-moved : {F T E : Type 0} {told later : Option F} (r : Result T E) (P : T → F → Type 0) → later ≡ told → IfOk r (λ x. WhereTold later (P x)) → IfOk r (λ x. WhereTold told (P x))
+IfOk-moved {F} (Ok x) P same fact = subst (λ (t : Option F). WhereTold t (P x)) same fact
+IfOk-moved (Err y) P same fact = tt
+
+-- what follows for a fault from what was told before and what is told later
+pub IfErr-then : {F T E : Type 0} {told later : Option F} (r : Result T E) (P : F → Type 0) (Q R : E → F → Type 0) → ((y : E) (files : F) → P files → Q y files → R y files)
+    → later ≡ told → WhereTold told P → IfErr r (λ y. WhereTold later (Q y)) → IfErr r (λ y. WhereTold told (R y))
+IfErr-then (Ok x) P Q R follows same before fact = tt
+IfErr-then {told = told} {later = later} (Err y) P Q R follows same before fact = WhereTold-then told later P (Q y) (R y) (follows y) same before fact
 
 -- the same where the files are told, by the first step
 pub Told-first : {F A B : Type 0} (told : Option F) (r : Refusal) (first : F → Outcomes A) (next : F → A → Outcomes B)

@@ -25,9 +25,6 @@ tells-refused (Some files) outcomes text old r stage cause = record { done = tt;
 
 pub stage-files : (r : Refusal) → IsOfFiles r → IsOfFilesOrOutput r
 stage-files Memory stage = tt
-stage-files (Words fault) stage = absurd stage
 stage-files (DueRefusal due) stage = tt
-stage-files (Other d) stage = absurd stage
 stage-files Read stage = tt
-stage-files (Journal kept) stage = absurd stage
-stage-files Write stage = absurd stage
+stage-files r stage = absurd stage

@@ -1,11 +1,14 @@
 -- Files that are there or not, and their sizes.
-use Rattle.std.specs.Prelude.{◌≡◌, ℕ, ◌^◌, ◌<◌, List, length, map, flat_map, sum_by, find, is_none, Option, None, Some, option_map, if◌then◌else◌}
+use Rattle.std.specs.Prelude.{◌≡◌, ℕ, ◌^◌, ◌<◌, ◌≤◌, List, length, map, flat_map, sum_by, find, is_none, Option, None, Some, option_map, if◌then◌else◌}
 use Rattle.std.specs.List.{All}
 use Rattle.std.specs.Str.{IsUtf8}
 use Rattle.corr_model.specs.Files.{Files}
 use Rattle.frame_index.specs.declared.recording.FileRef.{FileRef}
 use Rattle.frame_index.specs.Recording.{AreOnShelf, slot_total}
+use Rattle.plan_places.specs.Walk.{epochs_by}
 use Rattle.job_plan.specs.declared.plan.StationPlan.{StationPlan}
+use Rattle.job_plan.specs.declared.plan.Plan.{Plan}
+use Rattle.job_epochs.specs.Sizes.{sizes_of}
 use Rattle.job_text.specs.Job.{StationFields}
 use Rattle.run_notes.specs.Answers.{Answer, no_file_answer}
 use Rattle.run_ready.specs.declared.recordings.StationFiles.{StationFiles}
@@ -52,3 +55,7 @@ slots_together sized = sum_by (λ (z : StationFiles). z.slots) sized
 -- less than 2^32 files
 abbrev pub HasFewFiles : StationFields → Type 0
 HasFewFiles s = length s.files < 2 ^ 32
+
+-- a plan that has at most 2^32 epochs of a length
+abbrev pub HasFewEpochs : Plan → ℕ → Type 0
+HasFewEpochs plan epoch = length (epochs_by (sizes_of plan) epoch) ≤ 4294967296

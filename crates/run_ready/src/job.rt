@@ -3,10 +3,8 @@ ghost use Rattle.std.specs.Prelude.{◌≡◌, ◌≤◌, ◌<◌, ◌^◌, IfOk
 ghost use Rattle.std.specs.{List.{All}, Str.{IsUtf8}};
 ghost use Rattle.dev_traits.specs.Told.{WhereTold};
 ghost use Rattle.corr_model.specs.Files.{bytes_under};
-ghost use Rattle.plan_places.specs.Walk.{epochs_by};
-ghost use Rattle.job_epochs.specs.Sizes.{sizes_of};
 ghost use Rattle.run_notes.specs.{Refusals.{IsCause}, Counted.{CountsReads}};
-ghost use Rattle.run_ready.specs.{Outcome.{Joins, JoinOf}, Identities.{schedule_text}, Sizes.{HasFewFiles}, Stage.{IsOfFiles, IsOfTexts}};
+ghost use Rattle.run_ready.specs.{Outcome.{Joins, JoinOf}, Identities.{schedule_text}, Sizes.{HasFewFiles, HasFewEpochs}, Stage.{IsOfFiles, IsOfTexts}};
 
 use crate::scans::{JobRead, ScheduleRead, load_job, load_schedule, plan_of};
 use dev_traits::Shelf;
@@ -31,7 +29,7 @@ pub struct Joined {
     pub ghost few_scans: { length plan.scans ≤ 8388608 },
     pub ghost some_epoch: { 1 ≤ epoch },
     pub ghost short_epoch: { epoch ≤ 4194304 },
-    pub ghost few_epochs: { length (epochs_by (sizes_of plan) epoch) ≤ 4294967296 },
+    pub ghost few_epochs: { HasFewEpochs plan epoch },
 }
 
 // The samples of an epoch in force: what is asked for, or else what the plan has.

@@ -4,11 +4,8 @@ ghost use Rattle.run_ready.specs.Refused.{recording_refusal, join_refusal};
 
 use frame_index::IndexFault;
 use job_join::JoinFault;
-use job_text::{JobFault, JobKind};
 use num_time::Name;
 use run_notes::{Due, Measure, Refusal};
-use vex_reader::{VexFault, VexKind};
-use vex_schedule::{SchedFault, SchedKind};
 
 /// The length of the file of a name, where it is there.
 pub fn there(size: Option<u64>, name: Name) -> Result<u64, Refusal>
@@ -30,39 +27,6 @@ pub fn within(measure: Measure, most: u128, value: u128) -> Result<(), Refusal>
         return Err(Refusal::Due(Due::Limit(measure, value)));
     }
     Ok(())
-}
-
-/// The refusal of a text that is no VEX file.
-pub fn vex_refusal(fault: VexFault) -> Refusal
-    ensures memory { fault.kind ≡ VexKind.Memory → result ≡ Refusal.Memory }
-    ensures due { fault.kind ≢ VexKind.Memory → result ≡ Refusal.Due (Due.Vex fault) }
-{
-    match fault.kind {
-        VexKind::Memory => Refusal::Memory,
-        _ => Refusal::Due(Due::Vex(fault)),
-    }
-}
-
-/// The refusal of a VEX file without a schedule.
-pub fn schedule_refusal(fault: SchedFault) -> Refusal
-    ensures memory { fault.kind ≡ SchedKind.Memory → result ≡ Refusal.Memory }
-    ensures due { fault.kind ≢ SchedKind.Memory → result ≡ Refusal.Due (Due.Schedule fault) }
-{
-    match fault.kind {
-        SchedKind::Memory => Refusal::Memory,
-        _ => Refusal::Due(Due::Schedule(fault)),
-    }
-}
-
-/// The refusal of a text without a job.
-pub fn job_refusal(fault: JobFault) -> Refusal
-    ensures memory { fault.kind ≡ JobKind.Memory → result ≡ Refusal.Memory }
-    ensures due { fault.kind ≢ JobKind.Memory → result ≡ Refusal.Due (Due.Job fault) }
-{
-    match fault.kind {
-        JobKind::Memory => Refusal::Memory,
-        _ => Refusal::Due(Due::Job(fault)),
-    }
 }
 
 /// The refusal of a job and a schedule that do not go together, for a cause that speaks of this name.

@@ -2,25 +2,24 @@
 ghost use Rattle.std.specs.Prelude.{◌≡◌, ◌≤◌, ◌<◌, ◌^◌, length, IsTrue, IsSome, IfOk, IfErr, Ok, Some, IfSome, unwrap_or};
 ghost use Rattle.std.specs.{List.{All}, Str.{IsUtf8}};
 ghost use Rattle.dev_traits.specs.Told.{WhereTold};
-ghost use Rattle.plan_places.specs.Walk.{epochs_by};
-ghost use Rattle.job_epochs.specs.Sizes.{sizes_of};
 ghost use Rattle.job_text.specs.Answer.{job_in};
 ghost use Rattle.job_join.specs.Joined.{joined};
 ghost use Rattle.run_notes.specs.{Answers.{job_answer}, Refusals.{IsCause}, Counted.{CountsReads}};
-ghost use Rattle.run_ready.specs.{Steps.{Is, answered}, Outcome.{take_name, key_name, scan_name, cause_name, cause_answer, ScansOf, ScheduleOf, JobOf}, Sizes.{HasFewFiles}};
+ghost use Rattle.run_ready.specs.{Steps.{Is, answered}, Outcome.{take_name, key_name, scan_name, cause_name, cause_answer, ScansOf, ScheduleOf, JobOf}, Sizes.{HasFewFiles, HasFewEpochs}};
 ghost use Rattle.run_ready.specs.Stage.{IsOfFiles, IsOfTexts};
 
-use crate::refusals::{job_refusal, join_refusal, schedule_refusal, vex_refusal};
+use crate::refusals::join_refusal;
 use crate::texts::load_text;
 use dev_traits::Shelf;
 use job_join::{JoinFault, Quantity, join_job};
 use job_plan::Plan0;
-use job_text::{Job, read_job};
+use job_text::{Job, JobKind, read_job};
 use num_time::Name;
-use run_notes::{Measure, Refusal};
+use run_notes::{Due, Measure, Refusal};
 use scan_list::ScanList;
 use std::alloc::Global;
-use vex_schedule::schedule;
+use vex_reader::VexKind;
+use vex_schedule::{SchedKind, schedule};
 
 // The greatest lengths of a schedule and of a job's text, in bytes.
 const MOST_SCHEDULE_BYTES: u64 = 8_388_608;
@@ -36,11 +35,17 @@ fn scans_of(alloc: Global, text: &[u8]) -> Result<ScanList, Refusal>
 {
     let file = match vex_reader::read(alloc, text) {
         Ok(file) => file,
-        Err(fault) => return Err(vex_refusal(fault)),
+        Err(fault) => match fault.kind {
+            VexKind::Memory => return Err(Refusal::Memory),
+            _ => return Err(Refusal::Due(Due::Vex(fault))),
+        },
     };
     match schedule(alloc, &file) {
         Ok(list) => Ok(list),
-        Err(fault) => Err(schedule_refusal(fault)),
+        Err(fault) => match fault.kind {
+            SchedKind::Memory => Err(Refusal::Memory),
+            _ => Err(Refusal::Due(Due::Schedule(fault))),
+        },
     }
 }
 
@@ -53,7 +58,10 @@ fn job_of(alloc: Global, text: &[u8], inline: bool) -> Result<Job, Refusal>
 {
     match read_job(alloc, text, inline) {
         Ok(job) => Ok(job),
-        Err(fault) => Err(job_refusal(fault)),
+        Err(fault) => match fault.kind {
+            JobKind::Memory => Err(Refusal::Memory),
+            _ => Err(Refusal::Due(Due::Job(fault))),
+        },
     }
 }
 
@@ -181,7 +189,7 @@ pub fn plan_of(
     ensures plan { IfOk result (λ plan. Is (answered (cause_answer job.now list.now.scans) (joined job.now (unwrap_or epoch job.now.epoch) list.now.scans)) (Ok plan)) }
     ensures few { IfOk result (λ plan. All (λ s. length s.files < 2 ^ 32) plan.stations) }
     ensures few_scans { IfOk result (λ plan. length plan.scans ≤ 8388608) }
-    ensures few_epochs { IfOk result (λ plan. length (epochs_by (sizes_of plan) (unwrap_or epoch plan.epoch)) ≤ 4294967296) }
+    ensures few_epochs { IfOk result (λ plan. HasFewEpochs plan (unwrap_or epoch plan.epoch)) }
     ensures cause { IfErr result (λ r. IsCause r (Is (answered (cause_answer job.now list.now.scans) (joined job.now (unwrap_or epoch job.now.epoch) list.now.scans)))) }
     ensures stage { IfErr result IsOfTexts }
 {

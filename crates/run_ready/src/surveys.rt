@@ -6,7 +6,7 @@ ghost use Rattle.plan_places.specs.Walk.{epochs_by};
 ghost use Rattle.job_epochs.specs.Sizes.{sizes_of};
 ghost use Rattle.checkpoint_journal.specs.Identity.{identity_of};
 ghost use Rattle.run_notes.specs.{Refusals.{IsCause}, Counted.{CountsReads}};
-ghost use Rattle.run_ready.specs.{Steps.{Is, unless}, Due.{IsDue}, Recordings.{files_answer}, Identities.{lengths_of}, Sizes.{IsSizedBy, AreShelved, sizes_in}, Props.{AreSized-prop}};
+ghost use Rattle.run_ready.specs.{Steps.{Is, unless}, Due.{IsDue}, Recordings.{files_answer}, Identities.{lengths_of}, Sizes.{IsSizedBy, AreShelved, HasFewEpochs, sizes_in}, Props.{AreSized-prop}};
 ghost use Rattle.run_ready.specs.Stage.{IsOfFiles};
 
 use crate::identity::identity_of;
@@ -53,7 +53,7 @@ fn survey_of(
     requires few_scans { length plan.scans ≤ 8388608 }
     requires some_epoch { 1 ≤ epoch }
     requires short_epoch { epoch ≤ 4194304 }
-    requires few_epochs { length (epochs_by (sizes_of plan) epoch) ≤ 4294967296 }
+    requires few_epochs { HasFewEpochs plan epoch }
     requires few_stations { length plan.stations ≤ 32 }
     requires sized { AllZip IsSizedBy plan.stations files.items }
     requires slots { All (λ z. z.slots ≤ 2 ^ 26) files.items }

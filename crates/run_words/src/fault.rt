@@ -4,24 +4,21 @@ ghost use Rattle.run_words.specs.{Faults.{fault_name}, declared.fault.WordsFault
 
 use std::alloc::AllocError;
 use thiserror::Error;
+use variant_name::name_of;
 
 /// Why words are no order. The first in this order that applies is the answer; want of memory comes at any time.
 #[derive(Clone, Copy, Debug, PartialEq, Eq, Error)]
+#[error("{}", self.name())]
 pub enum WordsFault {
     /// There is no word.
-    #[error("NoCommand")]
     NoCommand,
     /// The first word is no command.
-    #[error("UnknownCommand")]
     UnknownCommand,
     /// The words behind the command are not its options, or one that it needs is not there.
-    #[error("Option")]
     Option,
     /// A number is not 1 to 20 digits, or out of its range.
-    #[error("Value")]
     Value,
     /// Out of memory.
-    #[error("Memory")]
     Memory,
 }
 
@@ -30,13 +27,7 @@ impl WordsFault {
     pub fn name(self) -> &'static str
         ensures { result.now ≡ fault_name self }
     {
-        match self {
-            WordsFault::NoCommand => "NoCommand",
-            WordsFault::UnknownCommand => "UnknownCommand",
-            WordsFault::Option => "Option",
-            WordsFault::Value => "Value",
-            WordsFault::Memory => "Memory",
-        }
+        name_of!(self: WordsFault { NoCommand, UnknownCommand, Option, Value, Memory })
     }
 }
 

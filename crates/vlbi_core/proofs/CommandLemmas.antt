@@ -144,22 +144,14 @@ files-NoWrite (Journal kept) stage = absurd stage
 files-NoWrite Write stage = absurd stage
 
 pub files-behind : (r : Refusal) → IsOfFiles r → IsBehindWords r
-files-behind Memory stage = tt
 files-behind (Words fault) stage = absurd stage
-files-behind (DueRefusal due) stage = tt
-files-behind (Other d) stage = absurd stage
-files-behind Read stage = tt
-files-behind (Journal kept) stage = absurd stage
-files-behind Write stage = absurd stage
+files-behind _ stage = tt
 
 pub due-same : (old : Option (List ℕ)) (r : Refusal) → MatchDue r (old ≡ old)
-due-same old Memory = tt
 due-same old (Words fault) = refl
 due-same old (DueRefusal due) = refl
 due-same old (Other d) = refl
-due-same old Read = tt
-due-same old (Journal kept) = tt
-due-same old Write = tt
+due-same old _ = tt
 
 -- a verdict on files is all that a command which leaves the journal alone may be refused for of what is due
 pub verdict-due : (old new : Option (List ℕ)) (result : Result (Unit {0}) Refusal) → IfErr result IsOfFilesOrOutput
@@ -175,12 +167,8 @@ verdict-due old new (Err Write) stage nothing = tt
 
 pub early-same : (old : Option (List ℕ)) (r : Refusal) → MatchEarly r (old ≡ old)
 early-same old Memory = refl
-early-same old (Words fault) = tt
-early-same old (DueRefusal due) = tt
-early-same old (Other d) = tt
 early-same old Read = refl
-early-same old (Journal kept) = tt
-early-same old Write = tt
+early-same old _ = tt
 
 module _ {D : Type 0} (seen : D → Option (List ℕ)) (moment : D → ℕ) (may_leave : D → ℕ → List ℕ → Type 0) where
   -- ---- before anything is touched

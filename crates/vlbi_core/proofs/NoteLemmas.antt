@@ -15,7 +15,8 @@ use Rattle.run_notes.specs.Refusals.{Outcomes, answer_of}
 use Rattle.vlbi_core.specs.Calls.{Call, Task, OfJob, KeepsManyFor}
 use Rattle.vlbi_core.specs.Restart.{SaysKept}
 use Rattle.vlbi_core.specs.Steps.{IsCauseOf, IsShort, SaysFor}
-use Rattle.vlbi_core.proofs.TopLemmas.{AreOne, task-not, calls-same}
+use Rattle.run_ready.proofs.LawLemmas.{AreOne}
+use Rattle.vlbi_core.proofs.TopLemmas.{task-not, calls-same}
 
 -- ---- numbers as texts
 

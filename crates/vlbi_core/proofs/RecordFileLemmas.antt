@@ -2,13 +2,12 @@
 use Rattle.std.specs.Prelude.{flat_map}
 use Rattle.std.specs.List.{All, range_with_len, enumerate_from}
 use Rattle.std.specs.Int.{div_ceil}
-use Rattle.std.proofs.Common.{◌≡◌, ◌∙◌, refl, sym, ap, ℕ, ◌+◌, ◌-◌, ◌*◌, ◌^◌, ◌≤◌, ℤ, List, [], ◌∷◌, length, map, get_or, arith, length-append}
+use Rattle.std.proofs.Common.{◌≡◌, ◌∙◌, refl, sym, ap, ℕ, ◌+◌, ◌-◌, ◌*◌, ◌^◌, ◌≤◌, List, [], ◌∷◌, length, map, get_or, arith, length-append}
 use Rattle.std.proofs.Math.Nat.{min-le_right}
 use Rattle.std.proofs.lemmas.Option.{slice_get-get_or}
 use Rattle.std.proofs.lemmas.List.{length-map}
 use Rattle.std.proofs.lemmas.List.FromFn.{length-range_with_len, length-map-range_with_len}
-use Rattle.corr_model.specs.declared.cell.Pair.{Pair}
-use Rattle.corr_model.specs.Cell.{Samples, cell_in}
+use Rattle.corr_model.specs.Cell.{Samples}
 use Rattle.corr_model.specs.Files.{Files}
 use Rattle.corr_model.specs.Lags.{lag_of}
 use Rattle.corr_model.specs.Records.{Head, HeadScan, IsCell, places_of, scan_places, product_places, baseline_places}
@@ -20,22 +19,14 @@ use Rattle.job_plan.specs.Values.{rotated}
 use Rattle.job_plan.specs.Output.{integrations_of, integration_start, integration_end, cell_of, cells_of, product_cells, integration_cells, cells_of_scan, plan_cells, product_names, head_scan, head_of, output}
 use Rattle.job_epochs.proofs.EachLemmas.{Each, Each-flat_map, Each-map}
 use Rattle.job_epochs.proofs.SmallValues.{rotated-small, at-place}
-use Rattle.job_epochs.proofs.RangeCells.{AllSmall, part-fits, cell_in-IsGrown}
+use Rattle.job_epochs.proofs.RangeCells.{AllSmall}
+use Rattle.job_epochs.proofs.EpochCells.{cell_in-IsCell}
 use Rattle.vis_records.specs.Content.{IsRecordFile}
 use Rattle.vlbi_core.specs.Sample.{content_for}
 use Rattle.vis_writer.proofs.Rows.{length-rows}
 use Rattle.vis_writer.proofs.PlanHead.{head_is}
 
 -- ---- each cell has its 64 bits
-
-cell-is : (z : Samples) (pair : Pair) (samples : ℕ) (lag : ℤ) (from to : ℕ) → AllSmall z → to - from ≤ 2 ^ 40 → IsCell (cell_in z pair samples lag from to)
-cell-is z pair samples lag from to small few =
-    let grown = cell_in-IsGrown z pair samples lag from to small in
-    record {
-      re = part-fits (cell_in z pair samples lag from to).re (to - from) grown.re_low grown.re_high few;
-      im = part-fits (cell_in z pair samples lag from to).im (to - from) grown.im_low grown.im_high few;
-      count = omega (arith, grown.count, few);
-    }
 
 integration-few : (plan : Plan) (scan : ScanPlan) (m : ℕ) → scan.samples ≤ 2 ^ 40 → integration_end plan scan m - integration_start plan m ≤ 2 ^ 40
 integration-few plan scan m few = omega (arith, few, min-le_right ((m + 1) * plan.integration) scan.samples)
@@ -45,7 +36,7 @@ integration-are plan z scan m small few =
     Each-flat_map IsCell (product_cells plan z scan m) plan.products
     (λ i p there. Each-flat_map IsCell (cells_of plan z scan m p) scan.baselines
     (λ j b here. Each-map IsCell (λ k. cell_of plan z scan m p b (lag_of plan.lags k)) (range_with_len 0 plan.lags)
-    (λ k. cell-is z (record { a = b.a; x = p.x; b = b.b; y = p.y }) scan.samples (lag_of plan.lags k) (integration_start plan m) (integration_end plan scan m) small
+    (λ k. cell_in-IsCell z (record { a = b.a; x = p.x; b = b.b; y = p.y }) scan.samples (lag_of plan.lags k) (integration_start plan m) (integration_end plan scan m) small
     (integration-few plan scan m few))))
 
 scan-are : (plan : Plan) (z : Samples) (scan : ScanPlan) → AllSmall z → scan.samples ≤ 2 ^ 40 → Each IsCell (cells_of_scan plan z scan)
@@ -64,18 +55,13 @@ all-each P xs each = λ i x within. each i (get_or xs i x) (slice_get-get_or xs 
 
 -- ---- and there is one for each lag of each record
 
-count-integration : (plan : Plan) (z : Samples) (scan : ScanPlan) (m : ℕ)
-    → length (integration_cells plan z scan m) ≡ length plan.products * (length scan.baselines * plan.lags)
-count-integration plan z scan m =
-    length-rows (product_cells plan z scan m) (length scan.baselines * plan.lags) plan.products
-    (λ p. length-rows (cells_of plan z scan m p) plan.lags scan.baselines
-    (λ b. length-map-range_with_len (λ i. cell_of plan z scan m p b (lag_of plan.lags i)) 0 plan.lags))
-
 count-scan : (plan : Plan) (z : Samples) (scan : ScanPlan)
     → length (cells_of_scan plan z scan) ≡ integrations_of plan scan * (length plan.products * (length scan.baselines * plan.lags))
 count-scan plan z scan =
     length-rows (integration_cells plan z scan) (length plan.products * (length scan.baselines * plan.lags)) (range_with_len 0 (integrations_of plan scan))
-    (λ m. count-integration plan z scan m)
+    (λ m. length-rows (product_cells plan z scan m) (length scan.baselines * plan.lags) plan.products
+    (λ p. length-rows (cells_of plan z scan m p) plan.lags scan.baselines
+    (λ b. length-map-range_with_len (λ i. cell_of plan z scan m p b (lag_of plan.lags i)) 0 plan.lags)))
     ∙ ap (λ (n : ℕ). n * (length plan.products * (length scan.baselines * plan.lags))) (length-range_with_len 0 (integrations_of plan scan))
 
 count-places : (head : Head) (number : ℕ) (s : HeadScan)

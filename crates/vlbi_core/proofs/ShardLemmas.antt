@@ -1,12 +1,13 @@
 -- What a call of `shard` did.
 use Rattle.std.specs.Prelude.{OnOk, IfErr, unwrap_or}
-use Rattle.std.proofs.Common.{◌≡◌, ◌∙◌, ℕ, true, List, Option, Some, None, Result, Ok, Err, refl, ap}
+use Rattle.std.proofs.Common.{◌≡◌, ◌∙◌, ◌≤◌, ℕ, true, List, length, Option, Some, None, Result, Ok, Err, refl, ap}
 use Rattle.dev_traits.specs.Told.{more, WhereTold}
 use Rattle.sink_text.specs.Appends.{Appends}
 use Rattle.corr_model.specs.Files.{Files}
 use Rattle.piece_plan.specs.Epochs.{JobSizes}
 use Rattle.piece_plan.specs.Limited.{limited}
 use Rattle.job_plan.specs.declared.plan.Plan.{Plan}
+use Rattle.job_plan.specs.Ranges.{IsPlan}
 use Rattle.job_epochs.specs.Sizes.{sizes_of}
 use Rattle.checkpoint_journal.specs.Identity.{shard_of}
 use Rattle.checkpoint_journal.specs.Standing.{JournalState}
@@ -15,13 +16,14 @@ use Rattle.run_words.specs.declared.order.Order.TheVariants.{Shard}
 use Rattle.run_ready.specs.Identities.{identity_under}
 use Rattle.run_part.specs.Outcome.{PartOf}
 use Rattle.run_summary.specs.Summaries.{shard_line}
-use Rattle.vis_writer.proofs.WritesLemmas.{where_always}
+use Rattle.vis_writer.proofs.WritesLemmas.{where_then, where_always}
 use Rattle.vis_writer.specs.Writes.{Appended}
 use Rattle.vlbi_core.specs.Calls.{Call, call_of, is_writer}
 use Rattle.vlbi_core.specs.Engine.{IsOfRecords}
 use Rattle.vlbi_core.specs.Faults.{written_with}
 use Rattle.vlbi_core.specs.Restart.{IsHonest}
-use Rattle.vlbi_core.specs.Steps.{Leaves}
+use Rattle.vlbi_core.specs.Steps.{GoesRanged, Leaves, OutcomeFrom}
+use Rattle.vlbi_core.proofs.KeepLemmas.{ranged-at}
 use Rattle.vlbi_core.proofs.CommandLemmas.{not_both}
 use Rattle.vlbi_core.proofs.CorrelationLemmas.{IsSummer, MakesText, covered-told, opened-told}
 
@@ -78,6 +80,14 @@ module _ (job : List ℕ) (vex : Option (List ℕ)) (epoch : Option ℕ) (from t
     cut = part ∙ ap (λ (z : JobSizes). limited z from to) cut;
     in_force = in_force;
   }
+
+  -- what it finds is a plan in its ranges
+  pub shard-ranged : {D : Type 0} (seen : D → Option (List ℕ)) (moment : D → ℕ) (may_leave : D → ℕ → List ℕ → Type 0) (told : Option Files) (workers piece : ℕ) (before after : D)
+      → IsPlan plan → length plan.scans ≤ 8388608 → WhereTold told (λ files. PartOf files job vex epoch to (Ok plan))
+      → WhereTold told (λ files. GoesRanged (OutcomeFrom (Ok (Shard job vex epoch workers piece from to)) files) seen moment may_leave before after)
+  shard-ranged seen moment may_leave told workers piece before after ranges few there =
+      ranged-at seen moment may_leave told (Shard job vex epoch workers piece from to) shard_call before after ranges few
+      (where_then told _ _ (λ files is. (refl, is)) there)
 
   line-done : {E : Type 0} (old new : Option (List ℕ)) (count now : ℕ) (r : Result (Unit {0}) E) (P : List ℕ → Type 0) (before : Option (List ℕ)) → Appends old new (shard_line from to) count now r
       → OnOk (written_with r) (WhereTold before (λ image. P image → new ≡ more old (shard_line from to)))

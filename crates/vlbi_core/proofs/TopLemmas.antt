@@ -31,6 +31,7 @@ use Rattle.run_notes.specs.Counted.{CountsJournal}
 use Rattle.run_ready.specs.Steps.{Is, Then, answered}
 use Rattle.run_ready.specs.Recordings.{files_answer, recordings_answer}
 use Rattle.run_ready.specs.Outcome.{Wrong, PlanUnder, JoinOf, SurveyOf, PlanOf}
+use Rattle.run_ready.proofs.LawLemmas.{AreOne, Then-one}
 use Rattle.journal_rounds.specs.Extended.{Extends}
 use Rattle.vis_records.specs.Content.{Content}
 use Rattle.vis_records.specs.Dumped.{dump_text}
@@ -54,45 +55,11 @@ use Rattle.vlbi_core.proofs.CommandLemmas.{one-job}
 
 -- ---- outcomes, of which there is one
 
--- there is at most one of these outcomes
-abbrev pub AreOne : {A : Type 0} → Outcomes A → Type 0
-AreOne {A} outcomes = (a b : Result A Answer) → outcomes a → outcomes b → a ≡ b
-
 -- the law of plans
 abbrev pub OneOutcome : Type 0
 OneOutcome =
     (files : Files) (wrong : Wrong) (job : List ℕ) (vex : Option (List ℕ)) (epoch : Option ℕ) (a b : Result Plan Answer)
     → PlanUnder files wrong job vex epoch a → PlanUnder files wrong job vex epoch b → a ≡ b
-
-Then-one : {A B : Type 0} (first : Outcomes A) (next : A → Outcomes B) → AreOne first → ((a : A) → AreOne (next a)) → AreOne (Then first next)
-Then-one {A} {B} first next one ones = by
-  where
-    same : (a c : A) → first (Ok a) → first (Ok c) → a ≡ c
-    same a c p q = let e : Ok a ≡ Ok c = one (Ok a) (Ok c) p q in cc
-
-    same_err : (d e : Answer) → first (Err d) → first (Err e) → d ≡ e
-    same_err d e p q =
-        let x : Result A Answer = Err d in
-        let y : Result A Answer = Err e in
-        let h : x ≡ y = one x y p q in
-        cc
-
-    both : (x y : Result B Answer) (a c : A) → first (Ok a) → first (Ok c) → next a x → next c y → x ≡ y
-    both x y a c p q s t = ones c x y (subst (λ (w : A). next w x) (same a c p q) s) t
-
-    not : (a : A) (e : Answer) → first (Ok a) → first (Err e) → ⊥
-    not a e p q = let h : Ok a ≡ Err e = one (Ok a) (Err e) p q in cc
-
-    by : AreOne (Then first next)
-    by (Ok x) (Ok y) p q = both (Ok x) (Ok y) p.0 q.0 p.1 q.1 p.2 q.2
-    by (Ok x) (Err e) p (inl q) = absurd (not p.0 e p.1 q)
-    by (Ok x) (Err e) p (inr q) = both (Ok x) (Err e) p.0 q.0 p.1 q.1 p.2 q.2
-    by (Err d) (Ok y) (inl p) q = absurd (not q.0 d q.1 p)
-    by (Err d) (Ok y) (inr p) q = both (Err d) (Ok y) p.0 q.0 p.1 q.1 p.2 q.2
-    by (Err d) (Err e) (inl p) (inl q) = ap Err (same_err d e p q)
-    by (Err d) (Err e) (inl p) (inr q) = absurd (not q.0 d q.1 p)
-    by (Err d) (Err e) (inr p) (inl q) = absurd (not p.0 e p.1 q)
-    by (Err d) (Err e) (inr p) (inr q) = both (Err d) (Err e) p.0 q.0 p.1 q.1 p.2 q.2
 
 job-one : (sums : Bool) (job : List ℕ) (vex : Option (List ℕ)) (epoch : Option ℕ) (part : Option Part) (plans : Outcomes Plan) → AreOne plans
     → AreOne (JobFor sums job vex epoch part plans)
@@ -360,22 +327,13 @@ read-no_fall (Journal kept) before now fact not = fact
 read-no_fall Write before now fact not = omega (arith, fact)
 
 pub journal-risen : (r : Refusal) (P Q : Type 0) → MatchJournal r P Q → (answer_of r).status ≡ 8 → P
-journal-risen Memory P Q fact is = absurd cc
-journal-risen (Words fault) P Q fact is = absurd cc
 journal-risen (DueRefusal due) P Q fact is = absurd (not_due due 8 is (inr (inr (inr (inl refl)))))
-journal-risen (Other d) P Q fact is = absurd cc
-journal-risen Read P Q fact is = absurd cc
 journal-risen (Journal kept) P Q fact is = fact
-journal-risen Write P Q fact is = absurd cc
+journal-risen _ P Q fact is = absurd cc
 
 pub journal-kept : (r : Refusal) (P Q : Type 0) → MatchJournal r P Q → ((answer_of r).status ≡ 8 → ⊥) → Q
-journal-kept Memory P Q fact not = fact
-journal-kept (Words fault) P Q fact not = fact
-journal-kept (DueRefusal due) P Q fact not = fact
-journal-kept (Other d) P Q fact not = fact
-journal-kept Read P Q fact not = fact
 journal-kept (Journal kept) P Q fact not = absurd (not (journal-status kept))
-journal-kept Write P Q fact not = fact
+journal-kept _ P Q fact not = fact
 
 -- the disk's count, where the call does not sum and a full journal is no cause
 pub journal-or : {T : Type 0} (full : Type 0) (before now : ℕ) (result : Result T Refusal) → CountsJournal before now result → CountsJournalOr full before now result
@@ -400,22 +358,14 @@ files-journal n (Err (Journal kept)) stage = absurd stage
 files-journal n (Err Write) stage = refl
 
 pub write-risen : (r : Refusal) (P Q : Type 0) → MatchWrite r P Q → (answer_of r).status ≡ 9 → P
-write-risen Memory P Q fact is = absurd cc
-write-risen (Words fault) P Q fact is = absurd cc
 write-risen (DueRefusal due) P Q fact is = absurd (not_due due 9 is (inr (inr (inr (inr refl)))))
-write-risen (Other d) P Q fact is = absurd cc
-write-risen Read P Q fact is = absurd cc
 write-risen (Journal kept) P Q fact is = absurd (not_journal kept 9 is (λ e. cc))
 write-risen Write P Q fact is = fact
+write-risen _ P Q fact is = absurd cc
 
 pub write-kept : (r : Refusal) (P Q : Type 0) → MatchWrite r P Q → ((answer_of r).status ≡ 9 → ⊥) → Q
-write-kept Memory P Q fact not = fact
-write-kept (Words fault) P Q fact not = fact
-write-kept (DueRefusal due) P Q fact not = fact
-write-kept (Other d) P Q fact not = fact
-write-kept Read P Q fact not = fact
-write-kept (Journal kept) P Q fact not = fact
 write-kept Write P Q fact not = absurd (not refl)
+write-kept _ P Q fact not = fact
 
 -- ---- verdicts
 

@@ -78,11 +78,10 @@ CountsJournalOr full before now result =
 -- What a call over devices in memory may be refused for, where no verdict is due and no read fails: want of memory, and a fault of
 -- its journal or its output.
 abbrev pub IsOfMemory : Refusal → Type 0
-IsOfMemory (Words fault) = ⊥
-IsOfMemory (DueRefusal due) = ⊥
-IsOfMemory (Other d) = ⊥
-IsOfMemory Read = ⊥
-IsOfMemory _ = ⊤
+IsOfMemory Memory = ⊤
+IsOfMemory (Journal kept) = ⊤
+IsOfMemory Write = ⊤
+IsOfMemory _ = ⊥
 
 -- what the totals of a sample may be refused for: want of memory, and a fault of the output
 abbrev pub IsOfSample : Refusal → Type 0

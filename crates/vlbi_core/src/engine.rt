@@ -12,7 +12,7 @@ ghost use Rattle.run_ready.specs.{Outcome.{PlanOf}, Identities.{identity_under},
 ghost use Rattle.run_sums.specs.Sums.{AreSums};
 ghost use Rattle.journal_rounds.specs.{Extended.{IsSummed, Extends}, Room.{HasNoPlace}};
 ghost use Rattle.journal_records.specs.Kept.{Grows, WritesKept};
-ghost use Rattle.vlbi_core.specs.Engine.{job_names, epoch_asked, sums_refusal, sums_answer, IsOfSums, opening_refusal, resume_refusal, resume_answer, emit_refusal, emit_answer, IsRefusedFor, KeepsNamed, IsOfRecords};
+ghost use Rattle.vlbi_core.specs.Engine.{job_names, epoch_asked, sums_answer, IsOfSums, opening_refusal, resume_answer, emit_answer, IsRefusedFor, KeepsNamed, IsOfRecords};
 ghost use Rattle.vlbi_core.specs.Steps.{CountsJournalOr};
 
 use crate::order::{epoch_of, job_of, vex_of};
@@ -186,17 +186,8 @@ fn summed(sums: Result<EpochSums, StreamFault>) -> Result<EpochSums, Refusal>
 {
     match sums {
         Ok(sums) => Ok(sums),
-        Err(fault) => Err(sums_refusal(fault)),
-    }
-}
-
-// The refusal of an epoch that is not summed.
-fn sums_refusal(fault: StreamFault) -> Refusal
-    ensures { result ≡ sums_refusal fault }
-{
-    match fault {
-        StreamFault::Read => Refusal::Read,
-        StreamFault::Memory => Refusal::Memory,
+        Err(StreamFault::Read) => Err(Refusal::Read),
+        Err(StreamFault::Memory) => Err(Refusal::Memory),
     }
 }
 
@@ -217,19 +208,10 @@ fn resumed(brought: Result<Journal, ResumeFault>) -> Result<Journal, Refusal>
 {
     match brought {
         Ok(journal) => Ok(journal),
-        Err(fault) => Err(resume_refusal(fault)),
-    }
-}
-
-// The refusal of a journal that is not brought to its end.
-fn resume_refusal(fault: ResumeFault) -> Refusal
-    ensures { result ≡ resume_refusal fault }
-{
-    match fault {
-        ResumeFault::Memory => Refusal::Memory,
-        ResumeFault::Other(differs) => Refusal::Other(differs),
-        ResumeFault::Read => Refusal::Read,
-        ResumeFault::Journal(kept) => Refusal::Journal(kept),
+        Err(ResumeFault::Memory) => Err(Refusal::Memory),
+        Err(ResumeFault::Other(differs)) => Err(Refusal::Other(differs)),
+        Err(ResumeFault::Read) => Err(Refusal::Read),
+        Err(ResumeFault::Journal(kept)) => Err(Refusal::Journal(kept)),
     }
 }
 
@@ -239,17 +221,8 @@ fn emitted(written: Result<(), EmitFault>) -> Result<(), Refusal>
 {
     match written {
         Ok(()) => Ok(()),
-        Err(fault) => Err(emit_refusal(fault)),
-    }
-}
-
-// The refusal of records that are not all written.
-fn emit_refusal(fault: EmitFault) -> Refusal
-    ensures { result ≡ emit_refusal fault }
-{
-    match fault {
-        EmitFault::Memory => Refusal::Memory,
-        EmitFault::Journal(kept) => Refusal::Journal(Some(kept)),
-        EmitFault::Write => Refusal::Write,
+        Err(EmitFault::Memory) => Err(Refusal::Memory),
+        Err(EmitFault::Journal(kept)) => Err(Refusal::Journal(Some(kept))),
+        Err(EmitFault::Write) => Err(Refusal::Write),
     }
 }

@@ -10,7 +10,7 @@ ghost use Rattle.run_ready.specs.Outcome.{PlanOf};
 ghost use Rattle.run_notes.specs.{Commands.{Tells, IsOfFilesOrOutput, IsOfOutput}, Counted.{CountsReads, CountsWrites}};
 ghost use Rattle.station_stream.specs.Recorded.{AreNamed, AreRecorded};
 ghost use Rattle.vis_writer.specs.{Cells.{all_cells, widest}, Texts.{integration_at, text_at, scans_text}, Writes.{Writes, Appended}};
-ghost use Rattle.vlbi_core.specs.{Shelf.{ShelfState, state, head_at, cells_at, stays, fails}, Faults.{refusal_of, answer_with}, Steps.{MatchDue}};
+ghost use Rattle.vlbi_core.specs.{Shelf.{ShelfState, state, head_at, cells_at, stays, fails}, Faults.{answer_with}, Steps.{MatchDue}};
 
 use corr_model::Cell;
 use dev_traits::{Shelf, Sink};
@@ -71,18 +71,9 @@ fn answer(written: Result<(), WriteFault<StreamFault>>) -> Result<(), Refusal>
 {
     match written {
         Ok(()) => Ok(()),
-        Err(fault) => Err(refusal_of(fault)),
-    }
-}
-
-// The refusal of a fault.
-fn refusal_of(fault: WriteFault<StreamFault>) -> Refusal
-    ensures { result ≡ refusal_of fault }
-{
-    match fault {
-        WriteFault::Source(StreamFault::Read) => Refusal::Read,
-        WriteFault::Source(StreamFault::Memory) => Refusal::Memory,
-        WriteFault::Sink => Refusal::Write,
+        Err(WriteFault::Source(StreamFault::Read)) => Err(Refusal::Read),
+        Err(WriteFault::Source(StreamFault::Memory)) => Err(Refusal::Memory),
+        Err(WriteFault::Sink) => Err(Refusal::Write),
     }
 }
 

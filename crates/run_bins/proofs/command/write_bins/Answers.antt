@@ -7,7 +7,7 @@ use Rattle.run_ready.proofs.ToldLemmas.{WhereTold-moved}
 use Rattle.run_bins.specs.Jobs.{plan_of}
 use Rattle.run_bins.specs.Texts.{BinPlan, bin_output}
 use Rattle.run_bins.specs.Outcome.{BinsOf}
-use Rattle.run_bins.proofs.OutcomeLemmas.{tells-written}
+use Rattle.run_bins.proofs.OutcomeLemmas.{handed-on, tells-written}
 use Rattle.run_bins.proofs.command.write_bins.Goals as goal
 
 pub returns-in_err-binned-clause-tells : goal.returns-in_err-binned-clause-tells
@@ -18,14 +18,10 @@ returns-in_err-binned-clause-tells g c =
     (λ files (x : BinPlan). bin_output x files) (g.S.Sink.told c.args.out.now) c.in_err-binned.field-0.0 c.in_err-binned.ensures.stage c.in_err-binned.ensures.cause)
 
 pub returns-in_err-binned-clause-nothing : goal.returns-in_err-binned-clause-nothing
-returns-in_err-binned-clause-nothing g c =
-    let p = err_from_is_err_and c.from_residual.result c.from_residual.ensures.1 in
-    rw (p.1, p.2) (verdict-refused c.in_err-binned.field-0.0 _ refl)
+returns-in_err-binned-clause-nothing g c = handed-on _ _ c.from_residual.ensures.1 (verdict-refused c.in_err-binned.field-0.0 _ refl)
 
 pub returns-in_err-binned-clause-stage : goal.returns-in_err-binned-clause-stage
-returns-in_err-binned-clause-stage g c =
-    let p = err_from_is_err_and c.from_residual.result c.from_residual.ensures.1 in
-    rw (p.1, p.2) (stage-files c.in_err-binned.field-0.0 c.in_err-binned.ensures.stage)
+returns-in_err-binned-clause-stage g c = handed-on _ _ c.from_residual.ensures.1 (stage-files c.in_err-binned.field-0.0 c.in_err-binned.ensures.stage)
 
 pub returns-clause-tells : goal.returns-clause-tells
 returns-clause-tells g c =

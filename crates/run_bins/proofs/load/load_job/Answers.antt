@@ -1,7 +1,6 @@
 use Rattle.std.specs.Prelude.{option_copied}
 use Rattle.std.specs.List.{All}
 use Rattle.std.proofs.Common.{◌≡◌, ◌∙◌, ◌≤◌, None, Ok, sym, subst}
-use Rattle.std.proofs.lemmas.Result.{err_from_is_err_and}
 use Rattle.dev_traits.specs.Told.{WhereTold}
 use Rattle.job_plan.specs.declared.plan.Plan.{Plan}
 use Rattle.pulsar_bins.specs.Scans.{no_phase}
@@ -9,21 +8,19 @@ use Rattle.bin_sums.specs.Binned.{bin_width}
 use Rattle.run_ready.proofs.ToldLemmas.{WhereTold-moved}
 use Rattle.run_ready.proofs.StepLemmas.{IsOfFiles-texts}
 use Rattle.run_bins.specs.Outcome.{BinsOf}
-use Rattle.run_bins.proofs.OutcomeLemmas.{job-refused, phase-refused, limit-refused, recordings-refused, job-done}
+use Rattle.run_bins.proofs.OutcomeLemmas.{handed-on, job-refused, phase-refused, limit-refused, recordings-refused, job-done}
 use Rattle.run_bins.proofs.load.load_job.Goals as goal
 
 pub returns-in_err-joined-clause-cause : goal.returns-in_err-joined-clause-cause
 returns-in_err-joined-clause-cause g c =
-    let p = err_from_is_err_and c.from_residual.result c.from_residual.ensures.1 in
-    rw (p.1, p.2)
+    handed-on _ _ c.from_residual.ensures.1
     (job-refused c.args.job.now (option_copied c.args.vex) c.args.phase.now c.in_err-joined.field-0.0 c.in_err-joined.ensures.stage
     (g.F.Shelf.told c.args.shelf.now) c.in_err-joined.ensures.cause)
 
 pub returns-in_err-bins-clause-cause : goal.returns-in_err-bins-clause-cause
 returns-in_err-bins-clause-cause g c =
     let told = g.F.Shelf.told in
-    let p = err_from_is_err_and c.from_residual-in_err-bins.result c.from_residual-in_err-bins.ensures.1 in
-    rw (p.1, p.2)
+    handed-on _ _ c.from_residual-in_err-bins.ensures.1
     (phase-refused c.args.job.now (option_copied c.args.vex) c.args.phase.now c.in_err-bins.field-0.0 c.in_err-bins.ensures.stage
     (told c.args.shelf.now) c.in_ok-joined.joined.plan c.in_ok-joined.ensures.plan
     (WhereTold-moved (told c.args.shelf.now) (told c.join.new.shelf) _ c.join.ensures.same c.in_err-bins.ensures.cause))
@@ -31,8 +28,7 @@ returns-in_err-bins-clause-cause g c =
 pub returns-in_err-check_cells-clause-cause : goal.returns-in_err-check_cells-clause-cause
 returns-in_err-check_cells-clause-cause g c =
     let told = g.F.Shelf.told in
-    let p = err_from_is_err_and c.from_residual-in_err-check_cells.result c.from_residual-in_err-check_cells.ensures.1 in
-    rw (p.1, p.2)
+    handed-on _ _ c.from_residual-in_err-check_cells.ensures.1
     (limit-refused c.args.job.now (option_copied c.args.vex) c.args.phase.now c.in_err-check_cells.field-0.0
     (IsOfFiles-texts c.in_err-check_cells.field-0.0 c.in_err-check_cells.ensures.stage)
     (told c.args.shelf.now) c.in_ok-joined.joined.plan c.in_ok-bins.bins c.in_ok-joined.ensures.plan
@@ -42,8 +38,7 @@ returns-in_err-check_cells-clause-cause g c =
 pub returns-in_err-ready-clause-cause : goal.returns-in_err-ready-clause-cause
 returns-in_err-ready-clause-cause g c =
     let told = g.F.Shelf.told in
-    let p = err_from_is_err_and c.from_residual-in_err-ready.result c.from_residual-in_err-ready.ensures.1 in
-    rw (p.1, p.2)
+    handed-on _ _ c.from_residual-in_err-ready.ensures.1
     (recordings-refused c.args.job.now (option_copied c.args.vex) c.args.phase.now c.in_err-ready.field-0.0 c.in_err-ready.ensures.stage
     (told c.args.shelf.now) c.in_ok-joined.joined.plan c.in_ok-bins.bins c.in_ok-joined.ensures.plan
     (WhereTold-moved (told c.args.shelf.now) (told c.join.new.shelf) _ c.join.ensures.same c.in_ok-bins.ensures.bins)

@@ -1,16 +1,15 @@
-use Rattle.std.proofs.Common.{◌≡◌, ◌∙◌, Option, Err, sym, ap, subst, arith}
+use Rattle.std.proofs.Common.{◌≡◌, ◌∙◌, Err, sym, ap, subst, arith}
 use Rattle.std.proofs.lemmas.List.{length-take}
 use Rattle.corr_model.specs.Files.{Files}
 use Rattle.job_plan.specs.declared.plan.Plan.{Plan}
 use Rattle.job_plan.specs.Ranges.{IsScanPlan}
 use Rattle.job_plan.specs.Values.{rotated}
-use Rattle.bin_sums.specs.Ahead.{IsAheadOf}
 use Rattle.bin_sums.specs.Binned.{bin_width, integration_bin_cells}
 use Rattle.vis_writer.proofs.WritesLemmas.{where_then}
 use Rattle.run_bins.specs.Jobs.{plan_of}
 use Rattle.run_bins.specs.Rows.{sums_text}
 use Rattle.run_bins.proofs.SumsText.{sums-text}
-use Rattle.run_bins.proofs.WriteLemmas.{writes-is, writes-sunk, writes-unread, integration-at, scan-planned, scan-few}
+use Rattle.run_bins.proofs.WriteLemmas.{writes-is, writes-sunk, writes-unread, integration-at, scan-planned, scan-few, still-ready}
 use Rattle.run_bins.proofs.writer.write_integration.Goals as goal
 
 pub width_of-requires-clause-scan : goal.width_of-requires-clause-scan
@@ -53,10 +52,8 @@ returns-in-Ok-clause-written g c =
     c.in-Ok.ensures.cells)
     c.write_sums.ensures)
 
-pub returns-in-Err-clause-ahead : goal.returns-in-Err-clause-ahead
-returns-in-Err-clause-ahead g c =
-    subst (λ (o : Option Files). IsAheadOf o c.args.job.now.ready c.sum_integration.new.ahead) (sym c.in-Err.ensures.same) c.in-Err.ensures.ahead
+pub returns-in-Err-clause-ready : goal.returns-in-Err-clause-ready
+returns-in-Err-clause-ready g c = still-ready c.args.job.now c.in-Err.ensures.same c.requires.ready c.in-Err.ensures.ahead
 
-pub returns-in-Ok-clause-ahead : goal.returns-in-Ok-clause-ahead
-returns-in-Ok-clause-ahead g c =
-    subst (λ (o : Option Files). IsAheadOf o c.args.job.now.ready c.sum_integration.new.ahead) (sym c.in-Ok.ensures.same) c.in-Ok.ensures.ahead
+pub returns-in-Ok-clause-ready : goal.returns-in-Ok-clause-ready
+returns-in-Ok-clause-ready g c = still-ready c.args.job.now c.in-Ok.ensures.same c.requires.ready c.in-Ok.ensures.ahead

@@ -1,19 +1,11 @@
 use Rattle.std.proofs.Common.{◌≡◌, Option, Err, rules, arith, sym, subst}
-use Rattle.corr_model.specs.Files.{Files}
-use Rattle.dev_traits.specs.Told.{WhereTold}
 use Rattle.job_plan.specs.Output.{integrations_of}
-use Rattle.station_stream.specs.Recorded.{AreRecorded}
 use Rattle.run_bins.specs.Jobs.{plan_of}
 use Rattle.run_bins.proofs.WriteLemmas.{writes-none, writes-next, writes-cut, writes-all, integration-at}
 use Rattle.run_bins.proofs.writer.write_integrations.Goals as goal
 
 pub loop-m-init : goal.loop-m-init
-loop-m-init g c = record { written = writes-none tt _ _ _ _; ahead = c.requires.ahead }
-
-pub write_integration-requires-clause-recorded : goal.write_integration-requires-clause-recorded
-write_integration-requires-clause-recorded g c κs within =
-    let ready = c.args.job.now.ready in
-    subst (λ (o : Option Files). WhereTold o (λ files. AreRecorded files ready.plan.stations ready.recordings.items)) (sym c.loop-m.invariant.written.same) c.requires.recorded
+loop-m-init g c = record { written = writes-none tt _ _ _ _; ready = c.requires.ready }
 
 pub returns-in_err-write_integration-clause-written : goal.returns-in_err-write_integration-clause-written
 returns-in_err-write_integration-clause-written g c =
@@ -26,7 +18,7 @@ returns-in_err-write_integration-clause-written g c =
 pub loop-m-preserved : goal.loop-m-preserved
 loop-m-preserved g c = record {
   written = writes-next (integration-at (plan_of c.args.job.now) c.args.number c.args.scan.now) c.loop-m.m c.loop-m.invariant.written c.in_ok-write_integration.ensures.written;
-  ahead = c.in_ok-write_integration.ensures.ahead;
+  ready = c.in_ok-write_integration.ensures.ready;
 }
 
 pub returns-clause-written : goal.returns-clause-written

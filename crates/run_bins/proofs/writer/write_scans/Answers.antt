@@ -1,9 +1,6 @@
-use Rattle.std.proofs.Common.{◌≡◌, ◌∙◌, Option, Err, length, rules, arith, sym, ap, subst}
+use Rattle.std.proofs.Common.{◌≡◌, ◌∙◌, Err, length, rules, arith, sym, ap}
 use Rattle.std.specs.List.{flat_map, range_with_len, enumerate_from}
-use Rattle.corr_model.specs.Files.{Files}
-use Rattle.dev_traits.specs.Told.{WhereTold}
 use Rattle.job_plan.specs.declared.plan.Plan.{Plan}
-use Rattle.station_stream.specs.Recorded.{AreRecorded}
 use Rattle.run_bins.specs.Jobs.{plan_of}
 use Rattle.run_bins.specs.Texts.{scan_text}
 use Rattle.run_bins.specs.Writes.{scan_text_at}
@@ -11,12 +8,7 @@ use Rattle.run_bins.proofs.WriteLemmas.{writes-none, writes-next, writes-cut, wr
 use Rattle.run_bins.proofs.writer.write_scans.Goals as goal
 
 pub loop-number-init : goal.loop-number-init
-loop-number-init g c = record { written = writes-none tt _ _ _ _; ahead = c.requires.ahead }
-
-pub write_scan-requires-clause-recorded : goal.write_scan-requires-clause-recorded
-write_scan-requires-clause-recorded g c κs within =
-    let ready = c.args.job.now.ready in
-    subst (λ (o : Option Files). WhereTold o (λ files. AreRecorded files ready.plan.stations ready.recordings.items)) (sym c.loop-number.invariant.written.same) c.requires.recorded
+loop-number-init g c = record { written = writes-none tt _ _ _ _; ready = c.requires.ready }
 
 pub returns-in_err-write_scan : goal.returns-in_err-write_scan
 returns-in_err-write_scan g c =
@@ -31,7 +23,7 @@ returns-in_err-write_scan g c =
 pub loop-number-preserved : goal.loop-number-preserved
 loop-number-preserved g c = record {
   written = writes-next (scan_text_at (plan_of c.args.job.now)) c.loop-number.number c.loop-number.invariant.written c.in_ok-write_scan.ensures.written;
-  ahead = c.in_ok-write_scan.ensures.ahead;
+  ready = c.in_ok-write_scan.ensures.ready;
 }
 
 pub returns : goal.returns

@@ -11,7 +11,7 @@ use Rattle.run_ready.specs.Recordings.{foreign_answer, first_foreign}
 use Rattle.run_ready.specs.Sizes.{IsSizedBy, AreShelved}
 use Rattle.run_ready.proofs.ToldLemmas.{WhereTold-moved, WhereTold-then}
 use Rattle.run_ready.proofs.FilesLemmas.{AllZip-take}
-use Rattle.run_ready.proofs.FirstLemmas.{first-next}
+use Rattle.run_ready.proofs.FirstLemmas.{told-next}
 use Rattle.run_ready.proofs.RecordingLemmas.{IsFirst-first_foreign, taken-next, AllZip-drop}
 use Rattle.run_ready.proofs.indexes.index_all.Goals as goal
 
@@ -62,8 +62,6 @@ loop-station-preserved g c =
           c.loop-station-test.true c.station-item.is are is))
           c.loop-station.invariant.same c.loop-station.invariant.recorded c.in_ok-recording.ensures.recorded;
       first =
-          WhereTold-then (told c.args.shelf.now) (told c.loop-station.shelf) _ _ _
-          (λ files so_far none. first-next (foreign_answer files) (first_foreign files) (IsFirst-first_foreign files) c.args.stations.now i
-          c.station-item.result c.loop-station-test.true c.station-item.is so_far none)
+          told-next foreign_answer first_foreign IsFirst-first_foreign c.args.stations.now i c.station-item.result c.loop-station-test.true c.station-item.is
           c.loop-station.invariant.same c.loop-station.invariant.first c.in_ok-recording.ensures.agrees;
     }

@@ -1,9 +1,12 @@
-use Rattle.std.proofs.Common.{◌∙◌, false, List, None, sym}
+use Rattle.std.proofs.Common.{◌∙◌, ℕ, false, List, Option, None, sym}
 use Rattle.std.proofs.lemmas.Result.{err_from_is_err_and, IfOk-weaker, IfErr-weaker}
 use Rattle.dev_traits.proofs.ToldLemmas.{WhereTold-weaker}
 use Rattle.frame_index.proofs.ToldLemmas.{WhereTold-always}
+use Rattle.corr_model.specs.Files.{Files}
 use Rattle.scan_list.specs.declared.scan.Scan.{Scan}
 use Rattle.job_text.specs.Job.{JobFields}
+use Rattle.job_plan.specs.declared.plan.Plan.{Plan}
+use Rattle.run_notes.specs.Refusals.{Outcomes}
 use Rattle.run_ready.specs.Steps.{Then}
 use Rattle.run_ready.specs.Outcome.{ScheduleOf, JobOf, Joins}
 use Rattle.run_ready.proofs.ToldLemmas.{WhereTold-moved}
@@ -11,14 +14,17 @@ use Rattle.run_ready.proofs.IdentityLemmas.{bytes_under-there}
 use Rattle.run_ready.proofs.StepLemmas.{IfErr-both, IsOfFiles-texts, CountsReads-texts, Told-first, Told-next, Told-done}
 use Rattle.run_ready.proofs.job.join_beside.Goals as goal
 
+-- what a job comes to behind the scans of its schedule
+abbrev behind : List ℕ → Option ℕ → Files → List Scan → Outcomes Plan
+behind job epoch files scans = Then (JobOf files job false) (λ (fields : JobFields). Joins (λ stations. None) fields epoch scans)
+
 pub returns-in_err-schedule-clause-cause : goal.returns-in_err-schedule-clause-cause
 returns-in_err-schedule-clause-cause g c =
     let told = g.F.Shelf.told in
     let p = err_from_is_err_and c.from_residual.result c.from_residual.ensures.1 in
     rw (p.1, p.2)
     (Told-first (told c.args.shelf.now) c.in_err-schedule.field-0.0
-    (λ files. ScheduleOf files c.args.vex.now)
-    (λ files (scans : List Scan). Then (JobOf files c.args.job.now false) (λ (fields : JobFields). Joins (λ stations. None) fields c.args.epoch scans))
+    (λ files. ScheduleOf files c.args.vex.now) (behind c.args.job.now c.args.epoch)
     c.in_err-schedule.ensures.stage c.in_err-schedule.ensures.cause)
 
 pub returns-in_err-read-clause-cause : goal.returns-in_err-read-clause-cause
@@ -27,8 +33,7 @@ returns-in_err-read-clause-cause g c =
     let p = err_from_is_err_and c.from_residual-in_err-read.result c.from_residual-in_err-read.ensures.1 in
     rw (p.1, p.2)
     (Told-next (told c.args.shelf.now) (told c.load_schedule.new.shelf) c.in_err-read.field-0.0
-    (λ files. ScheduleOf files c.args.vex.now)
-    (λ files (scans : List Scan). Then (JobOf files c.args.job.now false) (λ (fields : JobFields). Joins (λ stations. None) fields c.args.epoch scans))
+    (λ files. ScheduleOf files c.args.vex.now) (behind c.args.job.now c.args.epoch)
     c.in_ok-schedule.schedule.list.scans c.load_schedule.ensures.same c.in_err-read.ensures.stage c.in_ok-schedule.ensures.scans
     (Told-first (told c.load_schedule.new.shelf) c.in_err-read.field-0.0
     (λ files. JobOf files c.args.job.now false) (λ files (fields : JobFields). Joins (λ stations. None) fields c.args.epoch c.in_ok-schedule.schedule.list.scans)
@@ -39,8 +44,7 @@ returns-clause-plan g c =
     let told = g.F.Shelf.told in
     IfOk-weaker c.joins.result _ _
     (λ j is. Told-done (told c.args.shelf.now) (told c.load_schedule.new.shelf)
-    (λ files. ScheduleOf files c.args.vex.now)
-    (λ files (scans : List Scan). Then (JobOf files c.args.job.now false) (λ (fields : JobFields). Joins (λ stations. None) fields c.args.epoch scans))
+    (λ files. ScheduleOf files c.args.vex.now) (behind c.args.job.now c.args.epoch)
     c.in_ok-schedule.schedule.list.scans j.plan c.load_schedule.ensures.same c.in_ok-schedule.ensures.scans
     (Told-done (told c.load_schedule.new.shelf) (told c.load_job.new.shelf)
     (λ files. JobOf files c.args.job.now false) (λ files (fields : JobFields). Joins (λ stations. None) fields c.args.epoch c.in_ok-schedule.schedule.list.scans)
@@ -53,8 +57,7 @@ returns-clause-cause g c =
     let told = g.F.Shelf.told in
     IfErr-both c.joins.result _ _ _
     (λ r stage cause. Told-next (told c.args.shelf.now) (told c.load_schedule.new.shelf) r
-    (λ files. ScheduleOf files c.args.vex.now)
-    (λ files (scans : List Scan). Then (JobOf files c.args.job.now false) (λ (fields : JobFields). Joins (λ stations. None) fields c.args.epoch scans))
+    (λ files. ScheduleOf files c.args.vex.now) (behind c.args.job.now c.args.epoch)
     c.in_ok-schedule.schedule.list.scans c.load_schedule.ensures.same (IsOfFiles-texts r stage) c.in_ok-schedule.ensures.scans
     (Told-next (told c.load_schedule.new.shelf) (told c.load_job.new.shelf) r
     (λ files. JobOf files c.args.job.now false) (λ files (fields : JobFields). Joins (λ stations. None) fields c.args.epoch c.in_ok-schedule.schedule.list.scans)

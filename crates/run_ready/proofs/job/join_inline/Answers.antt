@@ -13,32 +13,29 @@ use Rattle.run_ready.proofs.job.join_inline.Goals as goal
 
 pub returns-in_err-read-clause-cause : goal.returns-in_err-read-clause-cause
 returns-in_err-read-clause-cause g c =
-    let told = g.F.Shelf.told in
     let p = err_from_is_err_and c.from_residual.result c.from_residual.ensures.1 in
     rw (p.1, p.2)
-    (Told-first (told c.args.shelf.now) c.in_err-read.field-0.0
+    (Told-first (g.F.Shelf.told c.args.shelf.now) c.in_err-read.field-0.0
     (λ files. JobOf files c.args.job.now true) (λ files fields. Joins (λ stations. None) fields c.args.epoch (scans_of fields))
     c.in_err-read.ensures.stage c.in_err-read.ensures.cause)
 
 pub returns-clause-plan : goal.returns-clause-plan
 returns-clause-plan g c =
-    let told = g.F.Shelf.told in
     IfOk-weaker c.joins.result _ _
-    (λ j is. Told-done (told c.args.shelf.now) (told c.load_job.new.shelf)
+    (λ j is. Told-done (g.F.Shelf.told c.args.shelf.now) (g.F.Shelf.told c.load_job.new.shelf)
     (λ files. JobOf files c.args.job.now true) (λ files fields. Joins (λ stations. None) fields c.args.epoch (scans_of fields))
     c.in_ok-read.read.job j.plan c.load_job.ensures.same c.in_ok-read.ensures.job
-    (WhereTold-always (told c.load_job.new.shelf) _
+    (WhereTold-always (g.F.Shelf.told c.load_job.new.shelf) _
     (λ files. subst (λ (scans : List Scan). Joins (λ stations. None) c.in_ok-read.read.job c.args.epoch scans (Ok j.plan)) c.in_ok-list.ensures is)))
     c.joins.ensures.plan
 
 pub returns-clause-cause : goal.returns-clause-cause
 returns-clause-cause g c =
-    let told = g.F.Shelf.told in
     IfErr-both c.joins.result _ _ _
-    (λ r stage cause. Told-next (told c.args.shelf.now) (told c.load_job.new.shelf) r
+    (λ r stage cause. Told-next (g.F.Shelf.told c.args.shelf.now) (g.F.Shelf.told c.load_job.new.shelf) r
     (λ files. JobOf files c.args.job.now true) (λ files fields. Joins (λ stations. None) fields c.args.epoch (scans_of fields))
     c.in_ok-read.read.job c.load_job.ensures.same (IsOfFiles-texts r stage) c.in_ok-read.ensures.job
-    (WhereTold-always (told c.load_job.new.shelf) _
+    (WhereTold-always (g.F.Shelf.told c.load_job.new.shelf) _
     (λ files. subst (λ (scans : List Scan). IsCause r (Joins (λ stations. None) c.in_ok-read.read.job c.args.epoch scans)) c.in_ok-list.ensures cause)))
     c.joins.ensures.stage c.joins.ensures.cause
 

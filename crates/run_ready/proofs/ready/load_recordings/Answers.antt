@@ -1,5 +1,5 @@
 use Rattle.std.proofs.Common.{◌≡◌, ◌∙◌, None, sym, ap, subst}
-use Rattle.std.proofs.lemmas.Result.{err_from_is_err_and, IfOk-weaker, IfErr-weaker}
+use Rattle.std.proofs.lemmas.Result.{err_from_is_err_and, IfOk-weaker}
 use Rattle.dev_traits.specs.Told.{WhereTold}
 use Rattle.dev_traits.proofs.ToldLemmas.{WhereTold-weaker}
 use Rattle.job_plan.specs.declared.plan.Plan.{Plan}
@@ -9,14 +9,13 @@ use Rattle.run_ready.specs.Due.{IsDue}
 use Rattle.run_ready.specs.Identities.{lengths_of}
 use Rattle.run_ready.specs.Recordings.{first_foreign, recordings_answer}
 use Rattle.run_ready.proofs.ToldLemmas.{WhereTold-moved, WhereTold-then}
-use Rattle.run_ready.proofs.StepLemmas.{IfOk-both}
+use Rattle.run_ready.proofs.StepLemmas.{IfOk-both, IfOk-moved, IfErr-then}
 use Rattle.run_ready.proofs.RecordingLemmas.{IsDue-files, IsDue-recordings, recordings_answer-none}
 use Rattle.run_ready.proofs.ready.load_recordings.Goals as goal
 
 pub index_survey-requires : goal.index_survey-requires
 index_survey-requires g c =
-    let told = g.F.Shelf.told in
-    WhereTold-moved (told c.survey_joined.new.shelf) (told c.args.shelf.now) _ (sym c.survey_joined.ensures.same) c.in_ok-survey.ensures.shelved
+    WhereTold-moved (g.F.Shelf.told c.survey_joined.new.shelf) (g.F.Shelf.told c.args.shelf.now) _ (sym c.survey_joined.ensures.same) c.in_ok-survey.ensures.shelved
 
 pub returns-in_err-survey-clause-due : goal.returns-in_err-survey-clause-due
 returns-in_err-survey-clause-due g c =
@@ -29,11 +28,7 @@ pub returns-clause-plan : goal.returns-clause-plan
 returns-clause-plan g c = IfOk-weaker c.index_survey.result _ _ (λ ready same. same ∙ c.in_ok-survey.ensures.plan) c.index_survey.ensures.plan
 
 pub returns-clause-recorded : goal.returns-clause-recorded
-returns-clause-recorded g c =
-    let told = g.F.Shelf.told in
-    IfOk-weaker c.index_survey.result _ _
-    (λ ready are. WhereTold-moved (told c.args.shelf.now) (told c.survey_joined.new.shelf) _ c.survey_joined.ensures.same are)
-    c.index_survey.ensures.recorded
+returns-clause-recorded g c = IfOk-moved c.index_survey.result _ c.survey_joined.ensures.same c.index_survey.ensures.recorded
 
 pub returns-clause-identity : goal.returns-clause-identity
 returns-clause-identity g c =
@@ -58,10 +53,7 @@ returns-clause-fit g c =
 
 pub returns-clause-due : goal.returns-clause-due
 returns-clause-due g c =
-    let told = g.F.Shelf.told in
-    IfErr-weaker c.index_survey.result _ _
-    (λ (r : Refusal) late. WhereTold-then (told c.args.shelf.now) (told c.survey_joined.new.shelf) _ _ _
-    (λ files fit due. IsDue-recordings files c.args.joined.plan.stations r fit
+    IfErr-then c.index_survey.result _ _ _
+    (λ (r : Refusal) files fit due. IsDue-recordings files c.args.joined.plan.stations r fit
     (subst (λ (p : Plan). IsDue r (first_foreign files p.stations)) c.in_ok-survey.ensures.plan due))
-    c.survey_joined.ensures.same c.in_ok-survey.ensures.fit late)
-    c.index_survey.ensures.due
+    c.survey_joined.ensures.same c.in_ok-survey.ensures.fit c.index_survey.ensures.due

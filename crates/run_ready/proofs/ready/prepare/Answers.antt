@@ -1,6 +1,6 @@
 use Rattle.std.proofs.Common.{◌≡◌, ◌∙◌, None, Ok, sym, ap, subst}
 use Rattle.std.specs.Prelude.{option_copied}
-use Rattle.std.proofs.lemmas.Result.{err_from_is_err_and, IfOk-weaker, IfErr-weaker}
+use Rattle.std.proofs.lemmas.Result.{err_from_is_err_and}
 use Rattle.dev_traits.specs.Told.{WhereTold}
 use Rattle.dev_traits.proofs.ToldLemmas.{WhereTold-weaker}
 use Rattle.job_plan.specs.declared.plan.Plan.{Plan}
@@ -8,7 +8,7 @@ use Rattle.run_ready.specs.Recordings.{first_foreign}
 use Rattle.run_ready.specs.Identities.{identity_under}
 use Rattle.run_ready.specs.Outcome.{PlanOf}
 use Rattle.run_ready.proofs.ToldLemmas.{WhereTold-moved, WhereTold-then}
-use Rattle.run_ready.proofs.StepLemmas.{IfOk-both}
+use Rattle.run_ready.proofs.StepLemmas.{IfOk-both, IfOk-moved, IfErr-then}
 use Rattle.run_ready.proofs.LaterLemmas.{PlanOf-plan, IsCause-surveyed, IsCause-foreign}
 use Rattle.run_ready.proofs.ready.prepare.Goals as goal
 
@@ -35,11 +35,7 @@ returns-clause-plan g c =
     c.index_survey.ensures.plan c.index_survey.ensures.agrees
 
 pub returns-clause-recorded : goal.returns-clause-recorded
-returns-clause-recorded g c =
-    let told = g.F.Shelf.told in
-    IfOk-weaker c.index_survey.result _ _
-    (λ ready are. WhereTold-moved (told c.args.shelf.now) (told c.survey.new.shelf) _ c.survey.ensures.same are)
-    c.index_survey.ensures.recorded
+returns-clause-recorded g c = IfOk-moved c.index_survey.result _ c.survey.ensures.same c.index_survey.ensures.recorded
 
 pub returns-clause-identity : goal.returns-clause-identity
 returns-clause-identity g c =
@@ -50,9 +46,6 @@ returns-clause-identity g c =
 
 pub returns-clause-cause : goal.returns-clause-cause
 returns-clause-cause g c =
-    let told = g.F.Shelf.told in
-    IfErr-weaker c.index_survey.result _ _
-    (λ r due. WhereTold-then (told c.args.shelf.now) (told c.survey.new.shelf) _ _ _
-    (λ files is late. IsCause-foreign files c.args.job.now (option_copied c.args.vex) c.args.epoch c.in_ok-survey.survey.plan r is late)
-    c.survey.ensures.same c.in_ok-survey.ensures.plan due)
-    c.index_survey.ensures.due
+    IfErr-then c.index_survey.result _ _ _
+    (λ r files is due. IsCause-foreign files c.args.job.now (option_copied c.args.vex) c.args.epoch c.in_ok-survey.survey.plan r is due)
+    c.survey.ensures.same c.in_ok-survey.ensures.plan c.index_survey.ensures.due

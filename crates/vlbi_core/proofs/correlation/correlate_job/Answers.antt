@@ -2,9 +2,7 @@ use Rattle.std.specs.Prelude.{option_copied}
 use Rattle.std.proofs.Common.{◌≡◌, inl, Result, Ok, Err, rules, refl, sym, subst, Option}
 use Rattle.dev_traits.specs.Told.{WhereTold}
 use Rattle.corr_model.specs.Files.{Files}
-use Rattle.piece_plan.specs.Epochs.{IsJob}
 use Rattle.job_plan.specs.Ranges.{IsPlan}
-use Rattle.journal_image.specs.Image.{IsIdentity}
 use Rattle.checkpoint_journal.proofs.RunLemmas.{looks_none}
 use Rattle.vis_writer.proofs.WritesLemmas.{where_then, where_always}
 use Rattle.run_words.specs.declared.order.Order.TheVariants.{Run}
@@ -64,14 +62,12 @@ pub returns-in_err-kept-clause-journal : goal.returns-in_err-kept-clause-journal
 returns-in_err-kept-clause-journal g c =
     let ready = c.in_ok-ready.ready in
     let failed : c.from_residual-in_err-kept.result ≡ Err c.in_err-kept.field-0.0 = search rules in
-    let named : IsIdentity ready.identity = search rules in
-    let is : IsJob ready.epochs = search rules in
     subst (λ (q : Result (Unit {0}) Refusal). CountsJournalOr (WhereTold (g.F.Shelf.told c.args.shelf.now) (λ files. IsFullFor (OutcomeFrom (Ok (Run c.args.job.now (option_copied c.args.vex) c.args.epoch c.args.workers c.args.piece)) files) files
     (g.D.Disk.seen c.args.journal.now) (g.D.Disk.seen c.resume.new.disk))) (g.D.Disk.faults c.args.journal.now) (g.D.Disk.faults c.resume.new.disk) q) (sym failed)
     (resumed-counts c.walks_end.ensures c.no_more_are_left_than_all.ensures (g.F.Shelf.told c.args.shelf.now) (Run c.args.job.now (option_copied c.args.vex) c.args.epoch c.args.workers c.args.piece)
     (run_call c.args.job.now (option_copied c.args.vex) c.args.epoch ready.plan) ready.identity ready.epochs ready.epoch
     (g.D.Disk.seen c.args.journal.now) (g.D.Disk.seen c.resume.new.disk) (g.D.Disk.faults c.args.journal.now) (g.D.Disk.faults c.resume.new.disk) c.in_err-kept.field-0.0
-    named is ready.some_epoch ready.short_epoch ready.few_epochs
+    (search rules) (search rules) ready.some_epoch ready.short_epoch ready.few_epochs
     (run-summer c.args.job.now (option_copied c.args.vex) c.args.epoch ready.plan (g.F.Shelf.told c.args.shelf.now) c.args.workers c.args.piece ready.identity ready.epochs ready.epoch
     c.in_ok-ready.ensures.plan c.in_ok-ready.ensures.identity ready.cut c.in_ok-ready.ensures.epoch)
     c.in_err-kept.ensures.refused c.in_err-kept.ensures.journal)

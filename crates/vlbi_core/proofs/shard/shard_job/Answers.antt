@@ -2,18 +2,15 @@ use Rattle.std.specs.Prelude.{option_copied}
 use Rattle.std.proofs.Common.{◌≡◌, Result, Ok, Err, rules, refl, sym, subst, Option}
 use Rattle.dev_traits.specs.Told.{WhereTold}
 use Rattle.corr_model.specs.Files.{Files}
-use Rattle.piece_plan.specs.Epochs.{IsJob}
 use Rattle.job_plan.specs.Ranges.{IsPlan}
-use Rattle.journal_image.specs.Image.{IsIdentity}
 use Rattle.checkpoint_journal.proofs.RunLemmas.{looks_none}
-use Rattle.vis_writer.proofs.WritesLemmas.{where_then, where_always}
+use Rattle.vis_writer.proofs.WritesLemmas.{where_always}
 use Rattle.run_words.specs.declared.order.Order.TheVariants.{Shard}
 use Rattle.run_notes.specs.declared.refusal.Refusal.{Refusal}
 use Rattle.vlbi_core.specs.Faults.{written_with}
 use Rattle.vlbi_core.specs.Steps.{OutcomeFrom, IsFullFor, CountsJournalOr, Does, Leaves}
 use Rattle.vlbi_core.proofs.CorrelationLemmas.{Resumed, Brought, does-resumed, resumed-leaves, does-brought, resumed-counts}
-use Rattle.vlbi_core.proofs.ShardLemmas.{shard_call, shard-summer, shard-text, line-refused, line-leaves}
-use Rattle.vlbi_core.proofs.KeepLemmas.{ranged-at}
+use Rattle.vlbi_core.proofs.ShardLemmas.{shard_call, shard-summer, shard-ranged, shard-text, line-refused, line-leaves}
 use Rattle.vlbi_core.proofs.shard.shard_job.Goals as goal
 
 pub returns-in_err-_kept-clause-does : goal.returns-in_err-_kept-clause-does
@@ -82,8 +79,6 @@ pub returns-in_err-_kept-clause-journal : goal.returns-in_err-_kept-clause-journ
 returns-in_err-_kept-clause-journal g c =
     let part = c.in_ok-part.part in
     let failed : c.from_residual-in_err-_kept.result ≡ Err c.in_err-_kept.field-0.0 = search rules in
-    let named : IsIdentity part.identity = search rules in
-    let is : IsJob part.plan = search rules in
     subst (λ (q : Result (Unit {0}) Refusal). CountsJournalOr (WhereTold (g.F.Shelf.told c.args.shelf.now)
     (λ files. IsFullFor (OutcomeFrom (Ok (Shard c.args.job.now (option_copied c.args.vex) c.args.epoch c.args.workers c.args.piece c.args.from c.args.to)) files) files
     (g.D.Disk.seen c.args.journal.now) (g.D.Disk.seen c.resume_part.new.disk))) (g.D.Disk.faults c.args.journal.now) (g.D.Disk.faults c.resume_part.new.disk) q) (sym failed)
@@ -91,7 +86,7 @@ returns-in_err-_kept-clause-journal g c =
     (Shard c.args.job.now (option_copied c.args.vex) c.args.epoch c.args.workers c.args.piece c.args.from c.args.to)
     (shard_call c.args.job.now (option_copied c.args.vex) c.args.epoch c.args.from c.args.to part.ready.plan) part.identity part.plan part.ready.epoch
     (g.D.Disk.seen c.args.journal.now) (g.D.Disk.seen c.resume_part.new.disk) (g.D.Disk.faults c.args.journal.now) (g.D.Disk.faults c.resume_part.new.disk) c.in_err-_kept.field-0.0
-    named is part.ready.some_epoch part.ready.short_epoch c.in_ok-part.ensures.few
+    (search rules) (search rules) part.ready.some_epoch part.ready.short_epoch c.in_ok-part.ensures.few
     (shard-summer c.args.job.now (option_copied c.args.vex) c.args.epoch c.args.from c.args.to part.ready.plan (g.F.Shelf.told c.args.shelf.now) c.args.workers c.args.piece
     part.identity part.ready.epochs part.plan part.ready.epoch
     c.in_ok-part.ensures.plan c.in_ok-part.ensures.identity c.in_ok-part.ensures.limited part.ready.cut c.in_ok-part.ensures.epoch)
@@ -99,18 +94,12 @@ returns-in_err-_kept-clause-journal g c =
 
 pub returns-in_err-_kept-clause-ranged : goal.returns-in_err-_kept-clause-ranged
 returns-in_err-_kept-clause-ranged g c =
-    let part = c.in_ok-part.part in
     let ranges : IsPlan c.in_ok-part.part.ready.plan = search rules in
-    ranged-at g.D.Disk.seen g.D.Disk.moment g.D.Disk.may_leave (g.F.Shelf.told c.args.shelf.now)
-    (Shard c.args.job.now (option_copied c.args.vex) c.args.epoch c.args.workers c.args.piece c.args.from c.args.to)
-    (shard_call c.args.job.now (option_copied c.args.vex) c.args.epoch c.args.from c.args.to part.ready.plan) c.args.journal.now c.resume_part.new.disk ranges part.ready.few
-    (where_then (g.F.Shelf.told c.args.shelf.now) _ _ (λ files there. (refl, there)) c.in_ok-part.ensures.plan)
+    shard-ranged c.args.job.now (option_copied c.args.vex) c.args.epoch c.args.from c.args.to c.in_ok-part.part.ready.plan g.D.Disk.seen g.D.Disk.moment g.D.Disk.may_leave
+    (g.F.Shelf.told c.args.shelf.now) c.args.workers c.args.piece c.args.journal.now c.resume_part.new.disk ranges c.in_ok-part.part.ready.few c.in_ok-part.ensures.plan
 
 pub returns-clause-ranged : goal.returns-clause-ranged
 returns-clause-ranged g c =
-    let part = c.in_ok-part.part in
     let ranges : IsPlan c.in_ok-part.part.ready.plan = search rules in
-    ranged-at g.D.Disk.seen g.D.Disk.moment g.D.Disk.may_leave (g.F.Shelf.told c.args.shelf.now)
-    (Shard c.args.job.now (option_copied c.args.vex) c.args.epoch c.args.workers c.args.piece c.args.from c.args.to)
-    (shard_call c.args.job.now (option_copied c.args.vex) c.args.epoch c.args.from c.args.to part.ready.plan) c.args.journal.now c.resume_part.new.disk ranges part.ready.few
-    (where_then (g.F.Shelf.told c.args.shelf.now) _ _ (λ files there. (refl, there)) c.in_ok-part.ensures.plan)
+    shard-ranged c.args.job.now (option_copied c.args.vex) c.args.epoch c.args.from c.args.to c.in_ok-part.part.ready.plan g.D.Disk.seen g.D.Disk.moment g.D.Disk.may_leave
+    (g.F.Shelf.told c.args.shelf.now) c.args.workers c.args.piece c.args.journal.now c.resume_part.new.disk ranges c.in_ok-part.part.ready.few c.in_ok-part.ensures.plan

@@ -2,6 +2,7 @@
 
 use crate::breaks::broken;
 use crate::pieces::{Marked, Pieces};
+use crate::table::Line;
 use anyhow::{Context, Result};
 use std::alloc::Global;
 
@@ -12,22 +13,21 @@ pub trait Answers {
 }
 
 /// The answer to a line: to what its first word asks of the text behind it, and behind `broken` that of the text broken too. None of a line
-/// that is blank or a comment, or has a piece, which is kept.
+/// that has a piece, which is kept.
 pub fn told<A: Answers>(
     alloc: Global,
     pieces: &mut Pieces,
-    line: &str,
+    line: Line<'_>,
     answers: &A,
 ) -> Result<Option<String>> {
-    if line.is_empty() || line.starts_with('#') || pieces.keep(alloc, line)? {
+    if pieces.keep(alloc, line.whole)? {
         return Ok(None);
     }
-    let (word, rest) = line.split_once(' ').unwrap_or((line, ""));
-    if word != "broken" {
-        let text = pieces.text(alloc, rest)?;
-        return Ok(Some(answers.answer(alloc, word, &text)?));
+    if line.word != "broken" {
+        let text = pieces.text(alloc, line.rest)?;
+        return Ok(Some(answers.answer(alloc, line.word, &text)?));
     }
-    let (word, rest) = rest.split_once(' ').context("a word behind broken")?;
+    let (word, rest) = line.rest.split_once(' ').context("a word behind broken")?;
     let text = pieces.text(alloc, rest)?;
     Ok(Some(broken(alloc, word, &text.bytes, answers)?))
 }

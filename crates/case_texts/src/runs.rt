@@ -99,26 +99,14 @@ fn put_difference(alloc: Global, out: &mut String, whole: &str, answer: &str) ->
 
 // How many words two texts begin with alike.
 fn alike_in_front(one: &str, other: &str) -> usize {
-    let mut count = 0usize;
-    for (a, b) in one.split(' ').zip(other.split(' ')) {
-        if a != b {
-            break;
-        }
-        count = count.saturating_add(1);
-    }
-    count
+    let pairs = one.split(' ').zip(other.split(' '));
+    pairs.take_while(|(a, b)| a == b).count()
 }
 
 // How many words two texts end with alike.
 fn alike_behind(one: &str, other: &str) -> usize {
-    let mut count = 0usize;
-    for (a, b) in one.rsplit(' ').zip(other.rsplit(' ')) {
-        if a != b {
-            break;
-        }
-        count = count.saturating_add(1);
-    }
-    count
+    let pairs = one.rsplit(' ').zip(other.rsplit(' '));
+    pairs.take_while(|(a, b)| a == b).count()
 }
 
 // The words from a place on, so many of them, each behind a blank.

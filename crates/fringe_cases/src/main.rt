@@ -3,11 +3,11 @@
 #![tactic(auto)]
 
 use anyhow::{Context, Result, bail};
+use case_texts::{Line, read_table};
 use fringe_search::{Grid, amplitude, check_certificate, write_certificate};
 use hex::decode;
 use mem_devices::MemSink;
 use std::alloc::Global;
-use std::io::{BufRead, BufReader};
 use vis_records::read_all;
 
 // The bytes of a record file, and the text of its last certificate.
@@ -22,25 +22,19 @@ fn main(rt: HostRuntime) -> Result<()> {
         file: Vec::new(rt.alloc()),
         text: Vec::new(rt.alloc()),
     };
-    for line in BufReader::new(rt.alloc(), rt.reader())?.lines(rt.alloc()) {
-        read_line(&rt, rt.alloc(), line?.as_str(), &mut case)?;
-    }
-    Ok(())
+    read_table(&rt, |line| read_line(&rt, rt.alloc(), line, &mut case))
 }
 
-fn read_line(rt: &impl Print, alloc: Global, line: &str, case: &mut Case) -> Result<()> {
-    if line.is_empty() || line.starts_with('#') {
-        return Ok(());
-    }
-    let (word, rest) = line.split_once(' ').unwrap_or((line, ""));
-    match word {
-        "file" => case.file = decode(alloc, rest)?,
-        "more" => case.file.extend_from_slice(&decode(alloc, rest)?)?,
-        "fringe" => print_certificate(rt, alloc, line, rest, case)?,
-        "line" => print_changed(rt, alloc, line, rest, case)?,
-        "cut" => print_cut(rt, alloc, line, rest, case)?,
-        "behind" => print_longer(rt, alloc, line, rest, case)?,
-        _ => bail!("no such line: {line}"),
+// Reads a line, and prints the answer where it asks.
+fn read_line(rt: &impl Print, alloc: Global, line: Line<'_>, case: &mut Case) -> Result<()> {
+    match line.word {
+        "file" => case.file = decode(alloc, line.rest)?,
+        "more" => case.file.extend_from_slice(&decode(alloc, line.rest)?)?,
+        "fringe" => print_certificate(rt, alloc, line, case)?,
+        "line" => print_changed(rt, alloc, line, case)?,
+        "cut" => print_cut(rt, alloc, line, case)?,
+        "behind" => print_longer(rt, alloc, line, case)?,
+        _ => bail!("no such line"),
     }
     Ok(())
 }
@@ -49,14 +43,13 @@ fn read_line(rt: &impl Print, alloc: Global, line: &str, case: &mut Case) -> Res
 fn print_certificate(
     rt: &impl Print,
     alloc: Global,
-    line: &str,
-    rest: &str,
+    line: Line<'_>,
     case: &mut Case,
 ) -> Result<()> {
-    let grid = read_grid(rest)?;
+    let grid = read_grid(line.rest)?;
     let vis = read_all(alloc, &case.file)?;
     if let Some(amplitude) = amplitude(&vis) {
-        println!(rt; "{line}: amplitude {amplitude}")?;
+        println!(rt; "{}: amplitude {amplitude}", line.whole)?;
         return Ok(());
     }
     let mut sink = MemSink::new(alloc, 100, Vec::new(alloc));
@@ -77,27 +70,27 @@ fn read_grid(words: &str) -> Result<Grid> {
 }
 
 // What the check answers to a text.
-fn print_check(rt: &impl Print, alloc: Global, line: &str, file: &[u8], text: &[u8]) -> Result<()> {
+fn print_check(
+    rt: &impl Print,
+    alloc: Global,
+    line: Line<'_>,
+    file: &[u8],
+    text: &[u8],
+) -> Result<()> {
     let vis = read_all(alloc, file)?;
     let None = amplitude(&vis) else {
         bail!("an amplitude is too large");
     };
     match check_certificate(&vis, text) {
-        Ok(()) => println!(rt; "{line}: right")?,
-        Err(wrong) => println!(rt; "{line}: {wrong}")?,
+        Ok(()) => println!(rt; "{}: right", line.whole)?,
+        Err(wrong) => println!(rt; "{}: {wrong}", line.whole)?,
     }
     Ok(())
 }
 
 // The answer where a line of the certificate is another one.
-fn print_changed(
-    rt: &impl Print,
-    alloc: Global,
-    line: &str,
-    rest: &str,
-    case: &Case,
-) -> Result<()> {
-    let (number, other) = rest.split_once(' ').context("a number and a line")?;
+fn print_changed(rt: &impl Print, alloc: Global, line: Line<'_>, case: &Case) -> Result<()> {
+    let (number, other) = line.rest.split_once(' ').context("a number and a line")?;
     let number = number.parse::<usize>()?;
     let mut text = Vec::new(alloc);
     for (i, own) in str::from_utf8(&case.text)?.lines().enumerate() {
@@ -109,17 +102,17 @@ fn print_changed(
 }
 
 // The answer to the first bytes of the certificate.
-fn print_cut(rt: &impl Print, alloc: Global, line: &str, rest: &str, case: &Case) -> Result<()> {
+fn print_cut(rt: &impl Print, alloc: Global, line: Line<'_>, case: &Case) -> Result<()> {
     let front = case
         .text
-        .get(..rest.parse::<usize>()?)
+        .get(..line.rest.parse::<usize>()?)
         .context("no such front")?;
     print_check(rt, alloc, line, &case.file, front)
 }
 
 // The answer to the certificate with a text behind it.
-fn print_longer(rt: &impl Print, alloc: Global, line: &str, rest: &str, case: &Case) -> Result<()> {
+fn print_longer(rt: &impl Print, alloc: Global, line: Line<'_>, case: &Case) -> Result<()> {
     let mut text = case.text.as_slice().to_vec(alloc)?;
-    text.extend_from_slice(rest.as_bytes())?;
+    text.extend_from_slice(line.rest.as_bytes())?;
     print_check(rt, alloc, line, &case.file, &text)
 }

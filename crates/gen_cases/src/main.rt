@@ -3,38 +3,33 @@
 #![tactic(auto)]
 
 use anyhow::{Context, Result, bail, ensure};
+use case_texts::{Line, read_table};
 use gen_summary::write_totals;
 use hex::{decode, encode};
 use md5::{Digest, Md5};
 use mem_devices::MemSink;
 use sample_gen::{generate, job_text};
 use std::alloc::Global;
-use std::io::{BufRead, BufReader};
 use std::str;
 use vis_records::{SinkFault, read_all};
 
 fn main(rt: HostRuntime) -> Result<()> {
     let mut text = Vec::new(rt.alloc());
-    for line in BufReader::new(rt.alloc(), rt.reader())?.lines(rt.alloc()) {
-        read_line(&rt, rt.alloc(), line?.as_str(), &mut text)?;
-    }
-    Ok(())
+    read_table(&rt, |line| read_line(&rt, rt.alloc(), line, &mut text))
 }
 
-fn read_line(rt: &impl Print, alloc: Global, line: &str, text: &mut Vec<u8>) -> Result<()> {
-    if line.is_empty() || line.starts_with('#') {
-        return Ok(());
-    }
-    println!(rt; "{line}")?;
-    let (word, rest) = line.split_once(' ').unwrap_or((line, ""));
-    match word {
+// Prints a line, and below it what it asks.
+fn read_line(rt: &impl Print, alloc: Global, line: Line<'_>, text: &mut Vec<u8>) -> Result<()> {
+    println!(rt; "{}", line.whole)?;
+    let rest = line.rest;
+    match line.word {
         "recording" => *text = recording(rt, alloc, rest)?,
         "bytes" => print_bytes(rt, alloc, rest, text)?,
         "job" => *text = job(alloc, rest.parse::<u32>()?)?,
         "lines" => print!(rt; "{}", str::from_utf8(text)?)?,
         "text" => *text = decode(alloc, rest)?,
         "totals" => *text = totals(rt, alloc, text, rest.parse::<u64>()?)?,
-        _ => bail!("no such line: {line}"),
+        _ => bail!("no such line"),
     }
     Ok(())
 }

@@ -11,28 +11,16 @@ mod short;
 mod sizes;
 
 use crate::cases::Cases;
-use anyhow::{Result, bail};
-use std::io::{BufRead, BufReader};
+use anyhow::Result;
+use case_texts::read_table;
 
 fn main(rt: HostRuntime) -> Result<()> {
     let mut cases = Cases::new(rt.alloc());
-    let mut number = 0u64;
-    for line in BufReader::new(rt.alloc(), rt.reader())?.lines(rt.alloc()) {
-        number = number.saturating_add(1);
-        let line = line?;
-        let line = line.as_str();
-        if line.is_empty() || line.starts_with('#') {
-            continue;
-        }
-        let (word, rest) = line.split_once(' ').unwrap_or((line, ""));
-        let read = if word == "disk" {
-            cases.index_on_disk(&rt, rest)
+    read_table(&rt, |line| {
+        if line.word == "disk" {
+            cases.index_on_disk(&rt, line.rest)
         } else {
-            cases.read(&rt, word, rest)
-        };
-        if let Err(fault) = read {
-            bail!("line {number}: {fault}");
+            cases.read(&rt, line.word, line.rest)
         }
-    }
-    Ok(())
+    })
 }

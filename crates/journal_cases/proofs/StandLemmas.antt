@@ -11,6 +11,7 @@ use Rattle.plan_places.specs.Places.{place_at, IsPlace}
 use Rattle.plan_places.specs.Walk.{cut_at, cut_in}
 use Rattle.piece_plan.specs.declared.job.ScanSize.{ScanSize}
 use Rattle.checkpoint_journal.specs.Standing.{JournalState, Stands, StandsAtRest}
+use Rattle.checkpoint_journal.proofs.GateLemmas.{stands_moved}
 use Rattle.journal_cases.specs.Standing.{StandsIn}
 
 -- for this identity, and so for some
@@ -43,33 +44,5 @@ pub stands_again : (job : JobSizes) (i j : JournalState) (disk : MemDisk)
     → ((id : List ℕ) (job : JobSizes) (seen : Option (List ℕ)) → StandsAtRest id job i seen → StandsAtRest id job j seen)
     → StandsIn job i disk → StandsIn job j disk
 stands_again job i j disk keeps stands =
-    let old = stands.1 in
-    let rest : StandsAtRest stands.0 job i (Some (state_of disk).seen) = record {
-      sound = old.sound;
-      named = old.named;
-      plan = old.plan;
-      first = old.first;
-      version = old.version;
-      places = old.places;
-      turned = old.turned;
-      within = old.within;
-      before = old.before;
-      image = old.image;
-      durable = λ image is. is;
-    } in
-    let new = keeps stands.0 job (Some (state_of disk).seen) rest in (
-      stands.0,
-      record {
-        sound = new.sound;
-        named = new.named;
-        plan = new.plan;
-        first = new.first;
-        version = new.version;
-        places = new.places;
-        turned = new.turned;
-        within = new.within;
-        before = new.before;
-        image = new.image;
-        durable = old.durable;
-      },
-    )
+    let seen = Some (state_of disk).seen in
+    (stands.0, stands_moved stands.0 job i j seen (images_of disk (moment_of disk)) (keeps stands.0 job seen) stands.1)

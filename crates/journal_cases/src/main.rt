@@ -16,23 +16,10 @@ mod table;
 mod texts;
 
 use crate::cases::Cases;
-use anyhow::{Result, bail};
-use std::io::{BufRead, BufReader};
+use anyhow::Result;
+use case_texts::read_table;
 
 fn main(rt: HostRuntime) -> Result<()> {
     let mut cases = Cases::new(rt.alloc());
-    let mut number = 0u64;
-    for line in BufReader::new(rt.alloc(), rt.reader())?.lines(rt.alloc()) {
-        number = number.saturating_add(1);
-        let line = line?;
-        let line = line.as_str();
-        if line.is_empty() || line.starts_with('#') {
-            continue;
-        }
-        let (word, rest) = line.split_once(' ').unwrap_or((line, ""));
-        if let Err(fault) = cases.read(&rt, word, rest) {
-            bail!("line {number}: {fault}");
-        }
-    }
-    Ok(())
+    read_table(&rt, |line| cases.read(&rt, line.word, line.rest))
 }

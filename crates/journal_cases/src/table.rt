@@ -15,6 +15,13 @@ const MOST_CALLS: u64 = 1_000;
 // What the bytes are that a crash may change.
 const FILLS: [u8; 3] = [0, 1, 7];
 
+// What a call of a disk does: it stops the disk, or it fails.
+#[derive(Clone, Copy)]
+enum Trouble {
+    Stop,
+    Fail,
+}
+
 /// Runs on a file that a disk stops or fails: the job, the file, the samples of an epoch, and those of an epoch that is appended
 /// afterwards.
 #[derive(Clone, Copy)]
@@ -33,8 +40,7 @@ impl Runs<'_> {
         println!(rt; "stops {}, then {}", self.samples, self.other)?;
         let mut last = String::new(self.alloc);
         for stop in 0..MOST_CALLS {
-            let mut disk = stopped_disk(self.alloc, self.file, stop)?;
-            let brought = self.bring(&mut disk)?;
+            let (brought, _) = self.brought(Trouble::Stop, stop)?;
             let words = self.stop_words(stop, brought)?;
             if words != last {
                 print!(rt; "{words}")?;
@@ -53,8 +59,7 @@ impl Runs<'_> {
         println!(rt; "fails {}, then {}", self.samples, self.other)?;
         let mut last = String::new(self.alloc);
         for call in 0..MOST_CALLS {
-            let mut disk = failing_disk(self.alloc, self.file, call)?;
-            let brought = self.bring(&mut disk)?;
+            let (brought, disk) = self.brought(Trouble::Fail, call)?;
             if brought.is_done() {
                 println!(rt; "  {}", brought_words(self.alloc, brought)?)?;
                 return Ok(());
@@ -68,21 +73,36 @@ impl Runs<'_> {
         bail!("too many calls")
     }
 
-    fn bring(&self, disk: &mut MemDisk) -> Result<Brought> {
-        self.job.bring(self.alloc, disk, self.samples, MOST_EPOCHS)
+    // How the journal is brought on with this trouble at a call of the disk, and the disk after it.
+    fn brought(&self, trouble: Trouble, call: u64) -> Result<(Brought, MemDisk)> {
+        let mut disk = match trouble {
+            Trouble::Stop => stopped_disk(self.alloc, self.file, call)?,
+            Trouble::Fail => failing_disk(self.alloc, self.file, call)?,
+        };
+        let brought = self
+            .job
+            .bring(self.alloc, &mut disk, self.samples, MOST_EPOCHS)?;
+        Ok((brought, disk))
+    }
+
+    // The six images that a crash may leave behind it.
+    fn images(&self, trouble: Trouble, call: u64) -> Result<Vec<MemDisk>> {
+        let mut images = Vec::new(self.alloc);
+        for fill in FILLS {
+            for long in [false, true] {
+                let (_, disk) = self.brought(trouble, call)?;
+                images.push(disk.crash(self.alloc, fill, long)?)?;
+            }
+        }
+        Ok(images)
     }
 
     // How the journal was brought on with the disk stopped, and what it is in each image.
     fn stop_words(&self, stop: u64, brought: Brought) -> Result<String> {
         let mut words = format!(in self.alloc; "  {}\n", brought_words(self.alloc, brought)?)?;
         let mut answers = Vec::new(self.alloc);
-        for fill in FILLS {
-            for long in [false, true] {
-                let mut disk = stopped_disk(self.alloc, self.file, stop)?;
-                self.bring(&mut disk)?;
-                let image = disk.crash(self.alloc, fill, long)?;
-                answers.push(self.again(image)?)?;
-            }
+        for image in self.images(Trouble::Stop, stop)? {
+            answers.push(self.again(image)?)?;
         }
         write_images(&mut words, &answers)?;
         Ok(words)
@@ -92,13 +112,8 @@ impl Runs<'_> {
     fn fail_words(&self, call: u64, brought: Brought, disk: MemDisk) -> Result<String> {
         let mut words = format!(in self.alloc; "  {}\n", brought_words(self.alloc, brought)?)?;
         let mut answers = Vec::new(self.alloc);
-        for fill in FILLS {
-            for long in [false, true] {
-                let mut disk = failing_disk(self.alloc, self.file, call)?;
-                self.bring(&mut disk)?;
-                let mut image = disk.crash(self.alloc, fill, long)?;
-                answers.push(look_words(self.alloc, self.job, &mut image)?)?;
-            }
+        for mut image in self.images(Trouble::Fail, call)? {
+            answers.push(look_words(self.alloc, self.job, &mut image)?)?;
         }
         write_images(&mut words, &answers)?;
         writeln!(words, "    the same disk: {}", self.again(disk)?)?;

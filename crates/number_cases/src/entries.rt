@@ -1,5 +1,5 @@
 //! The entries of a station, and the delays by them.
-ghost use Rattle.std.specs.Prelude.{◌≡◌, ◌≤◌, IfOk, IfSome};
+ghost use Rattle.std.specs.Prelude.{◌≡◌, ◌<◌, ◌≤◌, IfOk, OnOk, IfSome};
 
 use crate::text::numbers;
 use anyhow::{Context, Result, bail};
@@ -101,14 +101,7 @@ impl Entries {
 
     // Whether the scan has a model, and whether it has a clock too.
     fn print_has(&self, rt: &impl Print) -> Result<()> {
-        let model = model(
-            &self.polys,
-            &self.clocks,
-            self.rate,
-            self.knot,
-            self.samples,
-        )
-        .context("out of range")?;
+        let model = self.model(&self.clocks).context("out of range")?;
         if !model.has_model() {
             println!(rt; "no model")?;
         } else if !model.has_clock() {
@@ -121,17 +114,8 @@ impl Entries {
 
     // The delay at a sample, and its whole samples.
     fn print_delay(&self, rt: &impl Print, n: u64) -> Result<()> {
-        let track = track(
-            &self.polys,
-            &self.clocks,
-            self.rate,
-            self.knot,
-            self.samples,
-        )
-        .context("no model or no clock")?;
-        if n >= self.samples {
-            bail!("no such sample");
-        }
+        let track = self.track(&self.clocks).context("no track")?;
+        self.check_sample(n)?;
         println!(rt; "{} {}", track.delay(n), track.whole(n))?;
         Ok(())
     }
@@ -141,18 +125,8 @@ impl Entries {
         let [from, to] = values else {
             bail!("from and to");
         };
-        let (from, to) = (u64::try_from(*from)?, u64::try_from(*to)?);
-        let track = track(
-            &self.polys,
-            &self.clocks,
-            self.rate,
-            self.knot,
-            self.samples,
-        )
-        .context("no model or no clock")?;
-        if from > to || to > self.samples {
-            bail!("no such samples");
-        }
+        let (from, to) = self.samples(*from, *to)?;
+        let track = self.track(&self.clocks).context("no track")?;
         for run in track.runs(from, to) {
             print!(rt; "{} to {} of {}, ", run.from, run.to, run.whole)?;
         }
@@ -166,18 +140,11 @@ impl Entries {
             bail!("frequency, from and to");
         };
         let hertz = u64::try_from(*hertz)?;
-        let (from, to) = (u64::try_from(*from)?, u64::try_from(*to)?);
-        let track = track(
-            &self.polys,
-            &self.clocks,
-            self.rate,
-            self.knot,
-            self.samples,
-        )
-        .context("no model or no clock")?;
-        if hertz >= 1 << 40 || from > to || to > self.samples {
-            bail!("no such frequency or samples");
+        if hertz >= 1 << 40 {
+            bail!("no such frequency");
         }
+        let (from, to) = self.samples(*from, *to)?;
+        let track = self.track(&self.clocks).context("no track")?;
         for turn in turns_of(&track, hertz, upper, from, to) {
             print!(rt; "{} to {} of {}, ", turn.from, turn.to, turn.direction)?;
         }
@@ -192,12 +159,8 @@ impl Entries {
         };
         let (count, n) = (bin_count(*count)?, u64::try_from(*n)?);
         let clocks = ClockList::new(alloc);
-        let track = track(&self.polys, &clocks, self.rate, self.knot, self.samples).context(
-            "no phase",
-        )?;
-        if n >= self.samples {
-            bail!("no such sample");
-        }
+        let track = self.track(&clocks).context("no phase")?;
+        self.check_sample(n)?;
         println!(rt; "{}", bin(&track, count, n))?;
         Ok(())
     }
@@ -208,19 +171,76 @@ impl Entries {
             bail!("the number of bins, from and to");
         };
         let count = bin_count(*count)?;
-        let (from, to) = (u64::try_from(*from)?, u64::try_from(*to)?);
+        let (from, to) = self.samples(*from, *to)?;
         let clocks = ClockList::new(alloc);
-        let track = track(&self.polys, &clocks, self.rate, self.knot, self.samples).context(
-            "no phase",
-        )?;
-        if from > to || to > self.samples {
-            bail!("no such samples");
-        }
+        let track = self.track(&clocks).context("no phase")?;
         for run in bin_runs(&track, count, from, to) {
             print!(rt; "{} to {} of {}, ", run.from, run.to, run.bin)?;
         }
         println!(rt; "end")?;
         Ok(())
+    }
+
+    // Whether the scan has a sample.
+    fn check_sample(&self, n: u64) -> Result<()>
+        ensures { OnOk result (n < self.now.samples) }
+    {
+        if n >= self.samples {
+            bail!("no such sample");
+        }
+        Ok(())
+    }
+
+    // Samples of the scan, from one to another.
+    fn samples(&self, from: i64, to: i64) -> Result<(u64, u64)>
+        ensures { IfOk result (λ r. (r.0 ≤ r.1) × (r.1 ≤ self.now.samples)) }
+    {
+        let (from, to) = (u64::try_from(from)?, u64::try_from(to)?);
+        if from > to || to > self.samples {
+            bail!("no such samples");
+        }
+        Ok((from, to))
+    }
+
+    // The model of these polynomials and clocks in a scan from `START` on, None where something is out of its range.
+    fn model<'a>(&'a self, clocks: &'a ClockList) -> Option<StationModel<'a>>
+        ensures { IfSome result (λ m. m.samples ≡ self.now.samples) }
+    {
+        let in_years = |second: i64| 0 <= second && second < 4_102_444_800;
+        let polys_fit = self.polys.entries().iter().all(|e| in_years(e.second));
+        let clocks_fit = clocks.entries().iter().all(|c| {
+            in_years(c.second) && c.c0.unsigned_abs() < 1 << 57 && c.c1.unsigned_abs() < 1 << 25
+        });
+        if polys_fit
+            && clocks_fit
+            && self.rate > 0
+            && 1 <= self.knot
+            && self.knot <= 1 << 24
+            && self.samples <= 1 << 40
+            && self.samples <= (1 << 27) * u64::from(self.rate)
+        {
+            Some(StationModel {
+                polys: &self.polys,
+                clocks,
+                second: START,
+                rate: self.rate,
+                knot: self.knot,
+                samples: self.samples,
+            })
+        } else {
+            None
+        }
+    }
+
+    // The track of these polynomials and clocks, None where it has no model or no clock.
+    fn track<'a>(&'a self, clocks: &'a ClockList) -> Option<Track<'a>>
+        ensures { IfSome result (λ t. t.samples ≡ self.now.samples) }
+    {
+        let model = self.model(clocks)?;
+        if !model.has_model() || !model.has_clock() {
+            return None;
+        }
+        Some(model.track())
     }
 }
 
@@ -233,59 +253,6 @@ fn bin_count(count: i64) -> Result<u32>
     } else {
         bail!("no such number of bins")
     }
-}
-
-// The model of these entries in a scan from `START` on, None where something is out of its range.
-fn model<'a>(
-    polys: &'a PolyList,
-    clocks: &'a ClockList,
-    rate: u32,
-    knot: u32,
-    samples: u64,
-) -> Option<StationModel<'a>>
-    ensures samples { IfSome result (λ m. m.samples ≡ samples) }
-{
-    let in_years = |second: i64| 0 <= second && second < 4_102_444_800;
-    let polys_fit = polys.entries().iter().all(|e| in_years(e.second));
-    let clocks_fit = clocks.entries().iter().all(|c| {
-        in_years(c.second) && c.c0.unsigned_abs() < 1 << 57 && c.c1.unsigned_abs() < 1 << 25
-    });
-    if polys_fit
-        && clocks_fit
-        && rate > 0
-        && 1 <= knot
-        && knot <= 1 << 24
-        && samples <= 1 << 40
-        && samples <= (1 << 27) * u64::from(rate)
-    {
-        Some(StationModel {
-            polys,
-            clocks,
-            second: START,
-            rate,
-            knot,
-            samples,
-        })
-    } else {
-        None
-    }
-}
-
-// The track of these entries, None where it has no model or no clock.
-fn track<'a>(
-    polys: &'a PolyList,
-    clocks: &'a ClockList,
-    rate: u32,
-    knot: u32,
-    samples: u64,
-) -> Option<Track<'a>>
-    ensures samples { IfSome result (λ t. t.samples ≡ samples) }
-{
-    let model = model(polys, clocks, rate, knot, samples)?;
-    if !model.has_model() || !model.has_clock() {
-        return None;
-    }
-    Some(model.track())
 }
 
 // A polynomial's second, and its values at the first knot and at the last.

@@ -7,40 +7,34 @@ mod broken;
 use crate::broken::BrokenFile;
 use anyhow::{Context, Result, bail};
 use broken_texts::print_broken;
+use case_texts::{Line, read_table};
 use hex::{decode, encode};
 use mem_devices::MemSink;
 use std::alloc::Global;
-use std::io::{BufRead, BufReader};
 use vis_records::{Vis, dump, read_all};
 
 fn main(rt: HostRuntime) -> Result<()> {
     let mut text = Vec::new(rt.alloc());
-    for line in BufReader::new(rt.alloc(), rt.reader())?.lines(rt.alloc()) {
-        read_line(&rt, rt.alloc(), line?.as_str(), &mut text)?;
-    }
-    Ok(())
+    read_table(&rt, |line| read_line(&rt, rt.alloc(), line, &mut text))
 }
 
-fn read_line(rt: &impl Print, alloc: Global, line: &str, text: &mut Vec<u8>) -> Result<()> {
-    if line.is_empty() || line.starts_with('#') {
-        return Ok(());
-    }
-    let (word, rest) = line.split_once(' ').unwrap_or((line, ""));
-    match word {
-        "text" => *text = decode(alloc, rest)?,
-        "more" => text.extend_from_slice(&decode(alloc, rest)?)?,
+// Reads a line, and prints the answer where it asks.
+fn read_line(rt: &impl Print, alloc: Global, line: Line<'_>, text: &mut Vec<u8>) -> Result<()> {
+    match line.word {
+        "text" => *text = decode(alloc, line.rest)?,
+        "more" => text.extend_from_slice(&decode(alloc, line.rest)?)?,
         "whole" => print_answer(rt, alloc, line, text)?,
         "dump" => print_lines(rt, alloc, line, text)?,
-        "byte" => print_changed(rt, alloc, line, rest, text)?,
-        "broken" => print_breaks(rt, alloc, rest)?,
-        _ => bail!("no such line: {line}"),
+        "byte" => print_changed(rt, alloc, line, text)?,
+        "broken" => print_breaks(rt, alloc, line.rest)?,
+        _ => bail!("no such line"),
     }
     Ok(())
 }
 
 // What a text is read to, or the fault.
-fn print_answer(rt: &impl Print, alloc: Global, line: &str, text: &[u8]) -> Result<()> {
-    print!(rt; "{line}: ")?;
+fn print_answer(rt: &impl Print, alloc: Global, line: Line<'_>, text: &[u8]) -> Result<()> {
+    print!(rt; "{}: ", line.whole)?;
     match read_all(alloc, text) {
         Ok(vis) => print_file(rt, &vis),
         Err(fault) => {
@@ -73,17 +67,17 @@ fn print_file(rt: &impl Print, vis: &Vis) -> Result<()> {
 }
 
 // The lines that show the text, or the fault; in hexadecimal digits where they are no UTF-8.
-fn print_lines(rt: &impl Print, alloc: Global, line: &str, text: &[u8]) -> Result<()> {
+fn print_lines(rt: &impl Print, alloc: Global, line: Line<'_>, text: &[u8]) -> Result<()> {
     let vis = match read_all(alloc, text) {
         Ok(vis) => vis,
         Err(fault) => {
-            println!(rt; "{line}: {fault}")?;
+            println!(rt; "{}: {fault}", line.whole)?;
             return Ok(());
         }
     };
     let mut sink = MemSink::new(alloc, 100, Vec::new(alloc));
     dump(&vis, &mut sink)?;
-    println!(rt; "{line}:")?;
+    println!(rt; "{}:", line.whole)?;
     match str::from_utf8(sink.bytes()) {
         Ok(lines) => print!(rt; "{lines}")?,
         Err(_) => println!(rt; "{}", encode(alloc, sink.bytes())?)?,
@@ -92,14 +86,8 @@ fn print_lines(rt: &impl Print, alloc: Global, line: &str, text: &[u8]) -> Resul
 }
 
 // The answer to the text with another byte at a place.
-fn print_changed(
-    rt: &impl Print,
-    alloc: Global,
-    line: &str,
-    rest: &str,
-    text: &[u8],
-) -> Result<()> {
-    let (place, byte) = rest.split_once(' ').context("a place and a byte")?;
+fn print_changed(rt: &impl Print, alloc: Global, line: Line<'_>, text: &[u8]) -> Result<()> {
+    let (place, byte) = line.rest.split_once(' ').context("a place and a byte")?;
     let mut changed = text.to_vec(alloc)?;
     let there = changed
         .get_mut(place.parse::<usize>()?)

@@ -7,6 +7,7 @@ use crate::scans::put_scans;
 use anyhow::{Result, bail};
 use case_texts::{Answers, Marked, put_text};
 use std::alloc::{AllocError, Global};
+use std::fmt::Debug;
 use vex_lex::{Token, tokens};
 use vex_reader::read;
 use vex_schedule::schedule;
@@ -17,24 +18,42 @@ pub struct Schedules;
 
 impl Answers for Schedules {
     fn answer(&self, alloc: Global, word: &str, text: &Marked) -> Result<String> {
+        let mut out = String::new(alloc);
         match word {
-            "tokens" => told_tokens(alloc, text),
-            "texts" => told_texts(alloc, text),
-            "read" => told_file(alloc, text),
-            "places" => told_places(alloc, text),
-            "schedule" => told_schedule(alloc, text),
+            "tokens" => match tokens(alloc, &text.bytes) {
+                Ok(tokens) => put_tokens(alloc, &mut out, &tokens)?,
+                Err(fault) => put_fault(alloc, &mut out, fault.kind, fault.at, text)?,
+            },
+            "texts" => {
+                let tokens = tokens(alloc, &text.bytes)?;
+                put_texts(alloc, &mut out, &text.bytes, &tokens)?;
+            }
+            "read" => match read(alloc, &text.bytes) {
+                Ok(file) => put_file(alloc, &mut out, &file)?,
+                Err(fault) => put_fault(alloc, &mut out, fault.kind, fault.at, text)?,
+            },
+            "places" => put_places(alloc, &mut out, &read(alloc, &text.bytes)?)?,
+            "schedule" => put_schedule(alloc, &mut out, text)?,
             _ => bail!("no such line"),
         }
+        Ok(out)
     }
 }
 
 // The kind of a fault and its place: the marked one, or its byte.
-fn told_fault(alloc: Global, kind: String, at: u64, text: &Marked) -> Result<String> {
-    if text.mark == Some(at) {
-        Ok(format!(in alloc; "{kind} at @")?)
+fn put_fault(
+    alloc: Global,
+    out: &mut String,
+    kind: impl Debug + Drop,
+    at: u64,
+    text: &Marked,
+) -> Result<(), AllocError> {
+    let told = if text.mark == Some(at) {
+        format!(in alloc; "{kind:?} at @")?
     } else {
-        Ok(format!(in alloc; "{kind} at byte {at}")?)
-    }
+        format!(in alloc; "{kind:?} at byte {at}")?
+    };
+    out.push_str(told.as_str())
 }
 
 fn put_tokens(alloc: Global, out: &mut String, tokens: &[Token]) -> Result<(), AllocError> {
@@ -43,24 +62,6 @@ fn put_tokens(alloc: Global, out: &mut String, tokens: &[Token]) -> Result<(), A
         out.push_str(format!(in alloc; "{kind:?} {at} {len}, ")?.as_str())?;
     }
     Ok(())
-}
-
-fn told_tokens(alloc: Global, text: &Marked) -> Result<String> {
-    match tokens(alloc, &text.bytes) {
-        Ok(tokens) => {
-            let mut out = String::new(alloc);
-            put_tokens(alloc, &mut out, &tokens)?;
-            Ok(out)
-        }
-        Err(fault) => {
-            told_fault(
-                alloc,
-                format!(in alloc; "{:?}", fault.kind)?,
-                fault.at,
-                text,
-            )
-        }
-    }
 }
 
 // The texts of some tokens, each in brackets.
@@ -80,59 +81,13 @@ fn put_texts(
     Ok(())
 }
 
-fn told_texts(alloc: Global, text: &Marked) -> Result<String> {
-    let tokens = tokens(alloc, &text.bytes)?;
-    let mut out = String::new(alloc);
-    put_texts(alloc, &mut out, &text.bytes, &tokens)?;
-    Ok(out)
-}
-
-fn told_file(alloc: Global, text: &Marked) -> Result<String> {
-    match read(alloc, &text.bytes) {
-        Ok(file) => {
-            let mut out = String::new(alloc);
-            put_file(alloc, &mut out, &file)?;
-            Ok(out)
-        }
-        Err(fault) => {
-            told_fault(
-                alloc,
-                format!(in alloc; "{:?}", fault.kind)?,
-                fault.at,
-                text,
-            )
-        }
-    }
-}
-
-fn told_places(alloc: Global, text: &Marked) -> Result<String> {
-    let file = read(alloc, &text.bytes)?;
-    let mut out = String::new(alloc);
-    put_places(alloc, &mut out, &file)?;
-    Ok(out)
-}
-
-fn told_schedule(alloc: Global, text: &Marked) -> Result<String> {
+fn put_schedule(alloc: Global, out: &mut String, text: &Marked) -> Result<(), AllocError> {
     let file = match read(alloc, &text.bytes) {
         Ok(file) => file,
-        Err(fault) => {
-            let kind = format!(in alloc; "{:?}", fault.kind)?;
-            return told_fault(alloc, kind, fault.at, text);
-        }
+        Err(fault) => return put_fault(alloc, out, fault.kind, fault.at, text),
     };
     match schedule(alloc, &file) {
-        Ok(list) => {
-            let mut out = String::new(alloc);
-            put_scans(alloc, &mut out, &list)?;
-            Ok(out)
-        }
-        Err(fault) => {
-            told_fault(
-                alloc,
-                format!(in alloc; "{:?}", fault.kind)?,
-                fault.at,
-                text,
-            )
-        }
+        Ok(list) => put_scans(alloc, out, &list),
+        Err(fault) => put_fault(alloc, out, fault.kind, fault.at, text),
     }
 }

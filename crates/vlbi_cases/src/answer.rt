@@ -73,10 +73,15 @@ fn print_output(rt: &impl Print, alloc: Global, output: &[u8]) -> Result<()> {
         return Ok(());
     }
     print_cells(rt, alloc, output)?;
-    if output.len() <= 200 {
-        print!(rt; " hex {}", encode(alloc, output)?)?;
+    print_bytes(rt, alloc, output, 200)
+}
+
+// Up to so many bytes, or the digest of more.
+fn print_bytes(rt: &impl Print, alloc: Global, bytes: &[u8], most: usize) -> Result<()> {
+    if bytes.len() <= most {
+        print!(rt; " hex {}", encode(alloc, bytes)?)?;
     } else {
-        let digest: [u8; 16] = Md5::digest(output);
+        let digest: [u8; 16] = Md5::digest(bytes);
         print!(rt; " md5 {}", encode(alloc, digest)?)?;
     }
     Ok(())
@@ -108,11 +113,7 @@ fn print_cells(rt: &impl Print, alloc: Global, output: &[u8]) -> Result<()> {
 /// Prints the length of a journal, and its bytes or where they are many their digest.
 pub fn print_journal(rt: &impl Print, alloc: Global, name: &str, journal: &[u8]) -> Result<()> {
     print!(rt; "{name}, journal: {} bytes", journal.len())?;
-    if journal.len() <= 400 {
-        println!(rt; " hex {}", encode(alloc, journal)?)?;
-    } else {
-        let digest: [u8; 16] = Md5::digest(journal);
-        println!(rt; " md5 {}", encode(alloc, digest)?)?;
-    }
+    print_bytes(rt, alloc, journal, 400)?;
+    println!(rt; "")?;
     Ok(())
 }

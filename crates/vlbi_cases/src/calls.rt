@@ -82,19 +82,31 @@ pub struct Called {
     pub disk: MemDisk,
 }
 
-/// Calls the program with these words, over these files and a journal that begins with these bytes.
+/// What a call is given: its words, the files of its shelf, and the bytes that its journal begins with.
+#[derive(Drop)]
+pub struct Given<'a> {
+    pub words: &'a [String],
+    pub files: Vec<(String, Vec<u8>)>,
+    pub journal: &'a [u8],
+}
+
+/// Calls the program.
 pub fn call<R: Threads + Sync>(
     rt: &R,
     alloc: Global,
-    words: &[String],
-    files: Vec<(String, Vec<u8>)>,
-    journal: &[u8],
+    given: Given,
     faults: Faults,
 ) -> Result<Called> {
-    let mut disk = MemDisk::new(alloc, journal.to_vec(alloc)?, faults.disk, faults.stop)?;
-    let mut shelf = MemShelf::new(files, faults.reads);
+    let mut disk = MemDisk::new(
+        alloc,
+        given.journal.to_vec(alloc)?,
+        faults.disk,
+        faults.stop,
+    )?;
+    let mut shelf = MemShelf::new(given.files, faults.reads);
     let mut out = MemSink::new(alloc, faults.most.max(1), faults.writes);
     let gate = CountingGate::new();
+    let words = given.words;
     let answer = answered(rt, alloc, words, &mut shelf, &mut disk, &mut out, &gate)?;
     Ok(Called {
         answer,
@@ -118,18 +130,16 @@ pub enum Refused {
     },
 }
 
-/// Takes memory so many times, calls the program with these words, over these files and a journal that begins with these bytes, and
-/// takes memory again. So an allocation that is refused by its number is one of the call, whichever the numbers are that go before.
+/// Takes memory so many times, calls the program, and takes memory again. So an allocation that is refused by its number is one of the
+/// call, whichever the numbers are that go before.
 pub fn call_refused<R: Threads + Sync>(
     rt: &R,
     alloc: Global,
-    words: &[String],
-    files: Vec<(String, Vec<u8>)>,
-    journal: &[u8],
+    given: Given,
     times: u64,
 ) -> Result<Refused> {
-    let mut disk = MemDisk::new(alloc, journal.to_vec(alloc)?, Vec::new(alloc), None)?;
-    let mut shelf = MemShelf::new(files, Vec::new(alloc));
+    let mut disk = MemDisk::new(alloc, given.journal.to_vec(alloc)?, Vec::new(alloc), None)?;
+    let mut shelf = MemShelf::new(given.files, Vec::new(alloc));
     let mut out = MemSink::new(alloc, 1_000_000, Vec::new(alloc));
     let mut notes = MemSink::new(alloc, 4096, Vec::new(alloc));
     let gate = CountingGate::new();
@@ -138,7 +148,14 @@ pub fn call_refused<R: Threads + Sync>(
         return Ok(Refused::Before(before));
     }
     let status = run(
-        rt, alloc, words, &mut shelf, &mut disk, &mut out, &mut notes, &gate,
+        rt,
+        alloc,
+        given.words,
+        &mut shelf,
+        &mut disk,
+        &mut out,
+        &mut notes,
+        &gate,
     );
     let behind = take_memory(alloc, MOST_BEHIND);
     let answer = Answer {

@@ -1,11 +1,14 @@
 //! What the lines ask.
 
 use crate::answer::{Answer, print_journal};
-use crate::calls::{Called, Device, Faults, Refused, call, call_meeting, call_noted, call_refused};
+use crate::calls::{
+    Called, Device, Faults, Given, Refused, call, call_meeting, call_noted, call_refused,
+};
 use crate::frames::Frame;
-use crate::texts::{append_numbered, append_runs, bytes_of, replaced, set_byte};
+use crate::texts::{append_numbered, bytes_of, replaced};
 use crate::told::print_told;
 use anyhow::{Context, Result, bail};
+use case_texts::{append_runs, set_byte};
 use std::alloc::Global;
 use std::mem;
 use std::thread::Threads;
@@ -55,8 +58,8 @@ impl Cases {
             "told" => self.call_noted(rt, rest)?,
             "show" => print_journal(rt, self.alloc, &self.name, &self.journal)?,
             "keep" => self.keep_journal(rest)?,
-            "reads" => self.call_with_reads_failing(rt, rest)?,
-            "writes" => self.call_with_writes_failing(rt, rest)?,
+            "reads" => self.call_with_each_failing(rt, Device::Shelf, rest)?,
+            "writes" => self.call_with_each_failing(rt, Device::Output, rest)?,
             "disk" => self.call_with_disk_failing(rt, rest)?,
             "stops" => self.call_stopped(rt, rest)?,
             "runs" => self.call_as_plain(rt, rest)?,
@@ -173,7 +176,12 @@ impl Cases {
         faults: Faults,
     ) -> Result<Called> {
         let words = words_of(self.alloc, line)?;
-        call(rt, self.alloc, &words, self.all_files()?, journal, faults)
+        let given = Given {
+            words: &words,
+            files: self.all_files()?,
+            journal,
+        };
+        call(rt, self.alloc, given, faults)
     }
 
     // The case's files, and those of all cases.
@@ -273,8 +281,12 @@ impl Cases {
         let (first, then) = rest.split_once(" => ").unwrap_or((rest, ""));
         let times = times.parse::<u64>()?;
         let words = words_of(self.alloc, first)?;
-        let files = self.all_files()?;
-        match call_refused(rt, self.alloc, &words, files, &self.journal, times)? {
+        let given = Given {
+            words: &words,
+            files: self.all_files()?,
+            journal: &self.journal,
+        };
+        match call_refused(rt, self.alloc, given, times)? {
             Refused::Before(times) => println!(rt; "{}, before {times}", self.name)?,
             Refused::Behind(times, answer) => {
                 print!(rt; "{}, behind {times}:", self.name)?;
@@ -304,53 +316,29 @@ impl Cases {
         called.answer.print(rt, self.alloc)
     }
 
-    // The call again and again, with one call of the shelf failing after the other, until the answer is that without. Of a call
-    // of `run` that fails so nothing is appended.
-    fn call_with_reads_failing<R: Print + Threads + Sync>(&self, rt: &R, line: &str) -> Result<()> {
-        let whole = self.whole(rt, line)?;
-        let front = if line.starts_with("|run") {
-            &[]
-        } else {
-            whole.output.as_slice()
-        };
-        for number in 0..MOST_CALLS {
-            let mut faults = Faults::none(self.alloc, self.most);
-            faults.reads.push(number)?;
-            let answer = self.answer(rt, line, faults)?;
-            if answer == whole {
-                return self.print_end(rt, "read", number, &whole);
-            }
-            if !answer.is_fault(7, b"vlbi: read fault\n", front) {
-                print!(rt; "{}, read {number} failing:", self.name)?;
-                answer.print(rt, self.alloc)?;
-            }
-        }
-        bail!("too many reads")
-    }
-
-    // The same for the writes of the output.
-    fn call_with_writes_failing<R: Print + Threads + Sync>(
+    // The call again and again, with one call of a device failing after the other, until the answer is that without.
+    fn call_with_each_failing<R: Print + Threads + Sync>(
         &self,
         rt: &R,
+        device: Device,
         line: &str,
     ) -> Result<()> {
         let whole = self.whole(rt, line)?;
         for number in 0..MOST_CALLS {
-            let mut faults = Faults::none(self.alloc, self.most);
-            faults.writes.push(number)?;
+            let faults = Faults::one(self.alloc, self.most, device, number)?;
             let answer = self.answer(rt, line, faults)?;
             if answer == whole {
-                return self.print_end(rt, "write", number, &whole);
+                return self.print_end(rt, device.call_name(), number, &whole);
             }
-            if !answer.is_fault(9, b"vlbi: write fault\n", &whole.output) {
-                print!(rt; "{}, write {number} failing:", self.name)?;
+            if !is_fault_of(device, line, &answer, &whole) {
+                print!(rt; "{}, {} {number} failing:", self.name, device.call_name())?;
                 answer.print(rt, self.alloc)?;
             }
         }
-        bail!("too many writes")
+        bail!("too many calls of a device")
     }
 
-    // The same for the calls of the journal's disk; behind each fault the call is made once more, over what it left.
+    // The same for the journal's disk; behind each fault the call is made once more, over what it left.
     fn call_with_disk_failing<R: Print + Threads + Sync>(&self, rt: &R, line: &str) -> Result<()> {
         let whole = self.whole(rt, line)?;
         for number in 0..MOST_CALLS {
@@ -401,7 +389,7 @@ impl Cases {
             }
             let none = Faults::none(self.alloc, self.most);
             let again = self.called_on(rt, line, called.disk.bytes(), none)?.answer;
-            if !is_fault_of(device, &called.answer, &whole) || again != whole {
+            if !is_fault_of(device, line, &called.answer, &whole) || again != whole {
                 print!(rt; "{}, {} {number} failing:", self.name, device.call_name())?;
                 called.answer.print(rt, self.alloc)?;
                 print!(rt; "{}, and then:", self.name)?;
@@ -468,9 +456,13 @@ impl Cases {
         let words = words_of(self.alloc, line)?;
         for length in 0..image.len() {
             let front = image.get(..length).context("a front")?;
-            let files = self.files_with(file, front)?;
+            let given = Given {
+                words: &words,
+                files: self.files_with(file, front)?,
+                journal: &self.journal,
+            };
             let none = Faults::none(self.alloc, self.most);
-            let answer = call(rt, self.alloc, &words, files, &self.journal, none)?.answer;
+            let answer = call(rt, self.alloc, given, none)?.answer;
             let note = format!(in self.alloc; "vlbi: merge: NotShard {file} at byte {length}\n")?;
             if !answer.is_fault(14, note.as_str().as_bytes(), &[]) {
                 print!(rt; "{}, {length} bytes of {file}:", self.name)?;
@@ -535,10 +527,12 @@ impl Cases {
 // More calls of a device than a case makes.
 const MOST_CALLS: u64 = 100_000;
 
-// Whether a call of `run` is answered as a fault of this device.
-fn is_fault_of(device: Device, answer: &Answer, whole: &Answer) -> bool {
+// Whether a call with these words is answered as a fault of this device. Where `run` fails to read, nothing is appended.
+fn is_fault_of(device: Device, line: &str, answer: &Answer, whole: &Answer) -> bool {
+    let is_run = line.starts_with("|run");
     match device {
-        Device::Shelf => answer.is_fault(7, b"vlbi: read fault\n", &[]),
+        Device::Shelf if is_run => answer.is_fault(7, b"vlbi: read fault\n", &[]),
+        Device::Shelf => answer.is_fault(7, b"vlbi: read fault\n", &whole.output),
         Device::Disk => answer.is_journal_fault(&whole.output),
         Device::Output => answer.is_fault(9, b"vlbi: write fault\n", &whole.output),
     }

@@ -1,8 +1,8 @@
 //! Frames as the lines write them.
 ghost use Rattle.std.specs.Prelude.{◌<◌};
 
-use crate::texts::{append_run, append_runs};
 use anyhow::{Result, bail};
+use case_texts::{append_run, append_runs};
 use rand_core::{Rng, SeedableRng};
 use rand_xoshiro::SplitMix64;
 use std::alloc::{AllocError, Global};

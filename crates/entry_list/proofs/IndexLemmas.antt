@@ -8,7 +8,7 @@ use Rattle.std.specs.Result.{OnOk, OnErr, is_err}
 use Rattle.std.specs.List.{All, Contains}
 use Rattle.std.specs.declared.cmp.Ordering.{Ordering}
 use Rattle.std.specs.declared.cmp.Ordering.TheVariants.{Less, Equal, Greater}
-use Rattle.std.proofs.Common.{◌≡◌, ◌≢◌, ◌∙◌, sym, ap, subst, refl, List, [], ◌∷◌, ◌++◌, ◌⊎◌, inl, inr, ⊎_elim, Bool, true, false, Option, Some, None, Result, Ok, Err, MatchOption, ℕ, ◌-◌, length, take, get_or, ℤ, ◌<ℤ◌, ◌≤ℤ◌, arith}
+use Rattle.std.proofs.Common.{◌≡◌, ◌≢◌, ◌∙◌, sym, ap, subst, refl, List, [], ◌∷◌, ◌++◌, ◌⊎◌, inl, inr, ⊎_elim, Bool, true, false, Option, Some, None, Result, Ok, Err, ℕ, ◌-◌, length, take, get_or, ℤ, ◌<ℤ◌, ◌≤ℤ◌, arith}
 use Rattle.std.proofs.lemmas.Int.{ints}
 use Rattle.std.proofs.lemmas.Bool.{cond-true, cases_lt}
 use Rattle.std.proofs.lemmas.List.{length-append, get_or_push, take-append-le, take_all}

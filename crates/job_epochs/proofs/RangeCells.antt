@@ -1,8 +1,8 @@
 -- The cells of a range of samples: how many there are, and that those of its two parts add up with no wrap.
-use Rattle.std.specs.Prelude.{replicate, if◌then◌else◌}
+use Rattle.std.specs.Prelude.{replicate}
 use Rattle.std.specs.Int.{int_wrapping_add}
 use Rattle.std.specs.List.{range_with_len}
-use Rattle.std.proofs.Common.{◌≡◌, ◌∙◌, sym, ap, ℕ, zero, suc, ◌+◌, ◌-◌, ◌*◌, ◌^◌, ◌≤◌, Bool, true, false, ℤ, pos, negsuc, ◌+ℤ◌, ◌≤ℤ◌, neg_ℤ, FitsSigned, w64, length, Some, None, IfSome, arith}
+use Rattle.std.proofs.Common.{◌≡◌, ◌∙◌, sym, ap, ℕ, ◌+◌, ◌-◌, ◌*◌, ◌^◌, ◌≤◌, ℤ, pos, negsuc, ◌+ℤ◌, ◌≤ℤ◌, neg_ℤ, FitsSigned, w64, length, IfSome, arith}
 use Rattle.std.proofs.lemmas.Int.{ints, wrapping_add_is, int_wrap_fits}
 use Rattle.std.proofs.lemmas.List.FromFn.{length-map-range_with_len, length-range_with_len}
 use Rattle.corr_model.specs.declared.cell.Cell.{Cell}

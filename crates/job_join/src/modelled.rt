@@ -26,9 +26,8 @@ fn lacks(need: Need, job: &Job, rate: u32, scan: &Scan, samples: u128, here: &He
         second: scan.second,
         rate,
         knot: job.knot,
-        samples,
     };
-    !reach.are_met(need)
+    !reach.are_met(need, samples)
 }
 
 // The number of the first station of a scan that lacks what is needed, where the scan is taken.

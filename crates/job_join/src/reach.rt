@@ -15,8 +15,7 @@ pub(crate) enum Need {
 }
 
 /// What the delay of a station in a scan depends on: its polynomials and its clock entries, the second at which the scan
-/// starts, counted from 1970-01-01 00:00, the samples in a second, the samples from one knot to the next, and the samples
-/// of the scan, which may be far more than a plan can hold.
+/// starts, counted from 1970-01-01 00:00, the samples in a second, and the samples from one knot to the next.
 #[derive(Clone, Copy)]
 pub(crate) struct Reach<'a> {
     pub polys: &'a PolyList,
@@ -24,9 +23,7 @@ pub(crate) struct Reach<'a> {
     pub second: i64,
     pub rate: u32,
     pub knot: u32,
-    pub samples: u128,
     ghost is_model: { IsDelayModel (delay_model polys.now clocks.now second rate knot) 0 },
-    ghost most: { samples < 2 ^ 96 },
 }
 
 impl Reach<'_> {
@@ -56,7 +53,7 @@ impl Reach<'_> {
 
     // The samples from the second of its polynomial to sample `n`.
     fn samples_since(&self, second: i64, n: u128) -> u128
-        requires inside { n < self.now.samples }
+        requires inside { n < 2 ^ 96 }
         requires poly { option_map poly_second (poly_at (reach_model self.now) n) ≡ Some second }
         ensures { pos n ≡ (second -ℤ self.now.second) *ℤ pos self.now.rate +ℤ pos result }
     {
@@ -65,7 +62,7 @@ impl Reach<'_> {
 
     // Whether sample `n` has a delay model, whose polynomial is in force from this second on.
     fn is_modelled(&self, second: i64, n: u128) -> bool
-        requires inside { n < self.now.samples }
+        requires inside { n < 2 ^ 96 }
         requires poly { option_map poly_second (poly_at (reach_model self.now) n) ≡ Some second }
         ensures { result ≡ is_modelled (reach_model self.now) n }
     {
@@ -93,7 +90,7 @@ impl Reach<'_> {
 
     // Whether sample `n` has what is needed, whose polynomial is in force from this second on.
     fn is_met_from(&self, need: Need, second: i64, n: u128) -> bool
-        requires inside { n < self.now.samples }
+        requires inside { n < 2 ^ 96 }
         requires poly { option_map poly_second (poly_at (reach_model self.now) n) ≡ Some second }
         ensures { result ≡ is_met need (reach_model self.now) n }
     {
@@ -105,7 +102,7 @@ impl Reach<'_> {
 
     // Whether sample `n` has what is needed.
     fn is_met(&self, need: Need, n: u128) -> bool
-        requires { n < self.now.samples }
+        requires { n < 2 ^ 96 }
         ensures { result ≡ is_met need (reach_model self.now) n }
     {
         match self.poly_second(n) {
@@ -139,11 +136,12 @@ impl Reach<'_> {
         }
     }
 
-    /// Whether each sample of the scan has what is needed.
-    pub(crate) fn are_met(&self, need: Need) -> bool
-        ensures { result ≡ are_met need (reach_model self.now) self.now.samples }
+    /// Whether each sample of a scan has what is needed. It may have far more samples than a plan can hold.
+    pub(crate) fn are_met(&self, need: Need, samples: u128) -> bool
+        requires { samples < 2 ^ 96 }
+        ensures { result ≡ are_met need (reach_model self.now) samples }
     {
-        let mut end = self.samples;
+        let mut end = samples;
         while end > 0 {
             if !self.is_met(need, end - 1) {
                 return false;

@@ -2,7 +2,7 @@
 use Rattle.std.specs.Prelude.{replicate, slice_get, option_map, if◌then◌else◌}
 use Rattle.std.specs.List.{range_with_len, enumerate_from}
 use Rattle.std.specs.Option.{option_map_or}
-use Rattle.std.proofs.Common.{◌≡◌, ◌∙◌, refl, sym, ap, subst, ℕ, zero, suc, ◌+◌, ◌*◌, ◌<◌, min, List, [], ◌∷◌, map, Option, Some, All, arith}
+use Rattle.std.proofs.Common.{◌≡◌, ◌∙◌, refl, sym, ap, subst, ℕ, zero, suc, ◌+◌, ◌*◌, ◌<◌, List, [], ◌∷◌, map, Option, Some, All, arith}
 use Rattle.std.proofs.Math.Nat.{zero-add}
 use Rattle.std.proofs.lemmas.Option.{slice_get-map}
 use Rattle.corr_model.specs.declared.cell.Cell.{Cell}
@@ -28,7 +28,7 @@ use Rattle.job_epochs.proofs.FoldLemmas.{added_by}
 use Rattle.job_epochs.proofs.AddedLemmas.{epoch_sums-at}
 use Rattle.checkpoint_journal.specs.Cells.{body_text, body_cells}
 use Rattle.journal_image.specs.Image.{KeptEpoch}
-use Rattle.vis_writer.specs.Cells.{CellsOf, all_cells, scan_cells}
+use Rattle.vis_writer.specs.Cells.{all_cells, scan_cells}
 use Rattle.vis_writer.specs.Cells as counts
 use Rattle.vis_writer.specs.PlanCells.{cells_from}
 use Rattle.vis_writer.proofs.PlanText.{output-numbered}

@@ -1,6 +1,5 @@
-ghost use Rattle.std.specs.Prelude.{◌≡◌, ◌<◌, ◌≤◌, ◌^◌, ◌↔◌, length, IfOk, IfSome, OnErr, IsErr, IsTrue, Some};
-ghost use Rattle.dev_traits.specs.{Fault.{Counts}, Files.{size_of, ReadsAt}};
-ghost use Rattle.mem_devices.specs.MemShelfState.{bytes_under, fails_next, after_call};
+ghost use Rattle.std.specs.Prelude.{◌≡◌, Some};
+ghost use Rattle.mem_devices.specs.{MemShelfState.{bytes_under}, MemShelfCalls.{Sizes, Reads}};
 
 use crate::flags::Flags;
 use dev_traits::{Failed, Shelf};
@@ -49,27 +48,13 @@ impl Shelf for MeetShelf {
     ghost faults = { λ shelf. shelf.faults };
 
     fn size(&mut self, name: &str) -> Result<Option<u64>, Failed>
-        ensures same { Some (bytes_under self.new.files) ≡ Some (bytes_under self.old.files) }
-        ensures bound { IfOk result (λ size. IfSome size (λ n. n < 2 ^ 63)) }
-        ensures size { IfOk result (λ size. size ≡ size_of (bytes_under self.old.files name.now)) }
-        ensures counts { Counts self.old.faults self.new.faults result }
-
-        ensures fails { IsErr result ↔ IsTrue (fails_next self.old) }
-        ensures called { self.new ≡ after_call self.old }
+        ensures { Sizes name.now self.old self.new result }
     {
         self.inner.size(name)
     }
 
     fn read_at(&mut self, name: &str, at: u64, buf: &mut [u8]) -> Result<usize, Failed>
-        ensures same { Some (bytes_under self.new.files) ≡ Some (bytes_under self.old.files) }
-        ensures within { IfOk result (λ n. n ≤ length buf.old) }
-        ensures read { IfOk result
-            (λ n. ReadsAt (bytes_under self.old.files name.now) at buf.old n buf.new) }
-        ensures counts { Counts self.old.faults self.new.faults result }
-
-        ensures fails { IsErr result ↔ IsTrue (fails_next self.old) }
-        ensures called { self.new ≡ after_call self.old }
-        ensures untouched { OnErr result (buf.new ≡ buf.old) }
+        ensures { Reads name.now at buf.old buf.new self.old self.new result }
     {
         let n = self.inner.read_at(name, at, buf)?;
         self.read_gave(at, n);

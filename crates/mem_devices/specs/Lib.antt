@@ -1,6 +1,8 @@
+pub mod MemShelfCalls
 pub mod MemShelfState
 pub mod MemSinkState
 pub mod Plan
+pub mod MemDiskCalls
 pub mod MemDiskImages
 pub mod MemDiskPlan
 pub mod MemDiskRecord

@@ -1,5 +1,5 @@
 -- What a read gives is among the images, and none is too long.
-use Rattle.std.specs.Prelude.{◌≡◌, ◌<◌, ℕ, ◌+◌, ◌-◌, ◌≤◌, ◌^◌, max, List, [], ◌∷◌, ◌++◌, length, take, drop, replicate, slice_index, true, false}
+use Rattle.std.specs.Prelude.{◌≡◌, ◌<◌, ℕ, ◌+◌, ◌-◌, ◌≤◌, ◌^◌, max, List, [], ◌∷◌, ◌++◌, length, take, drop, replicate, true, false}
 use Rattle.std.proofs.Common.{arith, subst, sym, length-append, length-drop}
 use Rattle.std.proofs.lemmas.List.{length-take, length-replicate, take_all}
 use Rattle.dev_traits.specs.Images.{put_at}

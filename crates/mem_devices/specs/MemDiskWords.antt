@@ -1,5 +1,5 @@
 -- What contracts say of a disk in memory.
-use Rattle.std.specs.Prelude.{ℕ, List, length, Bool}
+use Rattle.std.specs.Prelude.{ℕ, List, length, Option, Some, Bool}
 use Rattle.mem_devices.specs.MemDiskPlan.{MemDiskPlan}
 use Rattle.mem_devices.specs.MemDiskState.{State, start, IsImage}
 use Rattle.mem_devices.specs.MemDiskRecord.{replay, state_after}
@@ -21,6 +21,10 @@ file_images file t image = IsImage (state_after file.first.items file.calls.item
 -- the disk's file between its last sync and now
 abbrev pub state_of : MemDisk → State
 state_of disk = file_state disk.file
+
+-- what a read of it gives
+abbrev pub seen_of : MemDisk → Option (List ℕ)
+seen_of disk = Some (state_of disk).seen
 
 -- how many calls of `write_at`, `cut` and `sync` the disk has recorded
 abbrev pub moment_of : MemDisk → ℕ

@@ -1,7 +1,7 @@
 // A disk in memory, which can be made to fail, stopped and torn.
-ghost use Rattle.std.specs.Prelude.{◌≡◌, ◌+◌, ◌<◌, ◌≤◌, ◌^◌, ◌↔◌, [], length, take, not, option_map, is_some, IfOk, OnOk, OnErr, IsErr, IsTrue, Some, None, true, false, if◌then◌else◌};
-ghost use Rattle.dev_traits.specs.{Fault.{Counts, HasRisen}, Files.{ReadsAt}, Told.{WhereTold}, Images.{put_at, Same, Torn, Shorn}, Moments.{Goes, IsDurable}};
-ghost use Rattle.mem_devices.specs.{MemDiskPlan.{fails_next, after_call}, MemDiskState.{start, after_write, after_cut, after_sync, filled, IsImage}};
+ghost use Rattle.std.specs.Prelude.{◌≡◌, ◌+◌, ◌<◌, ◌≤◌, ◌^◌, [], length, IfOk, None, false, if◌then◌else◌};
+ghost use Rattle.dev_traits.specs.Fault.{HasRisen};
+ghost use Rattle.mem_devices.specs.{MemDiskCalls.{ReadsLength, ReadsBytes, Writes, Cuts, Syncs}, MemDiskState.{start, filled, IsImage}};
 
 mod fault_plan;
 mod torn_file;
@@ -93,9 +93,9 @@ impl MemDisk {
 
 impl Disk for MemDisk {
     ghost use Rattle.std.specs.Prelude.{⊤, refl};
-    ghost use Rattle.mem_devices.specs.{MemDiskImages.{seen_is_image, image_is_short}, MemDiskWords.{state_of, moment_of, images_of, plan_of, faults_of, refused_of}};
+    ghost use Rattle.mem_devices.specs.{MemDiskImages.{seen_is_image, image_is_short}, MemDiskWords.{seen_of, moment_of, images_of, faults_of}};
 
-    ghost seen = { λ disk. Some (state_of disk).seen };
+    ghost seen = { λ disk. seen_of disk };
 
     ghost moment = { λ disk. moment_of disk };
 
@@ -114,17 +114,7 @@ impl Disk for MemDisk {
     ghost images_are_short = { λ disk t image le is. image_is_short _ image (disk.file.short t) is };
 
     fn len(&mut self) -> Result<u64, Failed>
-        ensures same { Some (state_of self.new).seen ≡ Some (state_of self.old).seen }
-        ensures bound { IfOk result (λ n. n < 2 ^ 63) }
-        ensures len { IfOk result
-            (λ n. WhereTold (Some (state_of self.old).seen) (λ bytes. n ≡ length bytes)) }
-        ensures goes { Goes moment_of images_of Same self.old self.new }
-        ensures counts { Counts (faults_of self.old) (faults_of self.new) result }
-        ensures plan { plan_of self.new ≡ after_call (plan_of self.old) }
-        ensures fails { IsErr result ↔ IsTrue (fails_next (plan_of self.old)) }
-        ensures state { state_of self.new ≡ state_of self.old }
-        ensures moment { moment_of self.new ≡ moment_of self.old }
-        ensures not_refused { refused_of self.new ≡ false }
+        ensures { ReadsLength self.old self.new result }
     {
         self.refused = false;
         if self.plan.next_fails() {
@@ -134,18 +124,7 @@ impl Disk for MemDisk {
     }
 
     fn read_at(&mut self, at: u64, buf: &mut [u8]) -> Result<usize, Failed>
-        ensures same { Some (state_of self.new).seen ≡ Some (state_of self.old).seen }
-        ensures within { IfOk result (λ n. n ≤ length buf.old) }
-        ensures read { IfOk result
-            (λ n. WhereTold (Some (state_of self.old).seen)
-            (λ bytes. ReadsAt (Some bytes) at buf.old n buf.new)) }
-        ensures goes { Goes moment_of images_of Same self.old self.new }
-        ensures counts { Counts (faults_of self.old) (faults_of self.new) result }
-        ensures plan { plan_of self.new ≡ after_call (plan_of self.old) }
-        ensures fails { IsErr result ↔ IsTrue (fails_next (plan_of self.old)) }
-        ensures state { state_of self.new ≡ state_of self.old }
-        ensures moment { moment_of self.new ≡ moment_of self.old }
-        ensures not_refused { refused_of self.new ≡ false }
+        ensures { ReadsBytes at buf.old buf.new self.old self.new result }
     {
         self.refused = false;
         if self.plan.next_fails() {
@@ -156,19 +135,7 @@ impl Disk for MemDisk {
 
     fn write_at(&mut self, at: u64, bytes: &[u8]) -> Result<(), Failed>
         requires { at + length bytes.now < 2 ^ 63 }
-        ensures written { OnOk result (Some (state_of self.new).seen ≡ option_map (put_at at bytes.now) (Some (state_of self.old).seen)) }
-        ensures tells { is_some (Some (state_of self.new).seen) ≡ is_some (Some (state_of self.old).seen) }
-        ensures goes { Goes moment_of images_of (Torn at (at + length bytes.now)) self.old self.new }
-        ensures counts { Counts (faults_of self.old) (faults_of self.new) result }
-        ensures plan { plan_of self.new ≡ after_call (plan_of self.old) }
-        // A listed call fails, and any other only for want of memory.
-        ensures listed { IsTrue (fails_next (plan_of self.old)) → IsErr result }
-        ensures unlisted { fails_next (plan_of self.old) ≡ false → (IsErr result ↔ IsTrue (refused_of self.new)) }
-        // It is recorded but where memory is wanting, and then nothing changes.
-        ensures recorded { refused_of self.new ≡ false → state_of self.new ≡ after_write (state_of self.old) at bytes.now (not (fails_next (plan_of self.old))) }
-        ensures next_moment { refused_of self.new ≡ false → moment_of self.new ≡ moment_of self.old + 1 }
-        ensures unchanged { refused_of self.new ≡ true → state_of self.new ≡ state_of self.old }
-        ensures same_moment { refused_of self.new ≡ true → moment_of self.new ≡ moment_of self.old }
+        ensures { Writes at bytes.now self.old self.new result }
     {
         self.refused = false;
         let fails = self.plan.next_fails();
@@ -183,19 +150,7 @@ impl Disk for MemDisk {
     }
 
     fn cut(&mut self, len: u64) -> Result<(), Failed>
-        ensures cut { OnOk result (Some (state_of self.new).seen ≡ option_map (take len) (Some (state_of self.old).seen)) }
-        ensures tells { is_some (Some (state_of self.new).seen) ≡ is_some (Some (state_of self.old).seen) }
-        ensures goes { Goes moment_of images_of (Shorn len) self.old self.new }
-        ensures counts { Counts (faults_of self.old) (faults_of self.new) result }
-        ensures plan { plan_of self.new ≡ after_call (plan_of self.old) }
-        // A listed call fails, and any other only for want of memory.
-        ensures listed { IsTrue (fails_next (plan_of self.old)) → IsErr result }
-        ensures unlisted { fails_next (plan_of self.old) ≡ false → (IsErr result ↔ IsTrue (refused_of self.new)) }
-        // It is recorded but where memory is wanting, and then nothing changes.
-        ensures recorded { refused_of self.new ≡ false → state_of self.new ≡ after_cut (state_of self.old) len (not (fails_next (plan_of self.old))) }
-        ensures next_moment { refused_of self.new ≡ false → moment_of self.new ≡ moment_of self.old + 1 }
-        ensures unchanged { refused_of self.new ≡ true → state_of self.new ≡ state_of self.old }
-        ensures same_moment { refused_of self.new ≡ true → moment_of self.new ≡ moment_of self.old }
+        ensures { Cuts len self.old self.new result }
     {
         self.refused = false;
         let fails = self.plan.next_fails();
@@ -210,19 +165,7 @@ impl Disk for MemDisk {
     }
 
     fn sync(&mut self) -> Result<(), Failed>
-        ensures same { Some (state_of self.new).seen ≡ Some (state_of self.old).seen }
-        ensures durable { OnOk result (IsDurable (Some (state_of self.new).seen) (images_of self.new (moment_of self.new))) }
-        ensures goes { Goes moment_of images_of Same self.old self.new }
-        ensures counts { Counts (faults_of self.old) (faults_of self.new) result }
-        ensures plan { plan_of self.new ≡ after_call (plan_of self.old) }
-        // A listed call fails, and any other only for want of memory.
-        ensures listed { IsTrue (fails_next (plan_of self.old)) → IsErr result }
-        ensures unlisted { fails_next (plan_of self.old) ≡ false → (IsErr result ↔ IsTrue (refused_of self.new)) }
-        // It is recorded but where memory is wanting, and then nothing changes.
-        ensures recorded { refused_of self.new ≡ false → state_of self.new ≡ after_sync (state_of self.old) (not (fails_next (plan_of self.old))) }
-        ensures next_moment { refused_of self.new ≡ false → moment_of self.new ≡ moment_of self.old + 1 }
-        ensures unchanged { refused_of self.new ≡ true → state_of self.new ≡ state_of self.old }
-        ensures same_moment { refused_of self.new ≡ true → moment_of self.new ≡ moment_of self.old }
+        ensures { Syncs self.old self.new result }
     {
         self.refused = false;
         let fails = self.plan.next_fails();

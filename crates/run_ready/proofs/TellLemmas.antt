@@ -1,5 +1,5 @@
 -- What a command tells that is refused for its files.
-use Rattle.std.proofs.Common.{ℕ, List, Option, Some, None, Ok, Err, refl, inl}
+use Rattle.std.proofs.Common.{ℕ, List, Option, Some, None, Err, refl, inl}
 use Rattle.corr_model.specs.Files.{Files}
 use Rattle.dev_traits.specs.Told.{WhereTold}
 use Rattle.run_notes.specs.declared.refusal.Refusal.{Refusal}

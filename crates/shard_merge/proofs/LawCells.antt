@@ -1,7 +1,7 @@
 -- The cells of a shard that covers an integration, where each of its bodies is the text of its epoch's sums.
 use Rattle.std.specs.Prelude.{replicate, slice_get, option_map, filter}
 use Rattle.std.specs.Option.{option_map_or}
-use Rattle.std.proofs.Common.{◌≡◌, ◌∙◌, sym, ap, refl, ℕ, ◌+◌, ◌*◌, ◌^◌, ◌≤◌, min, true, false, ◌==◌, List, [], ◌∷◌, Option, Some, suc, arith}
+use Rattle.std.proofs.Common.{◌≡◌, ◌∙◌, sym, ap, refl, ℕ, ◌+◌, ◌*◌, ◌^◌, ◌≤◌, true, false, ◌==◌, List, [], ◌∷◌, Option, Some, suc, arith}
 use Rattle.std.proofs.Math.Nat.{zero-add}
 use Rattle.std.proofs.lemmas.Bool.{eqb-true}
 use Rattle.std.proofs.lemmas.Option.{slice_get-map}

@@ -19,7 +19,7 @@ use Rattle.job_epochs.specs.Sizes.{size_of, sizes_of}
 use Rattle.job_epochs.specs.Added.{is_of}
 use Rattle.job_epochs.proofs.EachLemmas.{Each, flat_map-same, Each-range, Each-enumerate}
 use Rattle.journal_image.specs.Image.{KeptEpoch}
-use Rattle.vis_writer.specs.Cells.{CellsOf, all_cells, scan_cells}
+use Rattle.vis_writer.specs.Cells.{all_cells, scan_cells}
 use Rattle.vis_writer.specs.Cells as counts
 use Rattle.vis_writer.specs.PlanCells.{cells_from}
 use Rattle.vis_writer.proofs.PlanText.{output-numbered}

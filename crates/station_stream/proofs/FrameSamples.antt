@@ -1,5 +1,5 @@
 -- The samples of a frame are those in the slot that holds it.
-use Rattle.std.specs.Prelude.{◌==◌, ◌&&◌, not, option_map, map, cond}
+use Rattle.std.specs.Prelude.{◌==◌, not, option_map, map, cond}
 use Rattle.std.specs.List.{All, find}
 use Rattle.std.proofs.Common.{◌≡◌, ◌∙◌, refl, sym, ap, subst, ℕ, suc, ◌+◌, ◌*◌, ◌/◌, ◌≤◌, ◌<◌, Bool, true, false, ℤ, pos, ◌-ℤ◌, unsigned_abs, List, [], ◌∷◌, ◌++◌, length, take, drop, get_or, Option, Some, None, arith, zero-add}
 use Rattle.std.proofs.Math.Seq.{get_or-append_seam}

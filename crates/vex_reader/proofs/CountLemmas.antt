@@ -1,5 +1,5 @@
 -- A text has at least as many bytes as tokens, and at least as many tokens as scans.
-use Rattle.std.proofs.Common.{◌≡◌, ℕ, ◌+◌, ◌-◌, ◌<◌, ◌≤◌, Bool, true, false, cond, List, [], ◌∷◌, ◌++◌, length, take, drop, None, Some, Ok, Err, min, arith, refl, sym, ap, ◌∙◌, subst, bytes_eq, unwrap_or, length-append, length-drop}
+use Rattle.std.proofs.Common.{◌≡◌, ℕ, ◌+◌, ◌-◌, ◌<◌, ◌≤◌, Bool, true, false, cond, List, [], ◌∷◌, ◌++◌, length, drop, None, Some, Ok, Err, arith, sym, ap, subst, bytes_eq, unwrap_or, length-append, length-drop}
 use Rattle.std.specs.Prelude.{Option, Result, All, IfSome, IfOk}
 use Rattle.std.specs.List.{slice_split}
 use Rattle.std.proofs.lemmas.List.{length-take}
@@ -12,14 +12,13 @@ use Rattle.vex_lex.specs.Laws.{put_together, CoverText}
 use Rattle.vex_lex.specs.Shapes.{span}
 use Rattle.vex_reader.specs.declared.fault.VexKind.{VexKind}
 use Rattle.vex_reader.specs.declared.fault.VexFault.{VexFault}
-use Rattle.vex_reader.specs.declared.file.Statement.{Statement}
 use Rattle.vex_reader.specs.declared.file.Item.{Item}
 use Rattle.vex_reader.specs.declared.file.Block.{Block}
 use Rattle.vex_reader.specs.declared.file.VexFile.{VexFile}
 use Rattle.vex_reader.specs.declared.shape.ItemKind.{ItemKind}
 use Rattle.vex_reader.specs.declared.shape.ItemKind.TheVariants.{Def, Scan}
 use Rattle.vex_reader.specs.declared.shape.Shape.{Shape}
-use Rattle.vex_reader.specs.declared.shape.Shape.TheVariants.{Blank, Block as BlockShape, Begin, End, Entry, Other, Bad}
+use Rattle.vex_reader.specs.declared.shape.Shape.TheVariants.{Blank, Block as BlockShape, Begin, End, Entry}
 use Rattle.named_list.specs.Named.{named, put}
 use Rattle.vex_reader.specs.Grammar.{Answers}
 use Rattle.vex_reader.specs.Counts.{HasAtMostScans}

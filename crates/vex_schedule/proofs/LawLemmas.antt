@@ -1,6 +1,6 @@
 -- The steps of a schedule and the relation between a file and its scans.
 use Rattle.std.proofs.Common.{◌≡◌, ◌≢◌, ◌↔◌, ℕ, ℤ, ◌<◌, Bool, true, false, cond, not, List, [], ◌∷◌, ◌++◌, length, map, take, filter, get_or, Some, None, Ok, Err, Result, AllPairs, bytes_eq, arith, refl, sym, ap, ◌∙◌, append_assoc, length-append, subst}
-use Rattle.std.specs.Prelude.{Option, codes}
+use Rattle.std.specs.Prelude.{codes}
 use Rattle.std.specs.List.{AllZip, list_any}
 use Rattle.std.proofs.lemmas.List.{append-nil, get_or-map, get_or_append_left, length-map}
 use Rattle.std.proofs.Math.Seq.{get_or-append_seam}
@@ -10,7 +10,6 @@ use Rattle.vex_reader.specs.declared.file.Item.{Item}
 use Rattle.vex_reader.specs.declared.file.Statement.{Statement}
 use Rattle.vex_reader.specs.declared.file.VexFile.{VexFile}
 use Rattle.named_list.specs.Named.{named}
-use Rattle.vex_schedule.specs.declared.fault.SchedKind.{SchedKind}
 use Rattle.vex_schedule.specs.declared.fault.SchedKind.TheVariants.{NoSched, DoubleStatement, UnknownRef, BadValue, StationTwice, BadRange}
 use Rattle.vex_schedule.specs.declared.fault.SchedFault.{SchedFault}
 use Rattle.scan_list.specs.declared.scan.Chan.{Chan}

@@ -1,26 +1,16 @@
 -- The head of a plan has its ranges.
-use Rattle.std.specs.Prelude.{◌==◌, find, is_some, if◌then◌else◌}
-use Rattle.std.proofs.Common.{◌≡◌, ℕ, suc, ◌^◌, ◌<◌, ◌≤◌, Bool, true, false, List, [], ◌∷◌, length, get_or, map, Some, refl, sym, ap, ◌∙◌, subst, arith}
-use borrow.Author.Tests.{eqb-true}
-use Rattle.std.specs.List.{All, AllPairs}
-use Rattle.std.proofs.lemmas.Int.{ints}
-use Rattle.std.proofs.lemmas.List.{length-map, get_or-map}
-use Rattle.std.proofs.lemmas.List.Elements.{All-weaker}
-use Rattle.corr_model.specs.Records.{Head, HeadScan, IsBaseline, IsBefore, IsHead, IsHeadScan, IsName}
-use Rattle.job_plan.specs.declared.plan.StationPlan.{StationPlan}
-use Rattle.job_plan.specs.declared.plan.StayPlan.{StayPlan}
-use Rattle.job_plan.specs.declared.plan.ProductPlan.{ProductPlan}
-use Rattle.job_plan.specs.declared.plan.BaselinePlan.{BaselinePlan}
+use Rattle.std.proofs.Common.{◌≡◌, ℕ, ◌^◌, ◌<◌, List, length, map, ap, ◌∙◌}
+use Rattle.corr_model.specs.Records.{Head, HeadScan, IsHead}
 use Rattle.job_plan.specs.declared.plan.ScanPlan.{ScanPlan}
 use Rattle.job_plan.specs.declared.plan.Plan.{Plan}
-use Rattle.job_plan.specs.Output.{head_of, head_scan, product_names}
+use Rattle.job_plan.specs.Output.{head_of, head_scan}
 use Rattle.job_plan.proofs.HeadRanges.{IsHead-head_of}
-use Rattle.job_plan.specs.Ranges.{IsPlan, IsScanPlan, IsStation, IsStay, IsOfScan, IsProductPlan}
+use Rattle.job_plan.specs.Ranges.{IsPlan}
 use Rattle.vis_records.specs.declared.head.VisProduct.{VisProduct}
 use Rattle.vis_records.specs.declared.head.VisScan.{VisScan}
 use Rattle.vis_records.specs.declared.head.VisBaseline.{VisBaseline}
 use Rattle.vis_records.specs.Heads.{head_from, product_of, scan_of, baseline_of}
-use Rattle.vis_writer.specs.PlanCells.{key_of, pair_of, is_below}
+use Rattle.vis_writer.specs.PlanCells.{pair_of}
 
 pub head_is : (plan : Plan) → IsPlan plan → length plan.scans < 2 ^ 32 → IsHead (head_of plan)
 head_is plan is few = IsHead-head_of plan is few

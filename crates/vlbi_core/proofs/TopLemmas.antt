@@ -28,7 +28,7 @@ use Rattle.run_notes.specs.Answers.{Answer, words_answer, journal_answer}
 use Rattle.run_notes.specs.Refusals.{Outcomes, MatchRead, MatchReadOrJournal, MatchJournal, MatchWrite, answer_of, due_answer, WhereMemory}
 use Rattle.run_notes.specs.Commands.{IsOfFilesOrOutput}
 use Rattle.run_notes.specs.Counted.{CountsJournal}
-use Rattle.run_ready.specs.Steps.{Is, Then, answered}
+use Rattle.run_ready.specs.Steps.{Is, answered}
 use Rattle.run_ready.specs.Recordings.{files_answer, recordings_answer}
 use Rattle.run_ready.specs.Outcome.{Wrong, PlanUnder, JoinOf, SurveyOf, PlanOf}
 use Rattle.run_ready.proofs.LawLemmas.{AreOne, Then-one}

@@ -1,4 +1,4 @@
-use Rattle.std.proofs.Common.{◌*◌, arith, length}
+use Rattle.std.proofs.Common.{◌*◌, arith}
 use Rattle.byte_streams.proofs.Bytes.{all_small, bytes_of, sum_number}
 use Rattle.byte_streams.proofs.sums.component_sums.Goals as goal
 

@@ -1,4 +1,4 @@
-use Rattle.std.proofs.Common.{◌≡◌, ◌∙◌, ℕ, ◌+◌, length, get_or, take, not, eqb, Bool, List, Option, Some, None, refl, sym, ap, subst, arith}
+use Rattle.std.proofs.Common.{◌≡◌, ◌∙◌, ℕ, ◌+◌, length, get_or, take, not, eqb, Bool, List, Option, Some, None, sym, ap, subst, arith}
 use Rattle.dev_traits.specs.Told.{WhereTold}
 use Rattle.checkpoint_journal.proofs.RunLemmas.{looks_both, looks_three}
 use Rattle.checkpoint_journal.proofs.ToldLemmas.{told_both, told_three, told_again}

@@ -1,4 +1,4 @@
-use Rattle.std.proofs.Common.{◌≡◌, None, subst}
+use Rattle.std.proofs.Common.{None, subst}
 use Rattle.job_plan.specs.declared.plan.ScanPlan.{ScanPlan}
 use Rattle.job_plan.specs.declared.plan.Plan.{Plan}
 use Rattle.run_sums.specs.Found.{IsOfScan}

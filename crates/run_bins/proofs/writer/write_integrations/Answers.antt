@@ -1,4 +1,4 @@
-use Rattle.std.proofs.Common.{◌≡◌, Option, Err, rules, arith, sym, subst}
+use Rattle.std.proofs.Common.{◌≡◌, Err, rules, arith}
 use Rattle.job_plan.specs.Output.{integrations_of}
 use Rattle.run_bins.specs.Jobs.{plan_of}
 use Rattle.run_bins.proofs.WriteLemmas.{writes-none, writes-next, writes-cut, writes-all, integration-at}

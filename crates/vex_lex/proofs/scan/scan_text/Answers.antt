@@ -3,7 +3,6 @@ use Rattle.vex_lex.proofs.Gaps.{IsGap-forward}
 use Rattle.vex_lex.proofs.TokenShapes.{IsToken-within}
 use Rattle.vex_lex.proofs.Fronts.{LexesBetween-token}
 use Rattle.vex_lex.proofs.scan.scan_text.Goals as goal
-use Rattle.vex_lex.proofs.scan.scan_text.Goals.{After-gap_end-at-in-loop-at}
 
 pub gap_end-at-requires-in-loop-at : goal.gap_end-at-requires-in-loop-at
 gap_end-at-requires-in-loop-at c =

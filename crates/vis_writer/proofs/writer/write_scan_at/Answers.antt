@@ -1,6 +1,4 @@
-use Rattle.std.proofs.Common.{◌≡◌, Some, arith, length, sym, ap, ◌∙◌}
-use Rattle.std.specs.List.{slice_get}
-use Rattle.std.proofs.lemmas.List.{length-map}
+use Rattle.std.proofs.Common.{◌≡◌, arith}
 use Rattle.vis_records.specs.Heads.{scan_of}
 use Rattle.vis_writer.specs.Texts.{scan_text_by, text_at}
 use Rattle.vis_writer.proofs.FileText.{scan-there, text_at-some, widest-at}

@@ -1,4 +1,4 @@
-use Rattle.std.proofs.Common.{rules, ◌≡◌, ◌↔◌, ◌≢◌, IsTrue, List, take, ◌<◌, length, get_or, sym, ◌∙◌, ap, refl, arith, subst}
+use Rattle.std.proofs.Common.{rules, ◌≡◌, ◌↔◌, ◌≢◌, IsTrue, take, get_or, ◌∙◌, subst}
 use Rattle.std.specs.Prelude.{◌++◌, ◌∷◌, [], if◌then◌else◌}
 use Rattle.std.specs.List.{All}
 use Rattle.std.proofs.lemmas.List.{take_all}

@@ -5,8 +5,8 @@ use Rattle.job_join.proofs.reach.Reach.are_met.Given as goal
 
 abbrev pub invariant-loop-end : goal.invariant-loop-end
 invariant-loop-end l = record {
-  within : l.end ≤ l.self.samples;
-  behind : (i : ℕ) → l.end ≤ i → i < l.self.samples → is_met l.need (reach_model l.self) i ≡ true;
+  within : l.end ≤ l.samples;
+  behind : (i : ℕ) → l.end ≤ i → i < l.samples → is_met l.need (reach_model l.self) i ≡ true;
 }
 
 abbrev pub decreases-loop-end : goal.decreases-loop-end

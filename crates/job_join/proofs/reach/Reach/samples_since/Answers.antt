@@ -20,7 +20,7 @@ overflow_sub-result c =
     let begins : FitsSigned w64 c.args.second = omega (arith, ints, of.ranges) in
     let seconds : FitsSigned w64 (c.args.second -ℤ c.args.self.now.second) = omega (arith, ints, model.start, of.ranges) in
     let product = simp to_z-of_z at c.samples_in_seconds.ensures in
-    omega (arith, ints, product, of.since, of.low, c.requires.inside, c.args.self.now.most)
+    omega (arith, ints, product, of.since, of.low, c.requires.inside)
 
 pub overflow_cast-result-2 : goal.overflow_cast-result-2
 overflow_cast-result-2 c =
@@ -30,7 +30,7 @@ overflow_cast-result-2 c =
     let begins : FitsSigned w64 c.args.second = omega (arith, ints, of.ranges) in
     let seconds : FitsSigned w64 (c.args.second -ℤ c.args.self.now.second) = omega (arith, ints, model.start, of.ranges) in
     let product = simp to_z-of_z at c.samples_in_seconds.ensures in
-    omega (arith, ints, product, of.since, of.low, c.requires.inside, c.args.self.now.most)
+    omega (arith, ints, product, of.since, of.low, c.requires.inside)
 
 pub returns : goal.returns
 returns c =
@@ -40,4 +40,4 @@ returns c =
     let begins : FitsSigned w64 c.args.second = omega (arith, ints, of.ranges) in
     let seconds : FitsSigned w64 (c.args.second -ℤ c.args.self.now.second) = omega (arith, ints, model.start, of.ranges) in
     let product = simp to_z-of_z at c.samples_in_seconds.ensures in
-    omega (arith, ints, product, of.since, of.low, c.requires.inside, c.args.self.now.most)
+    omega (arith, ints, product, of.since, of.low, c.requires.inside)

@@ -10,7 +10,7 @@ use Rattle.mem_devices.specs.MemDiskState.{State, after_write, after_cut, after_
 use Rattle.mem_devices.specs.MemDiskWords.{state_of, seen_of, moment_of, images_of, plan_of, faults_of, refused_of}
 use Rattle.mem_devices.specs.declared.mem_disk.MemDisk.{MemDisk}
 
--- A call that reads: it fails just where the plan lists it, and the file stays as it is.
+-- A call that reads: it fails just where the plan lists it or the disk has stopped, and the file stays as it is.
 pub record Reads {T E : Type 0} (old new : MemDisk) (result : Result T E) : Type 0 where
   pub same : seen_of new ≡ seen_of old
   pub goes : Goes moment_of images_of Same old new
@@ -33,8 +33,8 @@ pub record ReadsBytes {E : Type 0} (at : ℕ) (buf_old buf_new : List ℕ) (old 
   pub within : IfOk result (λ n. n ≤ length buf_old)
   pub read : IfOk result (λ n. WhereTold (seen_of old) (λ bytes. ReadsAt (Some bytes) at buf_old n buf_new))
 
--- A call that changes the file, each image of which comes by `step`. One that the plan lists fails, and
--- any other only for want of memory. Where memory is wanting nothing changes; else the call is recorded
+-- A call that changes the file, each image of which comes by `step`. One that the plan lists fails, and so
+-- does each once the disk has stopped; any other only for want of memory. Where memory is wanting nothing changes; else the call is recorded
 -- and leaves the state `then`, of one that is done or fails.
 pub record Changes {T E : Type 0} (step : List ℕ → List ℕ → Type 0) (then : Bool → State) (old new : MemDisk) (result : Result T E) : Type 0 where
   pub goes : Goes moment_of images_of step old new

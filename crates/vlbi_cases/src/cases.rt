@@ -1,30 +1,22 @@
 //! What the lines ask.
 
-use crate::answer::{Answer, print_journal};
 use crate::calls::{
     Called, Device, Faults, Given, Refused, call, call_meeting, call_noted, call_refused,
 };
-use crate::frames::Frame;
-use crate::texts::{append_numbered, bytes_of, replaced};
-use crate::told::print_told;
 use anyhow::{Context, Result, bail};
-use case_texts::{append_runs, set_byte};
+use case_answers::{Answer, print_journal, print_told};
+use case_files::CaseFiles;
 use std::alloc::Global;
-use std::mem;
 use std::thread::Threads;
 use std::time::Clock;
 
-/// The bytes that the lines have described since the last file or piece, the pieces, the files of all cases, and what the
-/// last case has besides: its name, its files, its journal and the bytes that the output takes in one write.
+/// The files and the journal that the lines have described, and what the last case has besides: its name, and the bytes that the output
+/// takes in one write.
 #[derive(Drop)]
 pub struct Cases {
     alloc: Global,
-    bytes: Vec<u8>,
-    pieces: Vec<(String, Vec<u8>)>,
-    common: Vec<(String, Vec<u8>)>,
+    files: CaseFiles,
     name: String,
-    files: Vec<(String, Vec<u8>)>,
-    journal: Vec<u8>,
     most: usize,
 }
 
@@ -32,12 +24,8 @@ impl Cases {
     pub fn new(alloc: Global) -> Cases {
         Cases {
             alloc,
-            bytes: Vec::new(alloc),
-            pieces: Vec::new(alloc),
-            common: Vec::new(alloc),
+            files: CaseFiles::new(alloc),
             name: String::new(alloc),
-            files: Vec::new(alloc),
-            journal: Vec::new(alloc),
             most: 1_000_000,
         }
     }
@@ -56,8 +44,8 @@ impl Cases {
             "count" => self.call_counted(rt, rest)?,
             "meets" => self.call_meeting(rt, rest)?,
             "told" => self.call_noted(rt, rest)?,
-            "show" => print_journal(rt, self.alloc, &self.name, &self.journal)?,
-            "keep" => self.keep_journal(rest)?,
+            "show" => print_journal(rt, self.alloc, &self.name, self.files.journal())?,
+            "keep" => self.files.keep_journal(rest)?,
             "reads" => self.call_with_each_failing(rt, Device::Shelf, rest)?,
             "writes" => self.call_with_each_failing(rt, Device::Output, rest)?,
             "disk" => self.call_with_disk_failing(rt, rest)?,
@@ -69,37 +57,7 @@ impl Cases {
             "broken" => self.call_on_broken_shelf(rt, rest)?,
             "refused" => self.call_with_one_refused(rt, rest)?,
             "cuts" => self.call_over_fronts(rt, rest)?,
-            _ => self.describe(word, rest)?,
-        }
-        Ok(())
-    }
-
-    // A line of a file's bytes, or one that gives them a name.
-    fn describe(&mut self, word: &str, rest: &str) -> Result<()> {
-        match word {
-            "|" => self.append_line(rest)?,
-            "lines" => self.append_lines(rest)?,
-            "bytes" => append_runs(&mut self.bytes, rest)?,
-            "frame" => Frame::read(self.alloc, rest)?.append(&mut self.bytes)?,
-            "frames" => self.append_frames(rest)?,
-            "use" => self.append_pieces(rest)?,
-            "cut" => self.bytes.truncate(rest.parse::<usize>()?),
-            "byte" => set_byte(&mut self.bytes, rest)?,
-            "change" => self.change(rest)?,
-            "piece" => {
-                let piece = self.take_bytes(rest)?;
-                self.pieces.push(piece)?;
-            }
-            "common" => {
-                let file = self.take_bytes(rest)?;
-                self.common.push(file)?;
-            }
-            "file" => {
-                let file = self.take_bytes(rest)?;
-                self.files.push(file)?;
-            }
-            "journal" => self.journal = mem::replace(&mut self.bytes, Vec::new(self.alloc)),
-            _ => bail!("no such line"),
+            _ => self.files.read(word, rest)?,
         }
         Ok(())
     }
@@ -107,63 +65,8 @@ impl Cases {
     // Another case, which has only the files of all cases, and a journal of no bytes.
     fn begin(&mut self, name: &str) -> Result<()> {
         self.name = String::from_str(self.alloc, name)?;
-        self.files = Vec::new(self.alloc);
-        self.journal = Vec::new(self.alloc);
+        self.files.begin();
         self.most = 1_000_000;
-        Ok(())
-    }
-
-    // A text, and a line feed.
-    fn append_line(&mut self, text: &str) -> Result<()> {
-        self.bytes.extend_from_slice(&bytes_of(self.alloc, text)?)?;
-        self.bytes.push(b'\n')?;
-        Ok(())
-    }
-
-    // So many lines, in which `{}` is the number of the line, from 0.
-    fn append_lines(&mut self, rest: &str) -> Result<()> {
-        let (count, text) = rest.split_once(' ').context("a number and a text")?;
-        for number in 0..count.parse::<u32>()? {
-            append_numbered(&mut self.bytes, text, number)?;
-        }
-        Ok(())
-    }
-
-    // So many frames of the same fields, numbered from 0 on.
-    fn append_frames(&mut self, rest: &str) -> Result<()> {
-        let (count, fields) = rest.split_once(' ').unwrap_or((rest, ""));
-        let frame = Frame::read(self.alloc, fields)?;
-        frame.append_many(count.parse::<u32>()?, &mut self.bytes)
-    }
-
-    // The bytes of some pieces.
-    fn append_pieces(&mut self, names: &str) -> Result<()> {
-        for name in names.split_whitespace() {
-            let bytes = find(&self.pieces, name).context("no such piece")?;
-            self.bytes.extend_from_slice(bytes)?;
-        }
-        Ok(())
-    }
-
-    // The first of a text in the bytes so far becomes another text.
-    fn change(&mut self, rest: &str) -> Result<()> {
-        let (old, new) = rest.split_once(" => ").context("two texts")?;
-        let old = bytes_of(self.alloc, old)?;
-        let new = bytes_of(self.alloc, new)?;
-        self.bytes = replaced(self.alloc, &self.bytes, &old, &new)?;
-        Ok(())
-    }
-
-    // The bytes so far, under a name.
-    fn take_bytes(&mut self, name: &str) -> Result<(String, Vec<u8>)> {
-        let bytes = mem::replace(&mut self.bytes, Vec::new(self.alloc));
-        Ok((String::from_str(self.alloc, name)?, bytes))
-    }
-
-    // The journal's bytes are this piece.
-    fn keep_journal(&mut self, name: &str) -> Result<()> {
-        let name = String::from_str(self.alloc, name)?;
-        self.pieces.push((name, self.journal.clone()?))?;
         Ok(())
     }
 
@@ -178,17 +81,10 @@ impl Cases {
         let words = words_of(self.alloc, line)?;
         let given = Given {
             words: &words,
-            files: self.all_files()?,
+            files: self.files.all()?,
             journal,
         };
         call(rt, self.alloc, given, faults)
-    }
-
-    // The case's files, and those of all cases.
-    fn all_files(&self) -> Result<Vec<(String, Vec<u8>)>> {
-        let mut files = self.files.clone()?;
-        files.extend_from_slice(&self.common)?;
-        Ok(files)
     }
 
     // The same over the case's journal, which stays as it is.
@@ -198,7 +94,10 @@ impl Cases {
         line: &str,
         faults: Faults,
     ) -> Result<Answer> {
-        Ok(self.called_on(rt, line, &self.journal, faults)?.answer)
+        Ok(
+            self.called_on(rt, line, self.files.journal(), faults)?
+                .answer,
+        )
     }
 
     // The answer where no call fails.
@@ -209,8 +108,9 @@ impl Cases {
     // The call over the case's journal, which is what it leaves from then on.
     fn called<R: Print + Threads + Sync>(&mut self, rt: &R, line: &str) -> Result<Called> {
         let faults = Faults::none(self.alloc, self.most);
-        let called = self.called_on(rt, line, &self.journal, faults)?;
-        self.journal = called.disk.bytes().to_vec(self.alloc)?;
+        let called = self.called_on(rt, line, self.files.journal(), faults)?;
+        self.files
+            .set_journal(called.disk.bytes().to_vec(self.alloc)?);
         Ok(called)
     }
 
@@ -232,7 +132,7 @@ impl Cases {
         let (from, line) = rest.split_once(' ').context("a number and words")?;
         let from = from.parse::<u64>()?;
         let words = words_of(self.alloc, line)?;
-        let (answer, met) = call_meeting(rt, self.alloc, &words, self.all_files()?, from)?;
+        let (answer, met) = call_meeting(rt, self.alloc, &words, self.files.all()?, from)?;
         print!(rt; "{}, met {met}:", self.name)?;
         answer.print(rt, self.alloc)
     }
@@ -243,7 +143,7 @@ impl Cases {
         let (together, line) = rest.split_once(' ').context("a number and words")?;
         let together = together.parse::<u64>()?;
         let words = words_of(self.alloc, line)?;
-        let (answer, told) = call_noted(rt, self.alloc, &words, self.all_files()?, together)?;
+        let (answer, told) = call_noted(rt, self.alloc, &words, self.files.all()?, together)?;
         print!(rt; "{}, told", self.name)?;
         print_told(rt, self.alloc, &told)?;
         print!(rt; ":")?;
@@ -283,8 +183,8 @@ impl Cases {
         let words = words_of(self.alloc, first)?;
         let given = Given {
             words: &words,
-            files: self.all_files()?,
-            journal: &self.journal,
+            files: self.files.all()?,
+            journal: self.files.journal(),
         };
         match call_refused(rt, self.alloc, given, times)? {
             Refused::Before(times) => println!(rt; "{}, before {times}", self.name)?,
@@ -344,7 +244,7 @@ impl Cases {
         for number in 0..MOST_CALLS {
             let mut faults = Faults::none(self.alloc, self.most);
             faults.disk.push(number)?;
-            let called = self.called_on(rt, line, &self.journal, faults)?;
+            let called = self.called_on(rt, line, self.files.journal(), faults)?;
             if called.answer == whole {
                 return self.print_end(rt, "disk call", number, &whole);
             }
@@ -374,7 +274,7 @@ impl Cases {
         let mut seen = Vec::new(self.alloc);
         for number in 0..MOST_CALLS {
             let faults = Faults::one(self.alloc, self.most, device, number)?;
-            let called = self.called_on(rt, line, &self.journal, faults)?;
+            let called = self.called_on(rt, line, self.files.journal(), faults)?;
             if called.answer == whole {
                 return self.print_end(rt, device.call_name(), number, &whole);
             }
@@ -426,7 +326,7 @@ impl Cases {
             for long in [false, true] {
                 let mut faults = Faults::none(self.alloc, self.most);
                 faults.stop = Some(stop);
-                let called = self.called_on(rt, first, &self.journal, faults)?;
+                let called = self.called_on(rt, first, self.files.journal(), faults)?;
                 if called.answer == *whole {
                     return Ok(true);
                 }
@@ -452,14 +352,14 @@ impl Cases {
     // say of a front that it is no journal of a part at its end, the answer is printed.
     fn call_over_fronts<R: Print + Threads + Sync>(&self, rt: &R, rest: &str) -> Result<()> {
         let (file, line) = rest.split_once(' ').context("a file and words")?;
-        let image = find(&self.files, file).context("no such file")?;
+        let image = self.files.file(file).context("no such file")?;
         let words = words_of(self.alloc, line)?;
         for length in 0..image.len() {
             let front = image.get(..length).context("a front")?;
             let given = Given {
                 words: &words,
-                files: self.files_with(file, front)?,
-                journal: &self.journal,
+                files: self.files.all_behind(file, front)?,
+                journal: self.files.journal(),
             };
             let none = Faults::none(self.alloc, self.most);
             let answer = call(rt, self.alloc, given, none)?.answer;
@@ -474,15 +374,6 @@ impl Cases {
             self.name
         )?;
         self.whole(rt, line)?.print(rt, self.alloc)
-    }
-
-    // The files of a call, of which that of a name has these bytes.
-    fn files_with(&self, name: &str, bytes: &[u8]) -> Result<Vec<(String, Vec<u8>)>> {
-        let mut files = Vec::new(self.alloc);
-        let name = String::from_str(self.alloc, name)?;
-        files.push((name, bytes.to_vec(self.alloc)?))?;
-        files.extend_from_slice(&self.all_files()?)?;
-        Ok(files)
     }
 
     // The calls of `run` with these options, by 1, 3 and 64 workers and pieces of 64, 65, 127 and 4,194,304 samples, each over a
@@ -545,14 +436,4 @@ fn words_of(alloc: Global, line: &str) -> Result<Vec<String>> {
         words.push(String::from_str(alloc, word)?)?;
     }
     Ok(words)
-}
-
-// The bytes under a name.
-fn find<'a>(pieces: &'a [(String, Vec<u8>)], wanted: &str) -> Option<&'a [u8]> {
-    for (name, bytes) in pieces {
-        if name.as_str() == wanted {
-            return Some(bytes.as_slice());
-        }
-    }
-    None
 }

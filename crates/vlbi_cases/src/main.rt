@@ -2,12 +2,8 @@
 //! and the output of each call are printed. The head of the file `stdin` says what the lines mean.
 #![tactic(auto)]
 
-mod answer;
 mod calls;
 mod cases;
-mod frames;
-mod texts;
-mod told;
 
 use crate::cases::Cases;
 use anyhow::Result;

@@ -1,6 +1,6 @@
 -- Cells add up in any grouping, and so a cell over a range is the sum of the cells over its parts.
 use Rattle.std.specs.Prelude.{if◌then◌else◌, IfSome}
-use Rattle.std.proofs.Common.{◌≡◌, ℕ, zero, suc, ◌+◌, ◌-◌, ◌*◌, ◌≤◌, ◌<◌, Bool, true, false, ℤ, pos, negsuc, ◌+ℤ◌, ◌*ℤ◌, ◌≤ℤ◌, neg_ℤ, FitsSigned, w8, to_z, of_z, Some, None, refl, sym, ap, ◌∙◌, arith, add-zero, add-suc}
+use Rattle.std.proofs.Common.{◌≡◌, ℕ, zero, suc, ◌+◌, ◌-◌, ◌*◌, ◌≤◌, ◌<◌, Bool, true, false, ℤ, pos, negsuc, ◌+ℤ◌, ◌*ℤ◌, ◌≤ℤ◌, neg_ℤ, ◌-ℤ◌, FitsSigned, w8, w64, to_z, of_z, Some, None, refl, sym, ap, ◌∙◌, arith, add-zero, add-suc}
 use Rattle.std.proofs.lemmas.Int.{ints, to_z-of_z, unsigned_abs-mul}
 use Rattle.std.proofs.lemmas.Nat.{mul-le}
 use Rattle.std.specs.Int.RustNames.{unsigned_abs}
@@ -142,6 +142,34 @@ product-small x y h k =
     let small : unsigned_abs x * unsigned_abs y ≤ 225 = mul-le (unsigned_abs x) (unsigned_abs y) 15 15 (abs-small x h) (abs-small y k) in
     let size : unsigned_abs (x *ℤ y) ≤ 225 = omega (arith, unsigned_abs-mul x y) in
     within_abs (x *ℤ y) 225 size
+
+-- a product of two small components, as it is passed on with another
+abbrev pub IsPart : ℤ → Type 0
+IsPart p = (neg_ℤ (pos 225) ≤ℤ p) × (p ≤ℤ pos 225)
+
+pub passed_small : (x : ℤ) → IsSmall x → IsSmall (to_z w8 (of_z w8 x))
+passed_small x h = (omega (arith, ints), omega (arith, ints))
+
+passed_part : (p : ℤ) → IsPart p → to_z w64 (of_z w64 p) ≡ p
+passed_part p h = omega (arith, ints)
+
+sum-fits : (p q : ℤ) → IsPart p → IsPart q → FitsSigned w64 (p +ℤ q)
+sum-fits p q h k = omega (arith, ints)
+
+difference-fits : (p q : ℤ) → IsPart p → IsPart q → FitsSigned w64 (p -ℤ q)
+difference-fits p q h k = omega (arith, ints)
+
+pub passed_sum-fits : (p q : ℤ) → IsPart p → IsPart q → FitsSigned w64 (to_z w64 (of_z w64 p) +ℤ to_z w64 (of_z w64 q))
+passed_sum-fits p q h k = rw (passed_part p h, passed_part q k) (sum-fits p q h k)
+
+pub passed_difference-fits : (p q : ℤ) → IsPart p → IsPart q → FitsSigned w64 (to_z w64 (of_z w64 p) -ℤ to_z w64 (of_z w64 q))
+passed_difference-fits p q h k = rw (passed_part p h, passed_part q k) (difference-fits p q h k)
+
+pub passed_sum : (p q : ℤ) → IsPart p → IsPart q → to_z w64 (of_z w64 (to_z w64 (of_z w64 p) +ℤ to_z w64 (of_z w64 q))) ≡ p +ℤ q
+passed_sum p q h k = to_z-of_z w64 _ (passed_sum-fits p q h k) ∙ (λ i. passed_part p h i +ℤ passed_part q k i)
+
+pub passed_difference : (p q : ℤ) → IsPart p → IsPart q → to_z w64 (of_z w64 (to_z w64 (of_z w64 p) -ℤ to_z w64 (of_z w64 q))) ≡ p -ℤ q
+passed_difference p q h k = to_z-of_z w64 _ (passed_difference-fits p q h k) ∙ (λ i. passed_part p h i -ℤ passed_part q k i)
 
 pub no_cell-small : IsProduct no_cell
 no_cell-small = record {

@@ -1,6 +1,7 @@
 //! The stations of a job.
-ghost use Rattle.std.specs.Prelude.{◌≡◌, ◌≢◌, ◌<◌, ◌++◌, ◌∷◌, [], length, map, slice_get, None, IfSome, IfNone, IfOk, OnOk, AllPairs, is_some, option_to_list, true};
-ghost use Rattle.std.specs.{List.{All}, Str.{IsUtf8}};
+ghost use Rattle.std.specs.Prelude.{◌≡◌, ◌≢◌, ◌<◌, ◌++◌, ◌∷◌, [], length, map, slice_get, None, IfSome, IfNone, IfOk, OnOk, AllPairs, Some, is_some, option_to_list, true};
+ghost use Rattle.std.specs.{List.{All}, Result.{result_map_both}, Str.{IsUtf8}};
+ghost use Rattle.named_list.specs.Named.{put};
 ghost use Rattle.job_text.specs.{Ranges.{IsName, IsStationOf}, Values.{field, station_in}, Faults.{station_with, has_channel, station_fault, double_or_range, part_fault}};
 ghost use Rattle.job_text.specs.{Growing.{Grows, changed, with_part}, Places.{with_name}};
 
@@ -43,6 +44,22 @@ fn put_name(
     if let Part::Chan = part {
         channels.put(alloc, name, ())?;
     }
+    Ok(())
+}
+
+// Puts a station behind the others, and its place under its key.
+fn put_station(
+    alloc: Global,
+    list: &mut Vec<Station>,
+    places: &mut Named<usize>,
+    station: Station,
+) -> Result<(), AllocError>
+    ensures list { OnOk result (list.new.items ≡ list.old.items ++ station ∷ []) }
+    ensures places { OnOk result (places.new ≡ put places.old station.key (length list.old.items)) }
+{
+    let i = list.len();
+    list.push(station)?;
+    places.put(alloc, list[i].key.bytes(), i)?;
     Ok(())
 }
 
@@ -96,8 +113,7 @@ impl Stations {
             mut places,
             channels,
         } = self;
-        places.put(alloc, station.key.bytes(), list.len())?;
-        list.push(station)?;
+        put_station(alloc, &mut list, &mut places, station)?;
         Ok(Stations {
             list,
             places,
@@ -105,10 +121,13 @@ impl Stations {
         })
     }
 
-    // Takes the line of a station.
-    pub(crate) fn take_station(self, alloc: Global, fields: &[&[u8]]) -> Result<Self, JobKind>
-        ensures { Grows (double_or_range (is_some (station_with self (field (map (λ field. field.now) fields.now) 0))) (station_in (map (λ field. field.now) fields.now)))
-            (self ++ option_to_list (station_in (map (λ field. field.now) fields.now))) result }
+    // The station that a line states, where its key is new.
+    fn new_station(&self, alloc: Global, fields: &[&[u8]]) -> Result<Station, JobKind>
+        ensures stated { Grows (double_or_range (is_some (station_with self.now (field (map (λ field. field.now) fields.now) 0))) (station_in (map (λ field. field.now) fields.now)))
+            (station_in (map (λ field. field.now) fields.now)) (result_map_both Some (λ kind. kind) result) }
+        ensures new { IfOk result (λ station. station_with self.now station.key ≡ None) }
+        ensures bare { IfOk result (λ station. station.chans ≡ []) }
+        ensures sound { IfOk result IsStationOf }
     {
         if self.place(field(fields, 0)).is_some() {
             return Err(JobKind::Double);
@@ -116,6 +135,15 @@ impl Stations {
         let Some(station) = Station::stated(alloc, fields)? else {
             return Err(JobKind::Range);
         };
+        Ok(station)
+    }
+
+    // Takes the line of a station.
+    pub(crate) fn take_station(self, alloc: Global, fields: &[&[u8]]) -> Result<Self, JobKind>
+        ensures { Grows (double_or_range (is_some (station_with self (field (map (λ field. field.now) fields.now) 0))) (station_in (map (λ field. field.now) fields.now)))
+            (self ++ option_to_list (station_in (map (λ field. field.now) fields.now))) result }
+    {
+        let station = self.new_station(alloc, fields)?;
         Ok(self.add(alloc, station)?)
     }
 

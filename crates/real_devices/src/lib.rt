@@ -4,8 +4,6 @@
 
 mod begun;
 mod file_disk;
-#[cfg(test)]
-mod file_disk_tests;
 mod file_id;
 mod file_shelf;
 mod held_streams;
@@ -13,8 +11,6 @@ mod named_files;
 mod path_name;
 mod placed_file;
 mod std_sink;
-#[cfg(test)]
-mod tests;
 
 pub use file_disk::FileDisk;
 pub use file_id::FileId;

@@ -1,3 +1,0 @@
-mod loops;
-mod shelf;
-mod sink;

@@ -2,6 +2,7 @@
 use Rattle.std.proofs.Common.{◌≡◌, ℕ, ◌+◌, ◌<◌, Bool, true, false, cond, List, [], ◌∷◌, take, length, get_or, None, Some, Option, ap, refl, sym, ◌∙◌, bytes_eq, is_some, ◌||◌, slice_get, map, ◌++◌, arith}
 use Rattle.std.specs.List.{list_any}
 use Rattle.std.proofs.lemmas.List.{get_or-map, length-map, map_more}
+use Rattle.std.proofs.lemmas.List.Folds.{list_any_more}
 use Rattle.std.proofs.lemmas.Option.{slice_get_within, get_or_from_slice_get}
 use Rattle.std.proofs.lemmas.Slice.Eq.{bytes_eq-Decides}
 use Rattle.named_list.specs.Named.{named, names, put}
@@ -59,6 +60,17 @@ any-names {A} (x ∷ xs) name = by (bytes_eq x.0 name) (any-names xs name)
 pub get_or-names : {A : Type 0} (xs : List (List ℕ × A)) (i : ℕ) (x : List ℕ × A) (d : List ℕ) → slice_get xs i ≡ Some x → get_or (names xs) i d ≡ x.0
 get_or-names {A} xs i x d is =
     get_or-map (λ (y : List ℕ × A). y.0) xs i x d (slice_get_within xs i x is) ∙ ap (λ (y : List ℕ × A). y.0) (get_or_from_slice_get xs i x x is)
+
+-- whether one of some things passes a test, one more of them
+pub any-turn : {X : Type 0} (p : X → Bool) (start : Bool) (xs : List X) (i : ℕ) (x : X) (a b : Bool) → i < length xs → x ≡ get_or xs i x
+    → a ≡ (start || list_any p (take i xs)) → b ≡ (a || p x) → b ≡ (start || list_any p (take (i + 1) xs))
+any-turn p start xs i x a b less is so_far new =
+    new ∙ ap (λ t. t || p x) so_far ∙ by start (list_any p (take i xs)) ∙ ap (λ y. start || (list_any p (take i xs) || p y)) is
+    ∙ ap (λ t. start || t) (sym (list_any_more p xs i x less))
+  where
+    by : (s t : Bool) → ((s || t) || p x) ≡ (s || (t || p x))
+    by true t = refl
+    by false t = refl
 
 pub any-map : {X Y : Type 0} (p : Y → Bool) (h : X → Y) (xs : List X) → list_any p (map h xs) ≡ list_any (λ x. p (h x)) xs
 any-map p h [] = refl

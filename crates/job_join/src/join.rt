@@ -1,7 +1,8 @@
 //! A job and a schedule, joined.
-ghost use Rattle.std.specs.Prelude.{◌≡◌, ◌≤◌, ℕ, None, IfOk, IfSome, unwrap_or};
+ghost use Rattle.std.specs.Prelude.{◌≡◌, ◌<◌, ◌≤◌, ◌^◌, ℕ, None, map, length, IfOk, IfSome, unwrap_or};
+ghost use Rattle.named_list.specs.Named.{names};
 ghost use Rattle.scan_list.specs.Sound.{AreScans};
-ghost use Rattle.job_join.specs.{Joined.{refusal_of, plan_of, joined, Gives}, Joining.{scans_of, IsJoining}};
+ghost use Rattle.job_join.specs.{Joined.{refusal_of, plan_of, product_plan, joined, Gives}, Joining.{scans_of, IsJoining}};
 
 use crate::fault::JoinFault;
 use crate::joining::Joining;
@@ -11,7 +12,7 @@ use crate::plans::{channel_names, channel_numbers};
 use crate::refusal::go_together;
 use crate::scans::scan_plans;
 use item_list::ItemList;
-use job_plan::{Plan, Plan0};
+use job_plan::{Plan, Plan0, ProductPlan};
 use job_text::Job;
 use scan_list::ScanList;
 use std::alloc::{AllocError, Global};
@@ -23,6 +24,15 @@ fn rate_in(j: &Joining) -> u32
     j.rate
 }
 
+// The products of the plan.
+fn products_in(alloc: Global, j: &Joining) -> Result<Vec<ProductPlan>, AllocError>
+    requires { length (names j.now.channels) < 2 ^ 32 }
+    ensures { IfOk result (λ all. all.items ≡ map (product_plan (names j.now.channels)) j.now.job.now.products) }
+{
+    let numbers = channel_numbers(alloc, &j.channels)?;
+    product_plans(alloc, j, &numbers)
+}
+
 // The plan of a job and the scans of a schedule that go together.
 fn plan_of(alloc: Global, j: &Joining) -> Result<Plan0, AllocError>
     requires joining { IsJoining j.now }
@@ -32,8 +42,7 @@ fn plan_of(alloc: Global, j: &Joining) -> Result<Plan0, AllocError>
 {
     let stations = station_plans(alloc, j)?;
     let channels = channel_names(alloc, &j.channels)?;
-    let numbers = channel_numbers(alloc, &j.channels)?;
-    let products = product_plans(alloc, j, &numbers)?;
+    let products = products_in(alloc, j)?;
     let scans = scan_plans(alloc, j)?;
     let plan = Plan {
         lags: lags(j.job),

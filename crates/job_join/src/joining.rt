@@ -18,7 +18,6 @@ use std::alloc::{AllocError, Global};
 
 /// A job, the scans of a schedule with the job's stations in them, the names of these scans, the keys of the stations of those
 /// that are taken, the channels of the job's products in the order of their first use, and the job's sample rate.
-#[derive(Drop)]
 pub(crate) struct Joining<'a> {
     pub job: &'a Job,
     pub places: Vec<Place<'a>>,
@@ -26,6 +25,20 @@ pub(crate) struct Joining<'a> {
     pub station_keys: Named<()>,
     pub channels: Named<()>,
     pub rate: u32,
+}
+
+// Written out, so that a function that drops one calls this, and does not drop it field by field.
+impl Drop for Joining<'_> {
+    fn drop(self) {
+        let Joining {
+            job: _,
+            places: _,
+            scan_names: _,
+            station_keys: _,
+            channels: _,
+            rate: _,
+        } = self;
+    }
 }
 
 impl<'a> Joining<'a> {

@@ -45,16 +45,30 @@ fn seconds_in(place: &Place, rate: u32) -> u128
     samples_of(&place.stands, rate).div_ceil(u128::from(rate))
 }
 
+// The seconds of a scan that is taken, where they are more than `most`.
+fn seconds_past(place: &Place, rate: u32, most: u128) -> Option<u128>
+    requires { 0 < rate }
+    ensures { result ≡ (if place.now.taken then (if nat_lt most (held_seconds rate place.now) then Some (held_seconds rate place.now) else None) else None) }
+{
+    if !place.taken {
+        return None;
+    }
+    let seconds = seconds_in(place, rate);
+    if most < seconds { Some(seconds) } else { None }
+}
+
 /// The seconds of the first scan that is taken and has more than `most`.
 pub(crate) fn seconds_over(places: &[Place], rate: u32, most: u128) -> Option<u128>
     requires { 0 < rate }
     ensures { result ≡ find (λ n. nat_lt most n) (map (held_seconds rate) (filter (λ (p : Place). p.taken) places.now)) }
 {
-    places
-        .iter()
-        .filter(|place| place.taken)
-        .map(|place| seconds_in(place, rate))
-        .find(|seconds| most < *seconds)
+    for place in places {
+        match seconds_past(place, rate, most) {
+            None => {}
+            Some(seconds) => return Some(seconds),
+        }
+    }
+    None
 }
 
 // Whether two stations make a baseline.

@@ -43,6 +43,25 @@ fn make_place<'a>(
     })
 }
 
+// The scans of a schedule, in its order, by the numbers of the job's stations.
+fn numbered_places<'a>(
+    alloc: Global,
+    numbers: &Named<usize>,
+    job: &'a Job,
+    scans: &'a [Scan],
+) -> Result<Vec<Place<'a>>, AllocError>
+    requires numbers { (q : List ℕ) → named numbers.now q ≡ position (λ (s : StationFields). bytes_eq s.key q) job.now.stations }
+    requires scans { AreScans scans.now }
+    ensures { IfOk result (λ places. map visit_of places.items ≡ map (visit_in job.now) scans.now) }
+{
+    let mut places = Vec::new(alloc);
+    for scan in scans {
+        let place = make_place(alloc, numbers, job, scan)?;
+        places.push(place)?;
+    }
+    Ok(places)
+}
+
 /// The scans of a schedule, in its order.
 pub(crate) fn places_of<'a>(
     alloc: Global,
@@ -53,12 +72,7 @@ pub(crate) fn places_of<'a>(
     ensures { IfOk result (λ places. map visit_of places.items ≡ map (visit_in job.now) scans.now) }
 {
     let numbers = station_numbers(alloc, stations(job))?;
-    let mut places = Vec::new(alloc);
-    for scan in scans {
-        let place = make_place(alloc, &numbers, job, scan)?;
-        places.push(place)?;
-    }
-    Ok(places)
+    numbered_places(alloc, &numbers, job, scans)
 }
 
 // Puts the keys of the stations of a scan that is taken into a set.

@@ -12,8 +12,8 @@ use Rattle.job_join.proofs.join.plan_of.Goals as goal
 pub station_plans-requires : goal.station_plans-requires
 station_plans-requires c = frames-All c.args.j.now c.requires.joining c.requires.scans c.requires.accepted.0 c.requires.accepted.1
 
-pub product_plans-requires-clause-few : goal.product_plans-requires-clause-few
-product_plans-requires-clause-few c =
+pub products_in-requires : goal.products_in-requires
+products_in-requires c =
     let j : Joining = c.args.j.now in
     let few : length (channels_of j.job.now) ≤ 64 = (sizes-within j c.requires.joining c.requires.scans c.requires.accepted.0 c.requires.accepted.1).channels in
     let same : length (names j.channels) ≡ length (channels_of j.job.now) = ap length c.requires.joining.channels in

@@ -1,5 +1,5 @@
 //! Slow files.
-ghost use Rattle.std.specs.Prelude.{None, false};
+ghost use Rattle.std.specs.Prelude.{None, Some, false};
 
 use real_devices::{Kind, NamedFiles, PlacedFile};
 use std::io;
@@ -8,6 +8,7 @@ use std::io;
 /// is told if it is `measured`.
 #[derive(Clone, Copy)]
 pub struct SlowFile {
+    bytes: [u8; 7],
     failing: u64,
     measured: bool,
     pub reads: u64,
@@ -16,6 +17,7 @@ pub struct SlowFile {
 impl SlowFile {
     pub fn new(failing: u64, measured: bool) -> SlowFile {
         SlowFile {
+            bytes: [1, 2, 3, 4, 5, 6, 7],
             failing,
             measured,
             reads: 0,
@@ -24,13 +26,13 @@ impl SlowFile {
 }
 
 impl PlacedFile for SlowFile {
-    ghost told = { λ _. None };
+    ghost told = { λ file. Some file.bytes };
 
     ghost never_fails = { λ _. false };
 
     fn size(&mut self) -> io::Result<u64> {
         if self.measured {
-            Ok(7)
+            Ok(self.bytes.len() as u64)
         } else {
             Err(io::Error::from(io::ErrorKind::Other))
         }
@@ -42,8 +44,11 @@ impl PlacedFile for SlowFile {
         if read == self.failing {
             return Err(io::Error::from(io::ErrorKind::Other));
         }
-        let bytes = [1, 2, 3, 4, 5, 6, 7];
-        let rest = bytes.get(at as usize..).unwrap_or(&[]);
+        let at = at as usize;
+        if at >= self.bytes.len() {
+            return Ok(0);
+        }
+        let rest = &self.bytes[at..];
         let n = rest.len().min(buf.len()).min(3);
         buf[..n].copy_from_slice(&rest[..n]);
         Ok(n)

@@ -9,10 +9,9 @@ ghost use Rattle.run_ready.specs.{Outcome.{Joins, JoinOf}, Identities.{schedule_
 use crate::scans::{JobRead, ScheduleRead, load_job, load_schedule, plan_of};
 use dev_traits::Shelf;
 use job_plan::Plan0;
-use job_text::{Job, inline_schedule};
+use job_text::inline_schedule;
 use num_time::Name;
 use run_notes::Refusal;
-use scan_list::ScanList;
 use std::alloc::Global;
 
 /// The plan of a job, the samples of an epoch in force, the text of the job's schedule, empty where there is none, and that of the
@@ -45,34 +44,32 @@ fn in_force(asked: Option<u64>, plan: &Plan0) -> u64
     }
 }
 
-// A job and a schedule with these texts, joined.
+// A job and a schedule that are read, joined.
 fn joins(
     alloc: Global,
-    schedule: Vec<u8>,
-    text: Vec<u8>,
-    job: &Job,
-    list: &ScanList,
+    schedule: ScheduleRead,
+    read: JobRead,
     epoch: Option<u64>,
 ) -> Result<Joined, Refusal>
-    requires short_schedule { length schedule.items ≤ 8388608 }
-    requires short_text { length text.items ≤ 4194304 }
-    requires few { All HasFewFiles job.now.stations }
-    requires few_scans { length list.now.scans ≤ 8388608 }
+    requires short_schedule { length schedule.text.items ≤ 8388608 }
+    requires short_text { length read.text.items ≤ 4194304 }
+    requires few { All HasFewFiles read.job.stations }
+    requires few_scans { length schedule.list.scans ≤ 8388608 }
     requires epoch { IfSome epoch (λ e. (1 ≤ e) × (e ≤ 4194304)) }
-    ensures plan { IfOk result (λ j. Joins (λ stations. None) job.now epoch list.now.scans (Ok j.plan)) }
+    ensures plan { IfOk result (λ j. Joins (λ stations. None) read.job epoch schedule.list.scans (Ok j.plan)) }
     ensures epoch { IfOk result (λ j. j.epoch ≡ unwrap_or epoch j.plan.epoch) }
-    ensures schedule { IfOk result (λ j. j.schedule.items ≡ schedule.items) }
-    ensures text { IfOk result (λ j. j.text.items ≡ text.items) }
-    ensures cause { IfErr result (λ r. IsCause r (Joins (λ stations. None) job.now epoch list.now.scans)) }
+    ensures schedule { IfOk result (λ j. j.schedule.items ≡ schedule.text.items) }
+    ensures text { IfOk result (λ j. j.text.items ≡ read.text.items) }
+    ensures cause { IfErr result (λ r. IsCause r (Joins (λ stations. None) read.job epoch schedule.list.scans)) }
     ensures stage { IfErr result IsOfTexts }
 {
-    let plan = plan_of(alloc, job, list, epoch)?;
+    let plan = plan_of(alloc, &read.job, &schedule.list, epoch)?;
     let epoch = in_force(epoch, &plan);
     Ok(Joined {
         plan,
         epoch,
-        schedule,
-        text,
+        schedule: schedule.into_text(),
+        text: read.into_text(),
     })
 }
 
@@ -96,8 +93,8 @@ fn join_inline<F: Shelf>(
 {
     let read = load_job(alloc, shelf, job, true)?;
     let list = inline_schedule(alloc, &read.job)?;
-    let schedule = Vec::new(alloc);
-    joins(alloc, schedule, read.text, &read.job, &list, epoch)
+    let text = Vec::new(alloc);
+    joins(alloc, ScheduleRead { text, list }, read, epoch)
 }
 
 // A job beside a schedule, which is read first, joined.
@@ -122,14 +119,7 @@ fn join_beside<F: Shelf>(
 {
     let schedule = load_schedule(alloc, shelf, vex)?;
     let read = load_job(alloc, shelf, job, false)?;
-    joins(
-        alloc,
-        schedule.text,
-        read.text,
-        &read.job,
-        &schedule.list,
-        epoch,
-    )
+    joins(alloc, schedule, read, epoch)
 }
 
 /// Reads a job beside its schedule or, where there is none, by itself, and joins them: the schedule comes first, then the job, then

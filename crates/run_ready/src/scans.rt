@@ -72,11 +72,29 @@ pub struct ScheduleRead {
     pub list: ScanList,
 }
 
+impl ScheduleRead {
+    /// The text alone.
+    pub fn into_text(self) -> Vec<u8>
+        ensures { result ≡ self.text }
+    {
+        self.text
+    }
+}
+
 /// A job, and its text.
 #[derive(Drop)]
 pub struct JobRead {
     pub text: Vec<u8>,
     pub job: Job,
+}
+
+impl JobRead {
+    /// The text alone.
+    pub fn into_text(self) -> Vec<u8>
+        ensures { result ≡ self.text }
+    {
+        self.text
+    }
 }
 
 /// The schedule under a name.

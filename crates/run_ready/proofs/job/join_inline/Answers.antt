@@ -67,7 +67,7 @@ joins-requires-clause-few_scans g c =
 
 pub returns-clause-schedule : goal.returns-clause-schedule
 returns-clause-schedule g c =
-    IfOk-weaker c.joins.result _ _ (λ j is. WhereTold-always (g.F.Shelf.told c.args.shelf.now) _ (λ files. is ∙ c.new-schedule.ensures.items)) c.joins.ensures.schedule
+    IfOk-weaker c.joins.result _ _ (λ j is. WhereTold-always (g.F.Shelf.told c.args.shelf.now) _ (λ files. is ∙ c.new-text.ensures.items)) c.joins.ensures.schedule
 
 pub returns-clause-text : goal.returns-clause-text
 returns-clause-text g c =
@@ -77,4 +77,4 @@ returns-clause-text g c =
     c.joins.ensures.text
 
 pub joins-requires-clause-short_schedule : goal.joins-requires-clause-short_schedule
-joins-requires-clause-short_schedule g c = omega (arith, ap length c.new-schedule.ensures.items)
+joins-requires-clause-short_schedule g c = omega (arith, ap length c.new-text.ensures.items)

@@ -10,8 +10,8 @@ use Rattle.run_ready.proofs.job.joins.Goals as goal
 
 pub returns-in_err-plan-clause-cause : goal.returns-in_err-plan-clause-cause
 returns-in_err-plan-clause-cause c =
-    let job = c.args.job.now in
-    let scans = c.args.list.now.scans in
+    let job = c.args.read.job in
+    let scans = c.args.schedule.list.scans in
     let p = err_from_is_err_and c.from_residual.result c.from_residual.ensures.1 in
     rw (p.1, p.2)
     (IsCause-first c.in_err-plan.field-0.0 (Is (answered (cause_answer job scans) (joined job (unwrap_or c.args.epoch job.epoch) scans))) (λ (plan : Plan). Is (Ok plan))

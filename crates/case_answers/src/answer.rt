@@ -7,22 +7,11 @@ use std::alloc::Global;
 use vis_records::read_all;
 
 /// The status of a call, its note, and what it appended to the output.
-#[derive(PartialEq)]
+#[derive(PartialEq, Drop)]
 pub struct Answer {
     pub status: u8,
     pub note: Vec<u8>,
     pub output: Vec<u8>,
-}
-
-// Written out, so that a function that drops one calls this, and does not drop it field by field.
-impl Drop for Answer {
-    fn drop(self) {
-        let Answer {
-            status: _,
-            note: _,
-            output: _,
-        } = self;
-    }
 }
 
 impl Answer {

@@ -41,25 +41,13 @@ impl Device {
 
 /// The calls of the devices that fail: those of the shelf, of the journal's disk, and the writes of the output, of which one
 /// takes so many bytes; and after how many calls the disk stops, if it does.
+#[derive(Drop)]
 pub struct Faults {
     pub reads: Vec<u64>,
     pub disk: Vec<u64>,
     pub writes: Vec<u64>,
     pub most: usize,
     pub stop: Option<u64>,
-}
-
-// Written out, so that a function that drops one calls this, and does not drop it field by field.
-impl Drop for Faults {
-    fn drop(self) {
-        let Faults {
-            reads: _,
-            disk: _,
-            writes: _,
-            most: _,
-            stop: _,
-        } = self;
-    }
 }
 
 impl Faults {
@@ -87,21 +75,11 @@ impl Faults {
 }
 
 /// What a call with these words answers, how many pieces passed the gate, and the journal's disk after it.
+#[derive(Drop)]
 pub struct Called {
     pub answer: Answer,
     pub pieces: u64,
     pub disk: MemDisk,
-}
-
-// Written out, so that a function that drops one calls this, and does not drop it field by field.
-impl Drop for Called {
-    fn drop(self) {
-        let Called {
-            answer: _,
-            pieces: _,
-            disk: _,
-        } = self;
-    }
 }
 
 /// What a call is given: its words, the files of its shelf, and the bytes that its journal begins with.

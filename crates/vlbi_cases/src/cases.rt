@@ -87,7 +87,7 @@ impl Cases {
         call(rt, self.alloc, given, faults)
     }
 
-    // The same over the case's journal, which stays as it is.
+    // The answer over the case's journal, which stays as it is.
     fn answer<R: Print + Threads + Sync>(
         &self,
         rt: &R,
@@ -100,9 +100,20 @@ impl Cases {
         )
     }
 
-    // The answer where no call fails.
+    // The answer over a journal where no call fails.
+    fn answer_over<R: Print + Threads + Sync>(
+        &self,
+        rt: &R,
+        line: &str,
+        journal: &[u8],
+    ) -> Result<Answer> {
+        let none = Faults::none(self.alloc, self.most);
+        Ok(self.called_on(rt, line, journal, none)?.answer)
+    }
+
+    // The answer where no call fails, over the case's journal, which stays as it is.
     fn whole<R: Print + Threads + Sync>(&self, rt: &R, line: &str) -> Result<Answer> {
-        self.answer(rt, line, Faults::none(self.alloc, self.most))
+        self.answer_over(rt, line, self.files.journal())
     }
 
     // The call over the case's journal, which is what it leaves from then on.
@@ -179,14 +190,7 @@ impl Cases {
     fn call_with_one_refused<R: Print + Threads + Sync>(&self, rt: &R, rest: &str) -> Result<()> {
         let (times, rest) = rest.split_once(' ').context("a number and words")?;
         let (first, then) = rest.split_once(" => ").unwrap_or((rest, ""));
-        let times = times.parse::<u64>()?;
-        let words = words_of(self.alloc, first)?;
-        let given = Given {
-            words: &words,
-            files: self.files.all()?,
-            journal: self.files.journal(),
-        };
-        match call_refused(rt, self.alloc, given, times)? {
+        match self.refused(rt, first, times.parse::<u64>()?)? {
             Refused::Before(times) => println!(rt; "{}, before {times}", self.name)?,
             Refused::Behind(times, answer) => {
                 print!(rt; "{}, behind {times}:", self.name)?;
@@ -208,12 +212,27 @@ impl Cases {
         Ok(())
     }
 
+    // A call behind so many allocations, in a program one of which is refused.
+    fn refused<R: Print + Threads + Sync>(
+        &self,
+        rt: &R,
+        line: &str,
+        times: u64,
+    ) -> Result<Refused> {
+        let words = words_of(self.alloc, line)?;
+        let given = Given {
+            words: &words,
+            files: self.files.all()?,
+            journal: self.files.journal(),
+        };
+        call_refused(rt, self.alloc, given, times)
+    }
+
     // The call over what another left of the journal.
     fn call_then<R: Print + Threads + Sync>(&self, rt: &R, line: &str, left: &[u8]) -> Result<()> {
-        let faults = Faults::none(self.alloc, self.most);
-        let called = self.called_on(rt, line, left, faults)?;
+        let answer = self.answer_over(rt, line, left)?;
         print!(rt; "{}, and then:", self.name)?;
-        called.answer.print(rt, self.alloc)
+        answer.print(rt, self.alloc)
     }
 
     // The call again and again, with one call of a device failing after the other, until the answer is that without.
@@ -242,24 +261,12 @@ impl Cases {
     fn call_with_disk_failing<R: Print + Threads + Sync>(&self, rt: &R, line: &str) -> Result<()> {
         let whole = self.whole(rt, line)?;
         for number in 0..MOST_CALLS {
-            let mut faults = Faults::none(self.alloc, self.most);
-            faults.disk.push(number)?;
+            let faults = Faults::one(self.alloc, self.most, Device::Disk, number)?;
             let called = self.called_on(rt, line, self.files.journal(), faults)?;
             if called.answer == whole {
                 return self.print_end(rt, "disk call", number, &whole);
             }
-            let again = self.called_on(
-                rt,
-                line,
-                called.disk.bytes(),
-                Faults::none(self.alloc, self.most),
-            )?;
-            if !called.answer.is_journal_fault(&whole.output) || again.answer != whole {
-                print!(rt; "{}, disk call {number} failing:", self.name)?;
-                called.answer.print(rt, self.alloc)?;
-                print!(rt; "{}, and then:", self.name)?;
-                again.answer.print(rt, self.alloc)?;
-            }
+            self.print_unlike(rt, line, Device::Disk, number, &called, &whole)?;
         }
         bail!("too many calls of the disk")
     }
@@ -278,25 +285,47 @@ impl Cases {
             if called.answer == whole {
                 return self.print_end(rt, device.call_name(), number, &whole);
             }
-            let none = Faults::none(self.alloc, self.most);
-            let left = self
-                .called_on(rt, second, called.disk.bytes(), none)?
-                .answer;
-            if !seen.contains(&left) {
-                print!(rt; "{}, left by a {} failing:", self.name, device.call_name())?;
-                left.print(rt, self.alloc)?;
-                seen.push(left)?;
-            }
-            let none = Faults::none(self.alloc, self.most);
-            let again = self.called_on(rt, line, called.disk.bytes(), none)?.answer;
-            if !is_fault_of(device, line, &called.answer, &whole) || again != whole {
-                print!(rt; "{}, {} {number} failing:", self.name, device.call_name())?;
-                called.answer.print(rt, self.alloc)?;
-                print!(rt; "{}, and then:", self.name)?;
-                again.print(rt, self.alloc)?;
-            }
+            self.print_left(rt, second, device, called.disk.bytes(), &mut seen)?;
+            self.print_unlike(rt, line, device, number, &called, &whole)?;
         }
         bail!("too many calls of a device")
+    }
+
+    // What the call answers over the journal that a device's fault has left, unless it was seen.
+    fn print_left<R: Print + Threads + Sync>(
+        &self,
+        rt: &R,
+        line: &str,
+        device: Device,
+        left: &[u8],
+        seen: &mut Vec<Answer>,
+    ) -> Result<()> {
+        let answer = self.answer_over(rt, line, left)?;
+        if !seen.contains(&answer) {
+            print!(rt; "{}, left by a {} failing:", self.name, device.call_name())?;
+            answer.print(rt, self.alloc)?;
+            seen.push(answer)?;
+        }
+        Ok(())
+    }
+
+    // What the call answers with a call of a device failing, and then over what that left, unless they are a fault of the device and
+    // the whole answer.
+    fn print_unlike<R: Print + Threads + Sync>(
+        &self,
+        rt: &R,
+        line: &str,
+        device: Device,
+        number: u64,
+        called: &Called,
+        whole: &Answer,
+    ) -> Result<()> {
+        let again = self.answer_over(rt, line, called.disk.bytes())?;
+        if !is_fault_of(device, line, &called.answer, whole) || again != *whole {
+            print!(rt; "{}, {} {number} failing:", self.name, device.call_name())?;
+            self.print_both(rt, &called.answer, &again)?;
+        }
+        Ok(())
     }
 
     // The first call with the disk stopped after each number of its calls until it is done, and for each what a crash may leave:
@@ -331,21 +360,21 @@ impl Cases {
                     return Ok(true);
                 }
                 let image = called.disk.crash(self.alloc, fill, long)?;
-                let again = self.called_on(
-                    rt,
-                    then,
-                    image.bytes(),
-                    Faults::none(self.alloc, self.most),
-                )?;
-                if !called.answer.is_journal_fault(&whole.output) || again.answer != *whole {
+                let again = self.answer_over(rt, then, image.bytes())?;
+                if !called.answer.is_journal_fault(&whole.output) || again != *whole {
                     print!(rt; "{}, stopped after {stop} calls, fill {fill}:", self.name)?;
-                    called.answer.print(rt, self.alloc)?;
-                    print!(rt; "{}, and then:", self.name)?;
-                    again.answer.print(rt, self.alloc)?;
+                    self.print_both(rt, &called.answer, &again)?;
                 }
             }
         }
         Ok(false)
+    }
+
+    // The answer to a call, and what is answered then.
+    fn print_both(&self, rt: &impl Print, first: &Answer, then: &Answer) -> Result<()> {
+        first.print(rt, self.alloc)?;
+        print!(rt; "{}, and then:", self.name)?;
+        then.print(rt, self.alloc)
     }
 
     // The call over each front of a file of the case, whose name stands before the words, and over the whole file. Where a merge does not
@@ -353,27 +382,51 @@ impl Cases {
     fn call_over_fronts<R: Print + Threads + Sync>(&self, rt: &R, rest: &str) -> Result<()> {
         let (file, line) = rest.split_once(' ').context("a file and words")?;
         let image = self.files.file(file).context("no such file")?;
-        let words = words_of(self.alloc, line)?;
         for length in 0..image.len() {
             let front = image.get(..length).context("a front")?;
-            let given = Given {
-                words: &words,
-                files: self.files.all_behind(file, front)?,
-                journal: self.files.journal(),
-            };
-            let none = Faults::none(self.alloc, self.most);
-            let answer = call(rt, self.alloc, given, none)?.answer;
-            let note = format!(in self.alloc; "vlbi: merge: NotShard {file} at byte {length}\n")?;
-            if !answer.is_fault(14, note.as_str().as_bytes(), &[]) {
-                print!(rt; "{}, {length} bytes of {file}:", self.name)?;
-                answer.print(rt, self.alloc)?;
-            }
+            self.print_front(rt, line, file, front)?;
         }
         print!(rt;
             "{}, other fronts of {file}: NotShard at their ends, then",
             self.name
         )?;
         self.whole(rt, line)?.print(rt, self.alloc)
+    }
+
+    // The same over one front.
+    fn print_front<R: Print + Threads + Sync>(
+        &self,
+        rt: &R,
+        line: &str,
+        file: &str,
+        front: &[u8],
+    ) -> Result<()> {
+        let answer = self.answer_with(rt, line, file, front)?;
+        let length = front.len();
+        let note = format!(in self.alloc; "vlbi: merge: NotShard {file} at byte {length}\n")?;
+        if !answer.is_fault(14, note.as_str().as_bytes(), &[]) {
+            print!(rt; "{}, {length} bytes of {file}:", self.name)?;
+            answer.print(rt, self.alloc)?;
+        }
+        Ok(())
+    }
+
+    // The answer where a file of this name has these bytes.
+    fn answer_with<R: Print + Threads + Sync>(
+        &self,
+        rt: &R,
+        line: &str,
+        file: &str,
+        bytes: &[u8],
+    ) -> Result<Answer> {
+        let words = words_of(self.alloc, line)?;
+        let given = Given {
+            words: &words,
+            files: self.files.all_behind(file, bytes)?,
+            journal: self.files.journal(),
+        };
+        let none = Faults::none(self.alloc, self.most);
+        Ok(call(rt, self.alloc, given, none)?.answer)
     }
 
     // The calls of `run` with these options, by 1, 3 and 64 workers and pieces of 64, 65, 127 and 4,194,304 samples, each over a
@@ -386,9 +439,7 @@ impl Cases {
                 let mut last = String::from_str(self.alloc, "|--workers|")?;
                 last.push_str(&format!(in self.alloc; "{workers}|--piece|{piece}")?)?;
                 let line = self.joined("|run", options, &last)?;
-                let answer = self
-                    .called_on(rt, &line, &[], Faults::none(self.alloc, self.most))?
-                    .answer;
+                let answer = self.answer_over(rt, &line, &[])?;
                 if answer != whole {
                     print!(rt; "{}, {line}:", self.name)?;
                     answer.print(rt, self.alloc)?;

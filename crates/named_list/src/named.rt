@@ -7,9 +7,16 @@ use std::alloc::{AllocError, Global};
 use std::marker::Model;
 
 /// Things by their names, in the order in which the names came first. No name is there twice.
-#[derive(Debug, Drop)]
+#[derive(Debug)]
 pub struct Named<T> {
     things: IndexMap<Vec<u8>, T>,
+}
+
+// Written out, so that a function that drops one calls this, and does not drop the map part by part.
+impl<T: Drop> Drop for Named<T> {
+    fn drop(self) {
+        let Named { things: _ } = self;
+    }
 }
 
 impl<T> Model for Named<T> {

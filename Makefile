@@ -111,7 +111,7 @@ bin/vlbi: $(PROGRAM)
 	@mkdir -p bin
 	@cp $(PROGRAM) bin/vlbi
 
-# `rt run` builds the program of the crates that are proved by then, and runs it once, here with no command.
+# `rt run` proves the program itself, builds it over the crates that are proved by then, and runs it once, here with no command.
 $(PROGRAM): $(SOURCES)
 	@rm -f $(PROGRAM)
 	@.ci/prove vlbi_main $(JOBS)

@@ -17,6 +17,7 @@ use Rattle.shard_merge.specs.Shards.{ShardKeeps, IsNoShard}
 use Rattle.shard_merge.specs.Verdict.{verdict}
 use Rattle.shard_merge.specs.Merged.{merged}
 use Rattle.shard_merge.specs.Honest.{AreHonest, EpochsFit}
+use Rattle.shard_merge.proofs.LawShards.{keeps-one, shard-refused, differs-one}
 use Rattle.run_notes.specs.Answers.{Answer, not_shard_answer}
 use Rattle.run_ready.specs.Steps.{Is, Then, unless}
 use Rattle.run_ready.specs.Sizes.{no_file_of}
@@ -29,10 +30,17 @@ use Rattle.run_merge.proofs.OutcomeLemmas.{verdict_behind, shards_behind, sizes_
 -- ---- one outcome
 
 -- what the file of a journal keeps, and where it differs, is one thing
-pub record AreOfOne (id : List ℕ) (job : JobSizes) (image : List ℕ) : Type 0 where
+record AreOfOne (id : List ℕ) (job : JobSizes) (image : List ℕ) : Type 0 where
   pub list : (kept other : List KeptEpoch) → ShardKeeps id job image kept → ShardKeeps id job image other → kept ≡ other
   pub none : (kept : List KeptEpoch) (d : Differs) → IsNoShard id job image d → ShardKeeps id job image kept → ⊥
   pub place : (d e : Differs) → IsNoShard id job image d → IsNoShard id job image e → d ≡ e
+
+are-of-one : (id : List ℕ) (job : JobSizes) (image : List ℕ) → IsJob job → AreOfOne id job image
+are-of-one id job image is = record {
+  list = λ kept other. keeps-one id job image kept other is;
+  none = λ kept d. shard-refused id job image kept d;
+  place = λ d e. differs-one id job image d e is;
+}
 
 ShardOf-one : (files : Files) (id : List ℕ) (job : JobSizes) (name : List ℕ) → AreOfOne id job (bytes_under files name)
     → AreOne (ShardOf files id job name)
@@ -70,15 +78,14 @@ unless-none None a b is = cc
 unless-none (Some answer) a b is = absurd cc
 
 pub MergeOf-one : (files : Files) (job : List ℕ) (vex : Option (List ℕ)) (names : List (List ℕ)) → AreOne (SurveyOf files job vex None)
-    → ((id : List ℕ) (sizes : JobSizes) (image : List ℕ) → IsJob sizes → AreOfOne id sizes image)
     → AreOne (MergeOf files job vex names)
-MergeOf-one files job vex names survey one =
+MergeOf-one files job vex names survey =
     Then-one-behind (RangedOf files job vex) (sizes_behind files job vex names) (RangedOf-one files job vex survey)
     (λ plan is. Then-one-behind (Is (unless (no_file_of files names) plan)) (shards_behind files job vex names)
     (Is-one (unless (no_file_of files names) plan))
     (λ within same. Then-one (ShardsOf files (identity_under files job vex within) (sizes_of within) names) (verdict_behind within)
     (ShardsOf-one files (identity_under files job vex within) (sizes_of within) names
-    (λ image. one (identity_under files job vex within) (sizes_of within) image
+    (λ image. are-of-one (identity_under files job vex within) (sizes_of within) image
     (subst (λ (p : Plan). IsJob (sizes_of p)) (sym (unless-same (no_file_of files names) plan within same)) (IsJob-ranged plan is.1))))
     (λ keeps. Is-one (unless (option_map merge_answer (verdict (sizes_of within) keeps)) (record { plan = within; keeps = keeps })))))
 

@@ -13,8 +13,6 @@ pub fn one_merge()
         → MergeOf files job vex names a → MergeOf files job vex names b → a ≡ b }
 {
     run_ready::laws::one_outcome();
-    shard_merge::laws::one_list();
-    shard_merge::laws::one_refusal();
 }
 
 /// Where each epoch that the journals keep has the text of its direct sums, what they make is the record file of the job.

@@ -33,16 +33,20 @@ use Rattle.run_ready.specs.Recordings.{files_answer, recordings_answer}
 use Rattle.run_ready.specs.Outcome.{Wrong, PlanUnder, JoinOf, SurveyOf, PlanOf}
 use Rattle.run_ready.proofs.LawLemmas.{AreOne, Then-one}
 use Rattle.journal_rounds.specs.Extended.{Extends}
-use Rattle.vis_records.specs.Content.{Content}
 use Rattle.vis_records.specs.Dumped.{dump_text}
 use Rattle.run_summary.specs.Summaries.{check_text}
 use Rattle.run_dump.specs.Shown.{RecordsOf}
-use Rattle.fringe_search.specs.Certificates.{Line, lines_text}
+use Rattle.run_dump.proofs.LawLemmas.{RecordsOf-one}
+use Rattle.fringe_search.specs.Certificates.{lines_text}
 use Rattle.run_fringe.specs.Searched.{FringeOf, VerifyOf, right_text}
-use Rattle.run_bins.specs.Texts.{BinPlan, bin_output}
+use Rattle.run_fringe.proofs.LawLemmas.{FringeOf-one, VerifyOf-one}
+use Rattle.run_bins.specs.Texts.{bin_output}
 use Rattle.run_bins.specs.Outcome.{BinsOf}
+use Rattle.run_bins.proofs.LawLemmas.{BinsOf-one}
 use Rattle.run_part.specs.Outcome.{PartOf}
-use Rattle.run_merge.specs.Outcome.{Merge, MergeOf, merged_text}
+use Rattle.run_part.proofs.LawLemmas.{PartOf-one}
+use Rattle.run_merge.specs.Outcome.{MergeOf, merged_text}
+use Rattle.run_merge.proofs.LawLemmas.{MergeOf-one}
 use Rattle.sample_job.specs.Sample.{SampleOf, sample_shelf}
 use Rattle.vlbi_core.specs.Sample.{sample_text}
 use Rattle.vlbi_core.specs.Calls.{Part, Call, call_of, Task, OfJob, OfText, JobFor, TextFor, TaskFor, end_text, identity_for, sizes_for, IsOursFor, KeepsAtLeast, KeepsAll}
@@ -96,62 +100,32 @@ text-one {A} outcomes text one (Err d) (Err e) p q =
     let same : d ≡ e = cc in
     ap Err same
 
--- the law of record files
-abbrev pub OneShown : Type 0
-OneShown = (files : Files) (name : List ℕ) (a b : Result Content Answer) → RecordsOf files name a → RecordsOf files name b → a ≡ b
-
--- the laws of searches, and of verdicts on certificates
-abbrev pub OneSearch : Type 0
-OneSearch = (files : Files) (name : List ℕ) (rates divide : ℕ) (a b : Result (List Line) Answer) → FringeOf files name rates divide a → FringeOf files name rates divide b → a ≡ b
-
-abbrev pub OneVerdict : Type 0
-OneVerdict = (files : Files) (name certificate : List ℕ) (a b : Result Content Answer) → VerifyOf files name certificate a → VerifyOf files name certificate b → a ≡ b
-
--- the law of plans with bins
-abbrev pub OneBinned : Type 0
-OneBinned = (files : Files) (job : List ℕ) (vex : Option (List ℕ)) (phase : List ℕ) (a b : Result BinPlan Answer) → BinsOf files job vex phase a → BinsOf files job vex phase b → a ≡ b
-
--- the law of merges
-abbrev pub OneMerge : Type 0
-OneMerge = (files : Files) (job : List ℕ) (vex : Option (List ℕ)) (names : List (List ℕ)) (a b : Result Merge Answer) → MergeOf files job vex names a → MergeOf files job vex names b → a ≡ b
-
--- the law of parts of jobs, and that of the plans that they come to
-abbrev pub OnePart : Type 0
-OnePart =
-    (files : Files) (job : List ℕ) (vex : Option (List ℕ)) (epoch : Option ℕ) (to : ℕ) (a b : Result Plan Answer)
-    → PartOf files job vex epoch to a → PartOf files job vex epoch to b → a ≡ b
-
+-- the law of the plans that parts of jobs come to
 abbrev pub PartsHavePlan : Type 0
 PartsHavePlan =
     (files : Files) (job : List ℕ) (vex : Option (List ℕ)) (epoch : Option ℕ) (to : ℕ) (plan : Plan)
     → PartOf files job vex epoch to (Ok plan) → JoinOf files job vex epoch (Ok plan)
 
--- of what each command comes to there is one
-pub record AreLaws : Type 0 where
-  pub outcome : OneOutcome
-  pub shown : OneShown
-  pub search_is : OneSearch
-  pub verdict : OneVerdict
-  pub binned : OneBinned
-  pub part : OnePart
-  pub merge : OneMerge
-
-task-one : AreLaws → (files : Files) (order : Order) → AreOne (TaskFor files order)
-task-one laws files (Run job vex epoch workers piece) = job-one true job vex epoch None (PlanOf files job vex epoch) (laws.outcome files (recordings_answer files) job vex epoch)
-task-one laws files (Status job vex epoch) = job-one false job vex epoch None (SurveyOf files job vex epoch) (laws.outcome files (files_answer files) job vex epoch)
-task-one laws files (Plain job vex) = text-one (PlanOf files job vex None) (λ plan. output plan files) (laws.outcome files (recordings_answer files) job vex None)
-task-one laws files (Check job vex epoch) =
-    text-one (PlanOf files job vex epoch) (λ plan. check_text plan (unwrap_or epoch plan.epoch) files) (laws.outcome files (recordings_answer files) job vex epoch)
-task-one laws files (Dump file) = text-one (RecordsOf files file) dump_text (laws.shown files file)
-task-one laws files (Gen seed seconds workers piece) =
+-- of what each command comes to there is one, by the law of plans and that of the command's own crate
+task-one : OneOutcome → (files : Files) (order : Order) → AreOne (TaskFor files order)
+task-one law files (Run job vex epoch workers piece) = job-one true job vex epoch None (PlanOf files job vex epoch) (law files (recordings_answer files) job vex epoch)
+task-one law files (Status job vex epoch) = job-one false job vex epoch None (SurveyOf files job vex epoch) (law files (files_answer files) job vex epoch)
+task-one law files (Plain job vex) = text-one (PlanOf files job vex None) (λ plan. output plan files) (law files (recordings_answer files) job vex None)
+task-one law files (Check job vex epoch) =
+    text-one (PlanOf files job vex epoch) (λ plan. check_text plan (unwrap_or epoch plan.epoch) files) (law files (recordings_answer files) job vex epoch)
+task-one law files (Dump file) = text-one (RecordsOf files file) dump_text (RecordsOf-one files file)
+task-one law files (Gen seed seconds workers piece) =
     text-one (SampleOf seed seconds) (sample_text seed seconds)
-    (laws.outcome (sample_shelf seed seconds) (recordings_answer (sample_shelf seed seconds)) (codes "job") None None)
-task-one laws files (Fringe file rates divide) = text-one (FringeOf files file rates divide) lines_text (laws.search_is files file rates divide)
-task-one laws files (Verify file certificate) = text-one (VerifyOf files file certificate) right_text (laws.verdict files file certificate)
-task-one laws files (Bins job vex phase workers piece) = text-one (BinsOf files job vex phase) (λ x. bin_output x files) (laws.binned files job vex phase)
-task-one laws files (Shard job vex epoch workers piece from to) =
-    job-one true job vex epoch (Some (record { from = from; to = to })) (PartOf files job vex epoch to) (laws.part files job vex epoch to)
-task-one laws files (MergeOrder job vex names) = text-one (MergeOf files job vex names) merged_text (laws.merge files job vex names)
+    (law (sample_shelf seed seconds) (recordings_answer (sample_shelf seed seconds)) (codes "job") None None)
+task-one law files (Fringe file rates divide) = text-one (FringeOf files file rates divide) lines_text (FringeOf-one files file rates divide)
+task-one law files (Verify file certificate) = text-one (VerifyOf files file certificate) right_text (VerifyOf-one files file certificate)
+task-one law files (Bins job vex phase workers piece) =
+    text-one (BinsOf files job vex phase) (λ x. bin_output x files) (BinsOf-one files job vex phase (law files (λ stations. None) job vex None))
+task-one law files (Shard job vex epoch workers piece from to) =
+    job-one true job vex epoch (Some (record { from = from; to = to })) (PartOf files job vex epoch to)
+    (PartOf-one files job vex epoch to (law files (λ stations. None) job vex epoch))
+task-one law files (MergeOrder job vex names) =
+    text-one (MergeOf files job vex names) merged_text (MergeOf-one files job vex names (law files (files_answer files) job vex None))
 
 -- the plan of a call on a job, whatever is looked at of its recordings
 pub plan-at : PartsHavePlan → (files : Files) (order : Order) (call : Call) → TaskFor files order (Ok (OfJob call))
@@ -160,22 +134,15 @@ plan-at law files (Run job vex epoch workers piece) call there =
     (recordings_answer files, subst (λ (c : Call). PlanOf files c.job c.vex c.epoch (Ok call.plan)) (sym there.0) there.1)
 plan-at law files (Status job vex epoch) call there =
     (files_answer files, subst (λ (c : Call). SurveyOf files c.job c.vex c.epoch (Ok call.plan)) (sym there.0) there.1)
-plan-at law files (Plain job vex) call there = absurd there
-plan-at law files (Check job vex epoch) call there = absurd there
-plan-at law files (Dump file) call there = absurd there
-plan-at law files (Gen seed seconds workers piece) call there = absurd there
-plan-at law files (Fringe file rates divide) call there = absurd there
-plan-at law files (Verify file certificate) call there = absurd there
-plan-at law files (Bins job vex phase workers piece) call there = absurd there
 plan-at law files (Shard job vex epoch workers piece from to) call there = (
   (λ stations. None),
   subst (λ (c : Call). JoinOf files c.job c.vex c.epoch (Ok call.plan)) (sym there.0) (law files job vex epoch to call.plan there.1),
 )
-plan-at law files (MergeOrder job vex names) call there = absurd there
+plan-at law files _ call there = absurd there
 
-pub outcome-one : AreLaws → (wanted : Result Order WordsFault) (files : Files) → AreOne (OutcomeFrom wanted files)
-outcome-one laws wanted files =
-    Then-one (Is (answered words_answer wanted)) (TaskFor files) (λ a b p q. p ∙ sym q) (λ order. task-one laws files order)
+pub outcome-one : OneOutcome → (wanted : Result Order WordsFault) (files : Files) → AreOne (OutcomeFrom wanted files)
+outcome-one law wanted files =
+    Then-one (Is (answered words_answer wanted)) (TaskFor files) (λ a b p q. p ∙ sym q) (λ order. task-one law files order)
 
 -- ---- statuses
 

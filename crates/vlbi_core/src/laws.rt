@@ -7,11 +7,7 @@ ghost use Rattle.vlbi_core.specs.{Calls.{Task, OutcomeOf}, Histories.{HoldsOver,
 
 use dev_traits::Disk;
 use journal_image::laws::reads;
-use run_bins::laws::one_plan;
-use run_dump::laws::one_shown;
-use run_fringe::laws::{one_search, one_verdict};
-use run_merge::laws::one_merge;
-use run_part::laws::{one_part, parts_have_the_plan};
+use run_part::laws::parts_have_the_plan;
 use run_ready::laws::{one_outcome, one_plan_for_job};
 
 /// Words and files come to one thing, and never to two: a job and its journal, the text that a command appends, or the answer of the first
@@ -20,12 +16,6 @@ pub fn one_task()
     ensures { (texts : List (List ℕ)) (files : Files) (a b : Result Task Answer) → OutcomeOf texts files a → OutcomeOf texts files b → a ≡ b }
 {
     one_outcome();
-    one_shown();
-    one_search();
-    one_verdict();
-    one_plan();
-    one_part();
-    one_merge();
 }
 
 /// Calls of `run` for one job, or of `shard` for one part of it, on a disk that tells its content, as often as one likes, each of which ends

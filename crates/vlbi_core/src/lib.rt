@@ -1,9 +1,8 @@
 //! The correlator: the top call `run`, and what it is made of. It stands on `run_words` for the words, on `run_ready` for what
 //! comes before the output, on `run_part` for that of a part of a job, on `plain_sums` for the cells of an integration, on
 //! `journal_rounds` for the sums of a job or of a part in its journal, on `vis_writer` and `journal_records` for the records, on
-//! `run_summary` for summaries, on `run_dump` for a record file that is shown, on `run_fringe` for the peaks of one and their
-//! certificate, on `run_bins` for the cells by the bins of a pulse, on `sample_gen`, `sample_job` and `gen_summary` for a generated
-//! job and its totals, and on `run_notes` for statuses and notes.
+//! `run_summary` for summaries, on `sample_gen`, `sample_job` and `gen_summary` for a generated job and its totals, on `run_notes`
+//! for statuses and notes, and for each other command on the crate that appends its text.
 //!
 //! `run` reads a schedule, a job and the recordings, and does what its command says: it appends the record text over the direct
 //! sums of their samples, in one go or by way of a journal that outlasts a crash, sums a part of them into such a journal, or

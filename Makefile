@@ -122,10 +122,9 @@ $(PROGRAM): $(SOURCES)
 bin/vlbi-x86-64-v2: bin/vlbi
 	@cp -p bin/vlbi $@
 
-# The same for another kind of processor. What it builds takes the place of the program for all, which is put back.
+# The same for another kind of processor. What it builds takes the place of the program for all, which is put back whatever comes.
 bin/vlbi-%: bin/vlbi
 	@.ci/prove vlbi_main $(JOBS)
-	@cd crates/vlbi_main && rm -f out/vlbi_main && rt run --cpu=$* -- journal > build.log 2>&1; test -x out/vlbi_main || { cat build.log; exit 1; }
-	@mv $(PROGRAM) $@
-	@cp -p bin/vlbi $(PROGRAM)
+	@cd crates/vlbi_main && trap 'cp -p ../../bin/vlbi out/vlbi_main' EXIT && trap 'exit 130' INT TERM && rm -f out/vlbi_main && \
+	    { rt run --cpu=$* -- journal > build.log 2>&1; test -x out/vlbi_main || { cat build.log; exit 1; }; } && mv out/vlbi_main ../../$@
 	@rm -f crates/vlbi_main/build.log

@@ -192,7 +192,7 @@ def test_epochs_of_which_the_syncs_dominate(folder: Path) -> None:
     change(folder, "epoch 10000", "epoch 100")
     said = found()
     # 1,600 epochs; 100 samples of one baseline at 64 lags
-    assert said[0].startswith("job.txt:3: an epoch of 100 samples is summed in some 0.0016 ms, and keeping each of the 1600 in the journal takes some 10 ms")
+    assert said[0].startswith("job.txt:3: an epoch of 100 samples is summed in some 0.0004 ms, and keeping each of the 1600 in the journal takes some 10 ms")
     assert "write: epoch 10000" in said[0]
 
 

@@ -12,7 +12,7 @@ MOST_WORKERS = 64
 MOST_LOAD = 1 << 28    # stations times channels times samples of an epoch
 LEAST_PIECE = 4096     # samples: shorter ones cost more to draw than to sum
 GOOD_PIECE = 65536
-PAIRS = 4e9            # pairs of samples times lags that a worker sums in a second, some
+PAIRS = 16e9           # pairs of samples times lags that a worker sums in a second, some
 SYNCS = 0.01           # seconds that the journal takes to keep an epoch, some
 GOOD_EPOCH = 0.2       # seconds of work in an epoch, beside which its syncs do not count
 

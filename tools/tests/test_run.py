@@ -2,6 +2,7 @@
 from __future__ import annotations
 
 import os
+import re
 import signal
 import struct
 import subprocess
@@ -12,6 +13,7 @@ from pathlib import Path
 import pytest
 
 from vlbi import progress, records, refusal
+from vlbi.words import COMMANDS
 from vlbi.commands import run, watch
 
 RATE = 1000
@@ -296,6 +298,15 @@ WORDS = [
     (("merge", "p", "--vex", "v", "q", "--", "--job", "--r"), ["--job is missing"]),
     (("plain", "--job", "a", "--", "b"), ["`--` is no option of `plain`: --job, --vex", "`b` is no option of `plain`: --job, --vex"]),
 ]
+
+
+def test_the_commands_are_those_of_the_program() -> None:
+    top = Path(__file__).resolve().parents[2]
+    order, page, checked = ((top / name).read_text(encoding="utf-8") for name in ("crates/run_words/src/order.rt", "man/vlbi.1", ".ci/tools"))
+    commands = re.findall(r'if command == "(\w+)"', order)
+    assert list(COMMANDS) == commands
+    assert re.findall(r"^\.It Cm (\w+)$", page, re.MULTILINE) == commands
+    assert re.findall(r'^export VLBI_COMMANDS="(.*)"$', checked, re.MULTILINE) == [" ".join(commands)]
 
 
 @pytest.mark.parametrize("words, said", WORDS, ids=[row[1][0] for row in WORDS])

@@ -122,7 +122,7 @@ $(PROGRAM): $(SOURCES)
 bin/vlbi-x86-64-v2: bin/vlbi
 	@cp -p bin/vlbi $@
 
-# The same for another kind of processor. What it builds takes the place of the program for all, which is put back whatever comes.
+# The same for another kind of processor. What it builds takes the place of the program for all, which is put back as the step ends, by `^C` too.
 bin/vlbi-%: bin/vlbi
 	@.ci/prove vlbi_main $(JOBS)
 	@cd crates/vlbi_main && trap 'cp -p ../../bin/vlbi out/vlbi_main' EXIT && trap 'exit 130' INT TERM && rm -f out/vlbi_main && \
